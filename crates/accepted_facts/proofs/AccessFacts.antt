@@ -136,14 +136,14 @@ module _ (forest : Forest) (accepted : IsAccepted forest) (whole : IsForest fore
     has_field : lacks_field p r name ≡ false
     has_object : lacks_object_of_field p id name r ≡ false
 
-  by_receiver : (id object : ℕ) (place : Pos) (name : List ℕ) (r : Receiver) → slice_get forest.nodes id ≡ Some (FieldAccess place name object) → receiver p types object ≡ Some r → ByReceiver id object name r
+  by_receiver : (id object : ℕ) (position : Pos) (name : List ℕ) (r : Receiver) → slice_get forest.nodes id ≡ Some (FieldAccess position name object) → receiver p types object ≡ Some r → ByReceiver id object name r
   unfolding type_of scope_of binding_of
-  by_receiver id object place name r there e =
-      let w = right_access p types id place name object (unbroken forest accepted whole sorted id (FieldAccess place name object) there) in
+  by_receiver id object position name r there e =
+      let w = right_access p types id position name object (unbroken forest accepted whole sorted id (FieldAccess position name object) there) in
       record {
-        typed = type_is forest accepted whole sorted id (FieldAccess place name object) there ∙ ap (option_and_then (λ r. access_type p r name)) e;
-        scoped = scope_is forest accepted whole sorted id (FieldAccess place name object) there ∙ ap (option_and_then (λ r. option_and_then (scope_of_field p (scope_at_node p object)) (accessed_field p r name))) e;
-        bound = binding_is forest accepted whole sorted id (FieldAccess place name object) there ∙ ap (plain_or (λ r. access_binding p r name)) e;
+        typed = type_is forest accepted whole sorted id (FieldAccess position name object) there ∙ ap (option_and_then (λ r. access_type p r name)) e;
+        scoped = scope_is forest accepted whole sorted id (FieldAccess position name object) there ∙ ap (option_and_then (λ r. option_and_then (scope_of_field p (scope_at_node p object)) (accessed_field p r name))) e;
+        bound = binding_is forest accepted whole sorted id (FieldAccess position name object) there ∙ ap (plain_or (λ r. access_binding p r name)) e;
         of_reference = sym (ap (λ (o : Option Receiver). holds o is_no_reference) e) ∙ w.of_reference;
         has_field = sym (ap (λ (o : Option Receiver). holds o (λ r. lacks_field p r name)) e) ∙ w.has_field;
         has_object = sym (ap (λ (o : Option Receiver). holds o (lacks_object_of_field p id name)) e) ∙ w.has_object;
@@ -202,16 +202,16 @@ module _ (forest : Forest) (accepted : IsAccepted forest) (whole : IsForest fore
   unfolding type_of_receiver
   array_of_length u name e = (and_true (is_array u) (is_length name) e).0
 
-  pub access_facts : (b c id object : ℕ) (place : Pos) (name : List ℕ) (k : Kind) → slice_get forest.nodes id ≡ Some (FieldAccess place name object) → Inside p b c id → Judged p id (Some k) → AccessFacts p b c id object name k
+  pub access_facts : (b c id object : ℕ) (position : Pos) (name : List ℕ) (k : Kind) → slice_get forest.nodes id ≡ Some (FieldAccess position name object) → Inside p b c id → Judged p id (Some k) → AccessFacts p b c id object name k
   unfolding children is_argument is_expression object_of takes_parts HasRightChildren declared_before
-  access_facts b c id object place name k there inside judged =
-      let s = sorted.each id (FieldAccess place name object) there in
+  access_facts b c id object position name k there inside judged =
+      let s = sorted.each id (FieldAccess position name object) there in
       let o = of_expression forest accepted whole sorted object s in
-      let at : class_at_name p object o.node ≡ None → At b c id object = λ k. value_at forest accepted whole sorted b c id (FieldAccess place name object) there inside refl object (same_first forest accepted whole sorted object []) o k refl in
+      let at : class_at_name p object o.node ≡ None → At b c id object = λ k. value_at forest accepted whole sorted b c id (FieldAccess position name object) there inside refl object (same_first forest accepted whole sorted object []) o k refl in
       by_cases o.node at (receiver_cases forest accepted whole sorted object o.node o.is_there (λ k. type_of_value b c id object (at k)))
     where
       operand : (k : Kind) → At b c id object → Judged p object (Some k) → Operand p b c id object k
-      operand k v j = operand_at b c id object (FieldAccess place name object) k there (same_first forest accepted whole sorted object []) refl v j
+      operand k v j = operand_at b c id object (FieldAccess position name object) k there (same_first forest accepted whole sorted object []) refl v j
 
       of_value : (u : Ty) → receiver p types object ≡ Some (the_value u) → types object ≡ Some u → At b c id object → ByReceiver id object name (the_value u) → (l : Bool) → is_length_of_array (the_value u) name ≡ l → AccessFacts p b c id object name k
       of_value u ru tu v y true l =
@@ -226,5 +226,5 @@ module _ (forest : Forest) (accepted : IsAccepted forest) (whole : IsForest fore
           inl (value_access b c id object q.0 name k u f.0 s.0 ru tu s.1 y l f.1 f.2 same q.2 (operand (reference (ClassTy q.0) s.0) v (class_judged object q.0 s.0 (tu ∙ ap (λ t. Some t) same) s.1)) judged)
 
       by_cases : (n : Node) → (class_at_name p object n ≡ None → At b c id object) → ClassOrValue forest accepted whole sorted object n → AccessFacts p b c id object name k
-      by_cases n at (inl q) = inr (inr (q.0, class_access id object q.0 name k (by_receiver id object place name (the_class q.0) there q.2) judged))
-      by_cases n at (inr q) = of_value q.0 q.3 q.2 (at q.1) (by_receiver id object place name (the_value q.0) there q.3) (is_length_of_array (the_value q.0) name) refl
+      by_cases n at (inl q) = inr (inr (q.0, class_access id object q.0 name k (by_receiver id object position name (the_class q.0) there q.2) judged))
+      by_cases n at (inr q) = of_value q.0 q.3 q.2 (at q.1) (by_receiver id object position name (the_value q.0) there q.3) (is_length_of_array (the_value q.0) name) refl

@@ -89,9 +89,9 @@ unfolding seen_kinds
 seen_nil home now = refl
 
 -- an argument is a text, or an expression
-text_or_expression : (n : Node) → is_argument n ≡ true → (is_expression n ≡ true) ⊎ ((place : Pos) × (text : List ℕ) × (n ≡ Text place text))
+text_or_expression : (n : Node) → is_argument n ≡ true → (is_expression n ≡ true) ⊎ ((position : Pos) × (text : List ℕ) × (n ≡ Text position text))
 unfolding is_argument is_expression
-text_or_expression (Text place text) e = inr (place, text, refl)
+text_or_expression (Text position text) e = inr (position, text, refl)
 text_or_expression (Binary a b c d) e = inl refl
 text_or_expression (Unary a b c) e = inl refl
 text_or_expression (Cast a b c d) e = inl refl
@@ -136,9 +136,9 @@ module _ (forest : Forest) (accepted : IsAccepted forest) (whole : IsForest fore
   abbrev scopes : Scopes
   scopes = scope_at_node p
 
-  text_type : (id : ℕ) (place : Pos) (text : List ℕ) → type_of p types id (Text place text) ≡ Some Label
+  text_type : (id : ℕ) (position : Pos) (text : List ℕ) → type_of p types id (Text position text) ≡ Some Label
   unfolding type_of
-  text_type id place text = refl
+  text_type id position text = refl
 
   argument_fits : (b c id x : ℕ) (u : Ty) (r : Option Scope) (k : Kind) → (v : ValueAt forest accepted whole sorted b c id x) → (t : Ty) → types x ≡ Some t → kind_of (Some u) r ≡ Some k → assigns p.classes t u ≡ true → misfit_scope (scopes x) r ≡ false → (j : Kind) × Judged p x (Some j) × FitsAsSeen p j k
   argument_fits b c id x u r k v t e kind fit scope =

@@ -66,10 +66,10 @@ module _ (forest : Forest) (accepted : IsAccepted forest) (whole : IsForest fore
   indexed : (array index : ℕ) (a i : Ty) → types array ≡ Some a → types index ≡ Some i → misfits_index types array index ≡ false → (is_array a ≡ true) × (is_int i ≡ true)
   indexed array index a i e f m = and_true (is_array a) (is_int i) (not_false _ (sym (ap (λ (o : Option Ty). holds o (λ a. holds (types index) (λ i. not (is_array a && is_int i)))) e ∙ ap (λ (o : Option Ty). holds o (λ i. not (is_array a && is_int i))) f) ∙ m))
 
-  pub element_facts : (b c id array index : ℕ) (place : Pos) (k : Kind) → slice_get forest.nodes id ≡ Some (Element place array index) → Inside p b c id → Judged p id (Some k) → ElementFacts p b c id array index k
+  pub element_facts : (b c id array index : ℕ) (position : Pos) (k : Kind) → slice_get forest.nodes id ≡ Some (Element position array index) → Inside p b c id → Judged p id (Some k) → ElementFacts p b c id array index k
   unfolding children is_argument is_expression object_of takes_parts HasRightChildren declared_before type_of scope_of Judged
-  element_facts b c id array index place k there inside judged =
-      let node : Node = Element place array index in
+  element_facts b c id array index position k there inside judged =
+      let node : Node = Element position array index in
       let s = sorted.each id node there in
       let first = same_first forest accepted whole sorted array (index ∷ []) in
       let second = same_second forest accepted whole sorted array index [] in
@@ -77,7 +77,7 @@ module _ (forest : Forest) (accepted : IsAccepted forest) (whole : IsForest fore
       let y = child_at forest accepted whole sorted b c id node there inside refl index second (of_expression forest accepted whole sorted index s.1) refl refl in
       let a = type_of_value forest accepted whole sorted b c id array x in
       let i = type_of_value forest accepted whole sorted b c id index y in
-      let w = indexed array index a.0 i.0 a.1 i.1 (right_element p types id place array index (unbroken forest accepted whole sorted id node there)) in
+      let w = indexed array index a.0 i.0 a.1 i.1 (right_element p types id position array index (unbroken forest accepted whole sorted id node there)) in
       let h = scope_of_value forest accepted whole sorted b c id array a.0 x a.1 (array_is_reference a.0 w.0) in
       let typed : types id ≡ element_type a.0 = type_is forest accepted whole sorted id node there ∙ ap (option_and_then (λ a. option_and_then (λ i. element_type a) (types index))) a.1 ∙ ap (option_and_then (λ i. element_type a.0)) i.1 in
       let scoped : scopes id ≡ scope_of_element p (Some h.0) a.0 = scope_is forest accepted whole sorted id node there ∙ ap (option_and_then (scope_of_element p (scopes array))) a.1 ∙ ap (λ (o : Option Scope). scope_of_element p o a.0) h.1 in
@@ -91,9 +91,9 @@ module _ (forest : Forest) (accepted : IsAccepted forest) (whole : IsForest fore
 
   -- ---- new arrays
 
-  use_of_array : (id element size : ℕ) (place : Pos) → use_breaks p types scopes id (NewArray place element size) ≡ [] → holds (written_type p element) (misfits_element p id) ≡ false
+  use_of_array : (id element size : ℕ) (position : Pos) → use_breaks p types scopes id (NewArray position element size) ≡ [] → holds (written_type p element) (misfits_element p id) ≡ false
   unfolding use_breaks e1 e2 e3 e4_and_e5 e6 e7 e8 e9 e10
-  use_of_array id element size place e = right _ E10 place e
+  use_of_array id element size position e = right _ E10 position e
 
   outer_is : (s : ℕ) (now : Scope) → is_outer_of_current p s now ≡ true → (current : ℕ) × (now ≡ In current) × (is_outer p s current ≡ true)
   unfolding is_outer_of_current
@@ -113,22 +113,22 @@ module _ (forest : Forest) (accepted : IsAccepted forest) (whole : IsForest fore
   array_of_kind (ClassTy c) array e = ap is_array (sym (some_inj (ClassArray c) array e))
   array_of_kind _ array e = absurd (cc (e))
 
-  pub new_array_facts : (b c id element size : ℕ) (place : Pos) (k : Kind) → slice_get forest.nodes id ≡ Some (NewArray place element size) → Inside p b c id → Judged p id (Some k) → NewArrayFacts p b c id element size k
+  pub new_array_facts : (b c id element size : ℕ) (position : Pos) (k : Kind) → slice_get forest.nodes id ≡ Some (NewArray position element size) → Inside p b c id → Judged p id (Some k) → NewArrayFacts p b c id element size k
   unfolding children is_argument is_expression object_of takes_parts HasRightChildren declared_before type_of scope_of Judged
-  new_array_facts b c id element size place k there inside judged =
-      let node : Node = NewArray place element size in
+  new_array_facts b c id element size position k there inside judged =
+      let node : Node = NewArray position element size in
       let s = sorted.each id node there in
       let second = same_second forest accepted whole sorted element size [] in
       let y = child_at forest accepted whole sorted b c id node there inside refl size second (of_expression forest accepted whole sorted size s.1) refl refl in
       let i = type_of_value forest accepted whole sorted b c id size y in
-      let w = right_new_array p types id place element size (unbroken forest accepted whole sorted id node there) in
+      let w = right_new_array p types id position element size (unbroken forest accepted whole sorted id node there) in
       let int = not_false (is_int i.0) (sym (ap (λ (o : Option Ty). holds o (λ n. not (is_int n))) i.1) ∙ w.right_length) in
-      let t = new_array_has_type forest accepted sorted id place element size (at_p forest accepted whole sorted id node there) in
+      let t = new_array_has_type forest accepted sorted id position element size (at_p forest accepted whole sorted id node there) in
       let of = of_option (written_type p element) array_of t.0 t.1 in
       let class_of_b : (context p b).class ≡ Some c = (member_is forest whole sorted id b inside.member).same_class ∙ inside.class in
       let now = current_has_scope forest accepted whole sorted c b class_of_b in
       let here = current_is forest accepted whole sorted b c id now.0 inside now.1 in
-      let e10_at : misfits_element p id of.0 ≡ false = sym (ap (λ (o : Option Ty). holds o (misfits_element p id)) of.1) ∙ use_of_array id element size place (use_unbroken forest accepted whole sorted id node there) in
+      let e10_at : misfits_element p id of.0 ≡ false = sym (ap (λ (o : Option Ty). holds o (misfits_element p id)) of.1) ∙ use_of_array id element size position (use_unbroken forest accepted whole sorted id node there) in
       let typed : types id ≡ Some t.0 = type_is forest accepted whole sorted id node there ∙ ap (option_and_then (λ n. option_and_then array_of (written_type p element))) i.1 ∙ t.1 in
       let scoped : scopes id ≡ Some now.0 = scope_is forest accepted whole sorted id node there ∙ here in
       record {
@@ -145,9 +145,9 @@ module _ (forest : Forest) (accepted : IsAccepted forest) (whole : IsForest fore
 
   -- ---- casts
 
-  use_of_cast : (id operand : ℕ) (place name_place : Pos) (name : List ℕ) → use_breaks p types scopes id (Cast place name_place name operand) ≡ [] → misfits_scope p (scopes operand) name ≡ false
+  use_of_cast : (id operand : ℕ) (position name_place : Pos) (name : List ℕ) → use_breaks p types scopes id (Cast position name_place name operand) ≡ [] → misfits_scope p (scopes operand) name ≡ false
   unfolding use_breaks e1 e2 e3 e4_and_e5 e6 e7 e8 e9 e10
-  use_of_cast id operand place name_place name e = right _ E9 place (both_empty (broken (misfits_scope p (scopes operand) name) E9 place) [] e).0
+  use_of_cast id operand position name_place name e = right _ E9 position (both_empty (broken (misfits_scope p (scopes operand) name) E9 position) [] e).0
 
   null_fits : (r : Scope) → fits Any r ≡ true
   unfolding fits
@@ -165,22 +165,22 @@ module _ (forest : Forest) (accepted : IsAccepted forest) (whole : IsForest fore
   second_of : (u v : Ty) → not (are_related p.classes u v) ≡ false → (assigns p.classes u v || assigns p.classes v u) ≡ true
   second_of u v e = (and_true (is_reference u) (assigns p.classes u v || assigns p.classes v u) (not_false _ e)).1
 
-  pub cast_facts : (b c id operand : ℕ) (place name_place : Pos) (name : List ℕ) (k : Kind) → slice_get forest.nodes id ≡ Some (Cast place name_place name operand) → Inside p b c id → Judged p id (Some k) → CastFacts p b c id name operand k
+  pub cast_facts : (b c id operand : ℕ) (position name_place : Pos) (name : List ℕ) (k : Kind) → slice_get forest.nodes id ≡ Some (Cast position name_place name operand) → Inside p b c id → Judged p id (Some k) → CastFacts p b c id name operand k
   unfolding children is_argument is_expression object_of takes_parts HasRightChildren declared_before type_of scope_of binding_of Judged
-  cast_facts b c id operand place name_place name k there inside judged =
-      let node : Node = Cast place name_place name operand in
+  cast_facts b c id operand position name_place name k there inside judged =
+      let node : Node = Cast position name_place name operand in
       let s = sorted.each id node there in
       let first = same_first forest accepted whole sorted operand [] in
       let x = child_at forest accepted whole sorted b c id node there inside refl operand first (of_expression forest accepted whole sorted operand s) refl refl in
       let u = type_of_value forest accepted whole sorted b c id operand x in
-      let n = cast_names_class forest accepted sorted id place name_place name operand (at_p forest accepted whole sorted id node there) in
-      let w = right_cast p types id place name_place name operand (unbroken forest accepted whole sorted id node there) in
+      let n = cast_names_class forest accepted sorted id position name_place name operand (at_p forest accepted whole sorted id node there) in
+      let w = right_cast p types id position name_place name operand (unbroken forest accepted whole sorted id node there) in
       let rel : not (are_related p.classes u.0 (ClassTy n.0)) ≡ false = sym (ap (λ (o : Option Ty). holds o (λ t. holds (class_number p.names name) (λ class. not (are_related p.classes t (ClassTy class))))) u.1 ∙ ap (λ (o : Option ℕ). holds o (λ class. not (are_related p.classes u.0 (ClassTy class)))) n.1) ∙ w in
       let reference_type = cast_of_reference forest accepted whole sorted u.0 (ClassTy n.0) rel in
       let related = second_of u.0 (ClassTy n.0) rel in
       let h = scope_of_value forest accepted whole sorted b c id operand u.0 x u.1 reference_type in
       let v = cast_kind p.classes u.0 (scopes operand) n.0 reference_type h related in
-      let outside : lies_outside p (scopes operand) n.0 ≡ false = sym (ap (λ (o : Option ℕ). holds o (lies_outside p (scopes operand))) n.1) ∙ use_of_cast id operand place name_place name (use_unbroken forest accepted whole sorted id node there) in
+      let outside : lies_outside p (scopes operand) n.0 ≡ false = sym (ap (λ (o : Option ℕ). holds o (lies_outside p (scopes operand))) n.1) ∙ use_of_cast id operand position name_place name (use_unbroken forest accepted whole sorted id node there) in
       let typed : types id ≡ Some (ClassTy n.0) = type_is forest accepted whole sorted id node there ∙ ap (option_and_then (λ t. class_type_named p name)) u.1 ∙ ap (option_map (λ class. ClassTy class)) n.1 in
       let scoped : scopes id ≡ scope_in_class p n.0 (scopes operand) = scope_is forest accepted whole sorted id node there ∙ ap (option_and_then (λ class. scope_in_class p class (scopes operand))) n.1 in
       record {

@@ -114,11 +114,11 @@ module _ (forest : Forest) (accepted : IsAccepted forest) (whole : IsForest fore
     runs : holds (called_user_method p types id object name) (misfits_call p scopes id object) ≡ false
     passes : found_at (called_user_method p types id object name) (e3_of_call p scopes (receiver_scope p scopes id object) (current_at p id) arguments) ≡ []
 
-  use_of_call : (id : ℕ) (place : Pos) (name : List ℕ) (object : Option ℕ) (arguments : List ℕ) → use_breaks p types scopes id (Call place name object arguments) ≡ [] → UseOfCall id name object arguments
+  use_of_call : (id : ℕ) (position : Pos) (name : List ℕ) (object : Option ℕ) (arguments : List ℕ) → use_breaks p types scopes id (Call position name object arguments) ≡ [] → UseOfCall id name object arguments
   unfolding use_breaks e1 e2 e3
-  use_of_call id place name object arguments e =
-      let node : Node = Call place name object arguments in
-      let one = both_empty (broken (holds (called_user_method p types id object name) (misfits_call p scopes id object)) E2 place)
+  use_of_call id position name object arguments e =
+      let node : Node = Call position name object arguments in
+      let one = both_empty (broken (holds (called_user_method p types id object name) (misfits_call p scopes id object)) E2 position)
       (found_at (called_user_method p types id object name) (e3_of_call p scopes (receiver_scope p scopes id object) (current_at p id) arguments)
       ++ (e4_and_e5 p types scopes id node ++ (e6 p types scopes id node ++ (e7 p types scopes id node ++ (e8 p types scopes id node ++ (e9 p types scopes id node ++ e10 p types scopes id node)))))) e in
       let two = both_empty (found_at (called_user_method p types id object name) (e3_of_call p scopes (receiver_scope p scopes id object) (current_at p id) arguments))
@@ -128,8 +128,8 @@ module _ (forest : Forest) (accepted : IsAccepted forest) (whole : IsForest fore
   -- ---- the parts of a call whose receiver, method and arguments are known
 
   record Called (b c id : ℕ) (name : List ℕ) (object : Option ℕ) (arguments : List ℕ) (f : FoundMethod) : Type 0 where
-    place : Pos
-    stands : slice_get forest.nodes id ≡ Some (Call place name object arguments)
+    position : Pos
+    stands : slice_get forest.nodes id ≡ Some (Call position name object arguments)
     inside : Inside p b c id
     r : Receiver
     is_receiver : call_receiver p types id object ≡ Some r
@@ -149,11 +149,11 @@ module _ (forest : Forest) (accepted : IsAccepted forest) (whole : IsForest fore
   user_called : (id : ℕ) (name : List ℕ) (object : Option ℕ) (r : Receiver) (f : FoundMethod) → call_receiver p types id object ≡ Some r → called_method p r name ≡ Some f → f.method.builtin ≡ None → called_user_method p types id object name ≡ Some f
   user_called id name object r f e m n = ap (λ (o : Option Receiver). of_user (option_and_then (λ r. called_method p r name) o)) e ∙ ap of_user m ∙ user_is f n
 
-  call_bound : (id : ℕ) (place : Pos) (name : List ℕ) (object : Option ℕ) (arguments : List ℕ) (f : FoundMethod) (r : Receiver) (n class : ℕ) → slice_get forest.nodes id ≡ Some (Call place name object arguments) → call_receiver p types id object ≡ Some r → called_method p r name ≡ Some f → f.method.builtin ≡ None → f.method.declared.modifiers.is_static ≡ false
+  call_bound : (id : ℕ) (position : Pos) (name : List ℕ) (object : Option ℕ) (arguments : List ℕ) (f : FoundMethod) (r : Receiver) (n class : ℕ) → slice_get forest.nodes id ≡ Some (Call position name object arguments) → call_receiver p types id object ≡ Some r → called_method p r name ≡ Some f → f.method.builtin ≡ None → f.method.declared.modifiers.is_static ≡ false
       → method_number p.nodes p.users f.method.declared.node ≡ Some n → class_of_receiver r ≡ Some class → (f.on == managed_memory) ≡ false → binding_at_node p id ≡ MethodCalled (record { id = n; on = class; gives = not (is_same_type f.method.declared.declared_type void_type) })
   unfolding binding_of method_binding target called_on
-  call_bound id place name object arguments f r n class there e m b plain k cl on =
-      binding_is forest accepted whole sorted id (Call place name object arguments) there
+  call_bound id position name object arguments f r n class there e m b plain k cl on =
+      binding_is forest accepted whole sorted id (Call position name object arguments) there
       ∙ ap (λ (o : Option Receiver). plain_or (λ r. plain_or (method_binding p types r arguments) (called_method p r name)) o) e
       ∙ ap (λ (o : Option FoundMethod). plain_or (method_binding p types r arguments) o) m
       ∙ ap (λ (o : Option ℕ). elim o as (λ _. Binding) [ Some number ↦ Builtin (target types r f arguments number) | None ↦ plain_or (user_method_binding types r arguments f) (method_number p.nodes p.users f.method.declared.node) ]) b
@@ -171,13 +171,13 @@ module _ (forest : Forest) (accepted : IsAccepted forest) (whole : IsForest fore
       go true e = absurd (true≢false (sym u ∙ ap is_user_class (same_number class managed_memory e)))
 
   -- what a call on an object gives
-  call_gives : (id : ℕ) (place : Pos) (name : List ℕ) (object : Option ℕ) (arguments : List ℕ) (f : FoundMethod) (r : Receiver) (ts : List Ty) (scope now : Scope) (o : Option Kind) → slice_get forest.nodes id ≡ Some (Call place name object arguments) → call_receiver p types id object ≡ Some r → called_method p r name ≡ Some f → all_types types arguments ≡ Some ts
+  call_gives : (id : ℕ) (position : Pos) (name : List ℕ) (object : Option ℕ) (arguments : List ℕ) (f : FoundMethod) (r : Receiver) (ts : List Ty) (scope now : Scope) (o : Option Kind) → slice_get forest.nodes id ≡ Some (Call position name object arguments) → call_receiver p types id object ≡ Some r → called_method p r name ≡ Some f → all_types types arguments ≡ Some ts
       → receiver_scope p scopes id object ≡ Some scope → current_at p id ≡ Some now → HasType (types id) → Judged p id o → o ≡ seen_option scope now (kind_given p f)
   unfolding type_of scope_of scope_of_call kind_given Judged
-  call_gives id place name object arguments f r ts scope now o there e m k s h t judged = by_kind o judged
+  call_gives id position name object arguments f r ts scope now o there e m k s h t judged = by_kind o judged
     where
       node : Node
-      node = Call place name object arguments
+      node = Call position name object arguments
 
       typed : types id ≡ declared_type_of p f.method.declared
       typed =
@@ -240,11 +240,11 @@ module _ (forest : Forest) (accepted : IsAccepted forest) (whole : IsForest fore
       let now = current_has_scope forest accepted whole sorted c b class_of_b in
       let here : current_at p id ≡ Some now.0 = current_is b c id now.0 i now.1 in
       let runs = runs_in_has_scope forest accepted whole sorted f.on f.method.declared.node f.method user.is_there user.stands_in_class in
-      let uses = use_of_call id x.place name object arguments (use_unbroken forest accepted whole sorted id (Call x.place name object arguments) x.stands) in
+      let uses = use_of_call id x.position name object arguments (use_unbroken forest accepted whole sorted id (Call x.position name object arguments) x.stands) in
       let called = user_called id name object x.r f x.is_receiver x.is_method x.not_builtin in
       let e2_at : misfits_runs_in p id (Some x.scope) runs.0 ≡ false = sym (ap (λ (o : Option FoundMethod). holds o (misfits_call p scopes id object)) called
       ∙ ap (λ (s : Option Scope). holds s (misfits_runs_in p id (receiver_scope p scopes id object))) runs.1 ∙ ap (λ (s : Option Scope). misfits_runs_in p id s runs.0) x.is_scope) ∙ uses.runs in
-      let w = right_call p types id x.place name object arguments (unbroken forest accepted whole sorted id (Call x.place name object arguments) x.stands) in
+      let w = right_call p types id x.position name object arguments (unbroken forest accepted whole sorted id (Call x.position name object arguments) x.stands) in
       let rules = call_rules forest accepted whole sorted id name object arguments x.r x.ts x.is_receiver x.typed w in
       let accepts = arguments_accepted id name object arguments x.r x.ts f x.is_receiver x.is_method x.typed rules.has_method w.arguments_fit in
       let e3_at = arguments_scoped id name object arguments f x.scope now.0 called x.is_scope here uses.passes in
@@ -259,14 +259,14 @@ module _ (forest : Forest) (accepted : IsAccepted forest) (whole : IsForest fore
         is_user = user;
         n = n.0;
         numbered = n.1;
-        binding = call_bound id x.place name object arguments f x.r n.0 x.class x.stands x.is_receiver x.is_method x.not_builtin x.plain n.1 x.of_receiver (user_not_memory f.on user.on_user_class);
+        binding = call_bound id x.position name object arguments f x.r n.0 x.class x.stands x.is_receiver x.is_method x.not_builtin x.plain n.1 x.of_receiver (user_not_memory f.on user.on_user_class);
         runs = runs.0;
         is_runs = runs.1;
         runs_here = runs_where_called p id x.scope now.0 runs.0 (runs_in_named p runs.0 f.on f.method runs.1) (current_named p now.0 c b now.1) here e2_at;
         taken = passed.0;
         takes = record { are = kinds_are f passed.0 passed.1 };
         passes = passed.2;
-        gives = call_gives id x.place name object arguments f x.r x.ts x.scope now.0 o x.stands x.is_receiver x.is_method x.typed x.is_scope here t judged;
+        gives = call_gives id x.position name object arguments f x.r x.ts x.scope now.0 o x.stands x.is_receiver x.is_method x.typed x.is_scope here t judged;
       }
 
   typed_of_judgement : (id : ℕ) (o : Option Kind) → Judged p id o → HasType (types id)
@@ -285,21 +285,21 @@ module _ (forest : Forest) (accepted : IsAccepted forest) (whole : IsForest fore
       first false b h e = refl
 
   -- what a call of a user's method on an object has
-  pub call_facts : (b c id : ℕ) (place : Pos) (name : List ℕ) (object : Option ℕ) (arguments : List ℕ) (f : FoundMethod) (o : Option Kind) → slice_get forest.nodes id ≡ Some (Call place name object arguments) → Inside p b c id → method_called p types id object name ≡ Some f → f.method.builtin ≡ None → f.method.declared.modifiers.is_static ≡ false → Judged p id o
+  pub call_facts : (b c id : ℕ) (position : Pos) (name : List ℕ) (object : Option ℕ) (arguments : List ℕ) (f : FoundMethod) (o : Option Kind) → slice_get forest.nodes id ≡ Some (Call position name object arguments) → Inside p b c id → method_called p types id object name ≡ Some f → f.method.builtin ≡ None → f.method.declared.modifiers.is_static ≡ false → Judged p id o
       → CallFacts p b c id object arguments f o
   unfolding children is_argument is_expression object_of takes_parts HasRightChildren declared_before call_receiver receiver_scope class_of_receiver
-  call_facts b c id place name None arguments f o there inside method user plain judged =
-      let node : Node = Call place name None arguments in
+  call_facts b c id position name None arguments f o there inside method user plain judged =
+      let node : Node = Call position name None arguments in
       let s = sorted.each id node there in
       let values : (x : ℕ) → is_among x arguments ≡ true → At b c id x = λ x among. child_at forest accepted whole sorted b c id node there inside refl x among (all_of forest accepted whole sorted x arguments s.1 among) refl refl in
       let ts = arguments_typed forest accepted whole sorted b c id arguments values in
       let e : call_receiver p types id None ≡ Some (own_object c) = ap (option_map (λ class. own_object class)) inside.class in
       let m : called_method p (own_object c) name ≡ Some f = sym (ap (option_and_then (λ r. called_method p r name)) e) ∙ method in
-      let w = right_call p types id place name None arguments (unbroken forest accepted whole sorted id node there) in
+      let w = right_call p types id position name None arguments (unbroken forest accepted whole sorted id node there) in
       let rules = call_rules forest accepted whole sorted id name None arguments (own_object c) ts.0 e ts.1 w in
       let h = this_has_scope forest accepted whole sorted c in
       call_of b c id name None arguments f o (record {
-        place = place;
+        position = position;
         stands = there;
         inside = inside;
         r = own_object c;
@@ -317,14 +317,14 @@ module _ (forest : Forest) (accepted : IsAccepted forest) (whole : IsForest fore
         is_scope = ap (option_and_then (this_in p)) inside.class ∙ h.1;
         receiver_is = (record { has_object = has_object_static p id b inside.member (own_called id c name f m plain rules.has_method rules.has_object); home = h.0; is_home = h.1 }, refl, refl);
       }) (typed_of_judgement id o judged) judged
-  call_facts b c id place name (Some object) arguments f o there inside method user plain judged =
-      let node : Node = Call place name (Some object) arguments in
+  call_facts b c id position name (Some object) arguments f o there inside method user plain judged =
+      let node : Node = Call position name (Some object) arguments in
       let s = sorted.each id node there in
       let x = of_expression forest accepted whole sorted object s.0 in
       let values : (x : ℕ) → is_among x arguments ≡ true → At b c id x = λ x among. child_at forest accepted whole sorted b c id node there inside refl x (or_right (x == object) (is_among x arguments) among) (all_of forest accepted whole sorted x arguments s.1 among) (not_first forest whole accepted id x object node arguments there refl among) refl in
       let ts = arguments_typed forest accepted whole sorted b c id arguments values in
       let at : class_at_name p object x.node ≡ None → At b c id object = λ k. value_at forest accepted whole sorted b c id node there inside refl object (same_first forest accepted whole sorted object arguments) x k refl in
-      let w = right_call p types id place name (Some object) arguments (unbroken forest accepted whole sorted id node there) in
+      let w = right_call p types id position name (Some object) arguments (unbroken forest accepted whole sorted id node there) in
       elim (receiver_cases forest accepted whole sorted object x.node x.is_there (λ k. type_of_value forest accepted whole sorted b c id object (at k))) as (λ z. CallFacts p b c id (Some object) arguments f o) [
         | inl q ↦ absurd (
             let m : called_method p (the_class q.0) name ≡ Some f = sym (ap (option_and_then (λ r. called_method p r name)) q.2) ∙ method in
@@ -337,7 +337,7 @@ module _ (forest : Forest) (accepted : IsAccepted forest) (whole : IsForest fore
             let same = class_value forest accepted whole sorted q.0 k.0 k.1 in
             let h = scope_of_value forest accepted whole sorted b c id object q.0 v q.2 (class_is_reference forest accepted whole sorted q.0 k.0 same) in
             call_of b c id name (Some object) arguments f o (record {
-              place = place;
+              position = position;
               stands = there;
               inside = inside;
               r = the_value q.0;

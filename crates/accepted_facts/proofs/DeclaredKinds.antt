@@ -48,21 +48,21 @@ class_holds (Some n) f u h e = holds (f n) u e (h n)
 
 node_holds : (names : List (List ℕ)) (node : Node) (u : Ty) → is_type node ≡ true → type_written names (unwrap_or (type_of_node node) void_type) ≡ Some u → holds_values u ≡ true
 unfolding is_type type_of_node type_written holds_values
-node_holds names (IntType place true) u k e = holds IntArray u e refl
-node_holds names (IntType place false) u k e = holds Int u e refl
-node_holds names (BooleanType place true) u k e = holds BoolArray u e refl
-node_holds names (BooleanType place false) u k e = holds Boolean u e refl
-node_holds names (ClassType place name argument true) u k e = class_holds (class_number names name) (λ class. ClassArray class) u (λ n. refl) e
-node_holds names (ClassType place name argument false) u k e = class_holds (class_number names name) (λ class. ClassTy class) u (λ n. refl) e
+node_holds names (IntType position true) u k e = holds IntArray u e refl
+node_holds names (IntType position false) u k e = holds Int u e refl
+node_holds names (BooleanType position true) u k e = holds BoolArray u e refl
+node_holds names (BooleanType position false) u k e = holds Boolean u e refl
+node_holds names (ClassType position name argument true) u k e = class_holds (class_number names name) (λ class. ClassArray class) u (λ n. refl) e
+node_holds names (ClassType position name argument false) u k e = class_holds (class_number names name) (λ class. ClassTy class) u (λ n. refl) e
 node_holds names _ u k e = absurd (true≢false (sym k))
 
 node_gives : (names : List (List ℕ)) (node : Node) (u : Ty) → is_result node ≡ true → type_written names (unwrap_or (type_of_node node) void_type) ≡ Some u → (u ≡ Void) ⊎ (holds_values u ≡ true)
 unfolding is_result is_type type_of_node type_written
-node_gives names (VoidType place) u k e = inl (sym (some_inj Void u e))
-node_gives names (LongType place) u k e = absurd (cc (e))
-node_gives names (IntType place is_array) u k e = inr (node_holds names (IntType place is_array) u k e)
-node_gives names (BooleanType place is_array) u k e = inr (node_holds names (BooleanType place is_array) u k e)
-node_gives names (ClassType place name argument is_array) u k e = inr (node_holds names (ClassType place name argument is_array) u k e)
+node_gives names (VoidType position) u k e = inl (sym (some_inj Void u e))
+node_gives names (LongType position) u k e = absurd (cc (e))
+node_gives names (IntType position is_array) u k e = inr (node_holds names (IntType position is_array) u k e)
+node_gives names (BooleanType position is_array) u k e = inr (node_holds names (BooleanType position is_array) u k e)
+node_gives names (ClassType position name argument is_array) u k e = inr (node_holds names (ClassType position name argument is_array) u k e)
 node_gives names _ u k e = absurd (true≢false (sym k))
 
 module _ (forest : Forest) (sorted : IsWellSorted forest.nodes) where
@@ -84,9 +84,9 @@ module _ (forest : Forest) (sorted : IsWellSorted forest.nodes) where
 
   variable_node : (id : ℕ) (node : Node) (d : Declared) (u : Ty) → HasRightChildren p.nodes node → variable_of p.nodes id node ≡ Some d → declared_type_of p d ≡ Some u → holds_values u ≡ true
   unfolding variable_of HasRightChildren
-  variable_node id (Parameter place name flags declared_type) d u h k e = type_holds declared_type u h.1 (as_declared _ d u (some_inj _ d k) e)
-  variable_node id (Local place name flags declared_type) d u h k e = type_holds declared_type u h.1 (as_declared _ d u (some_inj _ d k) e)
-  variable_node id (LocalWithValue place name_place name flags declared_type value) d u h k e = type_holds declared_type u h.1 (as_declared _ d u (some_inj _ d k) e)
+  variable_node id (Parameter position name flags declared_type) d u h k e = type_holds declared_type u h.1 (as_declared _ d u (some_inj _ d k) e)
+  variable_node id (Local position name flags declared_type) d u h k e = type_holds declared_type u h.1 (as_declared _ d u (some_inj _ d k) e)
+  variable_node id (LocalWithValue position name_place name flags declared_type value) d u h k e = type_holds declared_type u h.1 (as_declared _ d u (some_inj _ d k) e)
   variable_node id _ d u h k e = absurd (cc (k))
 
   -- variables hold values
@@ -99,7 +99,7 @@ module _ (forest : Forest) (sorted : IsWellSorted forest.nodes) where
 
   field_node : (id : ℕ) (node : Node) (d : Declared) (u : Ty) → HasRightChildren p.nodes node → field_of p.nodes id node ≡ Some d → declared_type_of p d ≡ Some u → holds_values u ≡ true
   unfolding field_of HasRightChildren
-  field_node id (Field place name flags declared_type equals value) d u h k e = type_holds declared_type u h.1 (as_declared _ d u (some_inj _ d k) e)
+  field_node id (Field position name flags declared_type equals value) d u h k e = type_holds declared_type u h.1 (as_declared _ d u (some_inj _ d k) e)
   field_node id _ d u h k e = absurd (cc (k))
 
   -- fields hold values
@@ -112,7 +112,7 @@ module _ (forest : Forest) (sorted : IsWellSorted forest.nodes) where
 
   method_gives_at : (id : ℕ) (node : Node) (m : DeclaredMethod) (u : Ty) → HasRightChildren p.nodes node → method_of p.nodes id node ≡ Some m → declared_type_of p m.declared ≡ Some u → (u ≡ Void) ⊎ (holds_values u ≡ true)
   unfolding method_of HasRightChildren
-  method_gives_at id (Method place name flags result_type parameters body) m u h k e = result_gives result_type u h.1 (ap (λ (m : DeclaredMethod). declared_type_of p m.declared) (some_inj _ m k) ∙ e)
+  method_gives_at id (Method position name flags result_type parameters body) m u h k e = result_gives result_type u h.1 (ap (λ (m : DeclaredMethod). declared_type_of p m.declared) (some_inj _ m k) ∙ e)
   method_gives_at id _ m u h k e = absurd (cc (k))
 
   -- methods give values, or nothing

@@ -91,10 +91,10 @@ module _ (forest : Forest) (accepted : IsAccepted forest) (whole : IsForest fore
     ts : List Ty
     typed : all_types types arguments ≡ Some ts
 
-  call_parts : (b c id : ℕ) (place : Pos) (name : List ℕ) (object : Option ℕ) (arguments : List ℕ) → slice_get forest.nodes id ≡ Some (Call place name object arguments) → Inside p b c id → CallParts b c id name object arguments
+  call_parts : (b c id : ℕ) (position : Pos) (name : List ℕ) (object : Option ℕ) (arguments : List ℕ) → slice_get forest.nodes id ≡ Some (Call position name object arguments) → Inside p b c id → CallParts b c id name object arguments
   unfolding children is_argument is_expression object_of takes_parts HasRightChildren declared_before call_receiver
-  call_parts b c id place name None arguments there inside =
-      let node : Node = Call place name None arguments in
+  call_parts b c id position name None arguments there inside =
+      let node : Node = Call position name None arguments in
       let s = sorted.each id node there in
       let values : (x : ℕ) → is_among x arguments ≡ true → At b c id x = λ x among. child_at forest accepted whole sorted b c id node there inside refl x among (all_of forest accepted whole sorted x arguments s.1 among) refl refl in
       let ts = arguments_typed forest accepted whole sorted b c id arguments values in
@@ -106,8 +106,8 @@ module _ (forest : Forest) (accepted : IsAccepted forest) (whole : IsForest fore
         ts = ts.0;
         typed = ts.1;
       }
-  call_parts b c id place name (Some object) arguments there inside =
-      let node : Node = Call place name (Some object) arguments in
+  call_parts b c id position name (Some object) arguments there inside =
+      let node : Node = Call position name (Some object) arguments in
       let s = sorted.each id node there in
       let o = of_expression forest accepted whole sorted object s.0 in
       let values : (x : ℕ) → is_among x arguments ≡ true → At b c id x = λ x among. child_at forest accepted whole sorted b c id node there inside refl x (or_right (x == object) (is_among x arguments) among) (all_of forest accepted whole sorted x arguments s.1 among) (not_first forest whole accepted id x object node arguments there refl among) refl in
@@ -123,11 +123,11 @@ module _ (forest : Forest) (accepted : IsAccepted forest) (whole : IsForest fore
       }
 
   -- the parameters of the method that is called take the arguments
-  pub argument_facts : (b c id : ℕ) (place : Pos) (name : List ℕ) (object : Option ℕ) (arguments : List ℕ) (f : FoundMethod) → slice_get forest.nodes id ≡ Some (Call place name object arguments) → Inside p b c id → method_called p types id object name ≡ Some f → ArgumentFacts p id arguments f
-  argument_facts b c id place name object arguments f there inside method =
-      let x = call_parts b c id place name object arguments there inside in
+  pub argument_facts : (b c id : ℕ) (position : Pos) (name : List ℕ) (object : Option ℕ) (arguments : List ℕ) (f : FoundMethod) → slice_get forest.nodes id ≡ Some (Call position name object arguments) → Inside p b c id → method_called p types id object name ≡ Some f → ArgumentFacts p id arguments f
+  argument_facts b c id position name object arguments f there inside method =
+      let x = call_parts b c id position name object arguments there inside in
       let m : called_method p x.r name ≡ Some f = sym (ap (option_and_then (λ r. called_method p r name)) x.is_receiver) ∙ method in
-      let w = right_call p types id place name object arguments (unbroken forest accepted whole sorted id (Call place name object arguments) there) in
+      let w = right_call p types id position name object arguments (unbroken forest accepted whole sorted id (Call position name object arguments) there) in
       let rules = call_rules forest accepted whole sorted id name object arguments x.r x.ts x.is_receiver x.typed w in
       record { types = x.ts; typed = x.typed; accepts = arguments_accepted forest accepted whole sorted id name object arguments x.r x.ts f x.is_receiver m x.typed rules.has_method w.arguments_fit }
 
@@ -137,15 +137,15 @@ module _ (forest : Forest) (accepted : IsAccepted forest) (whole : IsForest fore
     enters : holds (called_builtin p types id object name) (λ number. enters_wrong p types id number second) ≡ false
     executes : holds (called_builtin p types id object name) (λ number. executes_wrong p types scopes number first second) ≡ false
 
-  use_of_two : (id first second : ℕ) (place : Pos) (name : List ℕ) (object : Option ℕ) → use_breaks p types scopes id (Call place name object (first ∷ second ∷ [])) ≡ [] → UseOfTwo id first second name object
+  use_of_two : (id first second : ℕ) (position : Pos) (name : List ℕ) (object : Option ℕ) → use_breaks p types scopes id (Call position name object (first ∷ second ∷ [])) ≡ [] → UseOfTwo id first second name object
   unfolding use_breaks e1 e2 e3 e4_and_e5 e6 e7 e8 e9 e10
-  use_of_two id first second place name object e =
+  use_of_two id first second position name object e =
       let arguments : List ℕ = first ∷ second ∷ [] in
-      let last : broken (holds (called_builtin p types id object name) (λ number. enters_wrong p types id number second)) E7 place ++ (broken (holds (called_builtin p types id object name) (λ number. executes_wrong p types scopes number first second)) E8 place ++ []) ≡ []
+      let last : broken (holds (called_builtin p types id object name) (λ number. enters_wrong p types id number second)) E7 position ++ (broken (holds (called_builtin p types id object name) (λ number. executes_wrong p types scopes number first second)) E8 position ++ []) ≡ []
       = (both_empty (found_at (called_user_method p types id object name) (e3_of_call p scopes (receiver_scope p scopes id object) (current_at p id) arguments)) _
-      (both_empty (broken (holds (called_user_method p types id object name) (misfits_call p scopes id object)) E2 place) _ e).1).1 in
-      let one = both_empty (broken (holds (called_builtin p types id object name) (λ number. enters_wrong p types id number second)) E7 place) (broken (holds (called_builtin p types id object name) (λ number. executes_wrong p types scopes number first second)) E8 place ++ []) last in
-      let two = both_empty (broken (holds (called_builtin p types id object name) (λ number. executes_wrong p types scopes number first second)) E8 place) [] one.1 in
+      (both_empty (broken (holds (called_user_method p types id object name) (misfits_call p scopes id object)) E2 position) _ e).1).1 in
+      let one = both_empty (broken (holds (called_builtin p types id object name) (λ number. enters_wrong p types id number second)) E7 position) (broken (holds (called_builtin p types id object name) (λ number. executes_wrong p types scopes number first second)) E8 position ++ []) last in
+      let two = both_empty (broken (holds (called_builtin p types id object name) (λ number. executes_wrong p types scopes number first second)) E8 position) [] one.1 in
       record { enters = right _ _ _ one.0; executes = right _ _ _ two.0 }
 
   builtin_called : (id : ℕ) (name : List ℕ) (object : Option ℕ) (f : FoundMethod) (number : ℕ) → method_called p types id object name ≡ Some f → f.method.builtin ≡ Some number → called_builtin p types id object name ≡ Some number
@@ -179,13 +179,13 @@ module _ (forest : Forest) (accepted : IsAccepted forest) (whole : IsForest fore
   second_among : (x y : ℕ) → is_among y (x ∷ y ∷ []) ≡ true
   second_among x y = or_right (y == x) (is_among y (y ∷ [])) (or_left (y == y) (is_among y []) (is_same_number y y refl))
 
-  pub enter_facts : (b c id size r : ℕ) (place : Pos) (name : List ℕ) (object : Option ℕ) (f : FoundMethod) → slice_get forest.nodes id ≡ Some (Call place name object (size ∷ r ∷ [])) → Inside p b c id → method_called p types id object name ≡ Some f → f.method.builtin ≡ Some managed_memory_enter_private_memory → EnterFacts p b c id r
-  enter_facts b c id size r place name object f there inside method number =
-      let x = call_parts b c id place name object (size ∷ r ∷ []) there inside in
+  pub enter_facts : (b c id size r : ℕ) (position : Pos) (name : List ℕ) (object : Option ℕ) (f : FoundMethod) → slice_get forest.nodes id ≡ Some (Call position name object (size ∷ r ∷ [])) → Inside p b c id → method_called p types id object name ≡ Some f → f.method.builtin ≡ Some managed_memory_enter_private_memory → EnterFacts p b c id r
+  enter_facts b c id size r position name object f there inside method number =
+      let x = call_parts b c id position name object (size ∷ r ∷ []) there inside in
       let among = second_among size r in
       let v = x.values r among in
       let t = type_of_value forest accepted whole sorted b c id r v in
-      let u = use_of_two id size r place name object (use_unbroken forest accepted whole sorted id (Call place name object (size ∷ r ∷ [])) there) in
+      let u = use_of_two id size r position name object (use_unbroken forest accepted whole sorted id (Call position name object (size ∷ r ∷ [])) there) in
       let e : misfits_enter p id t.0 ≡ false = sym (ap (λ (o : Option Ty). holds o (misfits_enter p id)) t.1)
       ∙ number_and managed_memory_enter_private_memory managed_memory_enter_private_memory (holds (types r) (misfits_enter p id)) refl (sym (ap (λ (o : Option ℕ). holds o (λ number. enters_wrong p types id number r)) (builtin_called id name object f managed_memory_enter_private_memory method number)) ∙ u.enters) in
       let k = enter_class id t.0 e in
@@ -236,13 +236,13 @@ module _ (forest : Forest) (accepted : IsAccepted forest) (whole : IsForest fore
       let h = runs_in_has_scope forest accepted whole sorted m.0.on m.0.method.declared.node m.0.method u.is_there u.stands_in_class in
       subst (λ (g : FoundMethod). HasScope (runs_in p g.on g.method)) q.1 h
 
-  pub execute_facts : (b c id o r : ℕ) (place : Pos) (name : List ℕ) (object : Option ℕ) (f : FoundMethod) → slice_get forest.nodes id ≡ Some (Call place name object (o ∷ r ∷ [])) → Inside p b c id → method_called p types id object name ≡ Some f → f.method.builtin ≡ Some managed_memory_execute_in_area_of → ExecuteFacts p b c id o r
-  execute_facts b c id o r place name object f there inside method number =
-      let x = call_parts b c id place name object (o ∷ r ∷ []) there inside in
+  pub execute_facts : (b c id o r : ℕ) (position : Pos) (name : List ℕ) (object : Option ℕ) (f : FoundMethod) → slice_get forest.nodes id ≡ Some (Call position name object (o ∷ r ∷ [])) → Inside p b c id → method_called p types id object name ≡ Some f → f.method.builtin ≡ Some managed_memory_execute_in_area_of → ExecuteFacts p b c id o r
+  execute_facts b c id o r position name object f there inside method number =
+      let x = call_parts b c id position name object (o ∷ r ∷ []) there inside in
       let among = second_among o r in
       let v = x.values r among in
       let t = type_of_value forest accepted whole sorted b c id r v in
-      let u = use_of_two id o r place name object (use_unbroken forest accepted whole sorted id (Call place name object (o ∷ r ∷ [])) there) in
+      let u = use_of_two id o r position name object (use_unbroken forest accepted whole sorted id (Call position name object (o ∷ r ∷ [])) there) in
       let e : misfits_execute p (scopes o) t.0 ≡ false = sym (ap (λ (y : Option Ty). holds y (misfits_execute p (scopes o))) t.1)
       ∙ number_and managed_memory_execute_in_area_of managed_memory_execute_in_area_of (holds (types r) (misfits_execute p (scopes o))) refl (sym (ap (λ (y : Option ℕ). holds y (λ number. executes_wrong p types scopes number o r)) (builtin_called id name object f managed_memory_execute_in_area_of method number)) ∙ u.executes) in
       let k = execute_class (scopes o) t.0 e in

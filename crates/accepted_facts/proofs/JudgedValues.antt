@@ -184,32 +184,32 @@ module _ (forest : Forest) (accepted : IsAccepted forest) (whole : IsForest fore
       let f = of_option (called_method p r name) (λ (f : FoundMethod). declared_type_of p f.method.declared) Label e in
       let q = of_class (class_of_receiver r) (λ class. method_named p.classes class name) f.0 f.1 in method_no_label q.0 name f.0 q.2 f.2
 
-  expression_no_label : (id : ℕ) (node : Node) → is_expression node ≡ true → ((place : Pos) (inner : ℕ) → node ≡ Parenthesized place inner → NoLabel (types inner)) → NoLabel (type_of p types id node)
+  expression_no_label : (id : ℕ) (node : Node) → is_expression node ≡ true → ((position : Pos) (inner : ℕ) → node ≡ Parenthesized position inner → NoLabel (types inner)) → NoLabel (type_of p types id node)
   unfolding type_of is_expression
-  expression_no_label id (Number place value is_negative) k h e = int_no_label e
-  expression_no_label id (True place) k h e = boolean_no_label e
-  expression_no_label id (False place) k h e = boolean_no_label e
-  expression_no_label id (Null place) k h e = (let f : NullTy ≡ Label = some_inj NullTy Label e in cc (f))
-  expression_no_label id (ThisNode place) k h e = class_named_no_label (context p id).class e
-  expression_no_label id (SimpleName place name) k h e = meaning_no_label id name e
-  expression_no_label id (Parenthesized place inner) k h e = h place inner refl e
-  expression_no_label id (Binary place operator left operand) k h e =
+  expression_no_label id (Number position value is_negative) k h e = int_no_label e
+  expression_no_label id (True position) k h e = boolean_no_label e
+  expression_no_label id (False position) k h e = boolean_no_label e
+  expression_no_label id (Null position) k h e = (let f : NullTy ≡ Label = some_inj NullTy Label e in cc (f))
+  expression_no_label id (ThisNode position) k h e = class_named_no_label (context p id).class e
+  expression_no_label id (SimpleName position name) k h e = meaning_no_label id name e
+  expression_no_label id (Parenthesized position inner) k h e = h position inner refl e
+  expression_no_label id (Binary position operator left operand) k h e =
       let a = of_option (types left) (λ a. option_and_then (binary_type p.classes operator a) (types operand)) Label e in
       let b = of_option (types operand) (binary_type p.classes operator a.0) Label a.2 in binary_no_label p.classes operator a.0 b.0 b.2
-  expression_no_label id (Unary place operator operand) k h e = (let a = of_option (types operand) (unary_type operator) Label e in unary_no_label operator a.0 a.2)
-  expression_no_label id (Cast place name_place name operand) k h e =
+  expression_no_label id (Unary position operator operand) k h e = (let a = of_option (types operand) (unary_type operator) Label e in unary_no_label operator a.0 a.2)
+  expression_no_label id (Cast position name_place name operand) k h e =
       (let a = of_option (types operand) (λ t. option_map (λ class. ClassTy class) (class_number p.names name)) Label e in class_named_no_label (class_number p.names name) a.2)
-  expression_no_label id (FieldAccess place name object) k h e = (let a = of_option (receiver p types object) (λ r. access_type p r name) Label e in access_no_label a.0 name a.2)
-  expression_no_label id (Call place name object arguments) k h e =
+  expression_no_label id (FieldAccess position name object) k h e = (let a = of_option (receiver p types object) (λ r. access_type p r name) Label e in access_no_label a.0 name a.2)
+  expression_no_label id (Call position name object arguments) k h e =
       let a = of_option (call_receiver p types id object) (λ r. option_and_then (λ ts. call_type p r name) (all_types types arguments)) Label e in
       let b = of_option (all_types types arguments) (λ ts. call_type p a.0 name) Label a.2 in call_no_label a.0 name b.2
-  expression_no_label id (Element place array index) k h e =
+  expression_no_label id (Element position array index) k h e =
       let a = of_option (types array) (λ a. option_and_then (λ i. element_type a) (types index)) Label e in
       let b = of_option (types index) (λ i. element_type a.0) Label a.2 in element_no_label a.0 b.2
-  expression_no_label id (New place name_place name arguments) k h e =
+  expression_no_label id (New position name_place name arguments) k h e =
       if_no_label _ None (option_and_then (λ ts. option_map (λ class. ClassTy class) (class_number p.names name)) (all_types types arguments)) none_no_label
       (λ e. (let a = of_option (all_types types arguments) (λ ts. option_map (λ class. ClassTy class) (class_number p.names name)) Label e in class_named_no_label (class_number p.names name) a.2)) e
-  expression_no_label id (NewArray place element size) k h e =
+  expression_no_label id (NewArray position element size) k h e =
       let a = of_option (types size) (λ n. option_and_then array_of (written_type p element)) Label e in
       let b = of_option (written_type p element) array_of Label a.2 in array_no_label b.0 b.2
   expression_no_label id _ k h e = absurd (true≢false (sym k))
@@ -217,11 +217,11 @@ module _ (forest : Forest) (accepted : IsAccepted forest) (whole : IsForest fore
   abbrev NoLabelBelow : ℕ → Type 0
   NoLabelBelow n = (x : ℕ) (node : Node) → x < n → slice_get forest.nodes x ≡ Some node → is_expression node ≡ true → NoLabel (types x)
 
-  inner_at : (id : ℕ) (node : Node) (place : Pos) (inner : ℕ) → slice_get forest.nodes id ≡ Some node → node ≡ Parenthesized place inner → (o : Of is_expression forest.nodes inner) × (inner < id)
+  inner_at : (id : ℕ) (node : Node) (position : Pos) (inner : ℕ) → slice_get forest.nodes id ≡ Some node → node ≡ Parenthesized position inner → (o : Of is_expression forest.nodes inner) × (inner < id)
   unfolding HasRightChildren children
-  inner_at id node place inner there e =
-      let stands : slice_get forest.nodes id ≡ Some (Parenthesized place inner) = there ∙ ap (λ n. Some n) e in
-      (sorted.each id (Parenthesized place inner) stands, child-less forest whole id inner (Parenthesized place inner) stands (same_first forest accepted whole sorted inner []))
+  inner_at id node position inner there e =
+      let stands : slice_get forest.nodes id ≡ Some (Parenthesized position inner) = there ∙ ap (λ n. Some n) e in
+      (sorted.each id (Parenthesized position inner) stands, child-less forest whole id inner (Parenthesized position inner) stands (same_first forest accepted whole sorted inner []))
 
   no_label_below : (n : ℕ) → NoLabelBelow n
   no_label_below zero x node l there k e = omega (arith, l)
@@ -229,7 +229,7 @@ module _ (forest : Forest) (accepted : IsAccepted forest) (whole : IsForest fore
     where
       step : NoLabelBelow n → ⊥
       step ih =
-          expression_no_label x node k (λ place inner same. (let i = inner_at x node place inner there same in let o = i.0 in ih inner o.node (let m = i.1 in omega (arith, l, m)) o.is_there o.passes))
+          expression_no_label x node k (λ position inner same. (let i = inner_at x node position inner there same in let o = i.0 in ih inner o.node (let m = i.1 in omega (arith, l, m)) o.is_there o.passes))
           (sym (type_is forest accepted whole sorted x node there) ∙ e)
 
   -- each expression in a body is judged

@@ -256,9 +256,9 @@ module _ (forest : Forest) (accepted : IsAccepted forest) (whole : IsForest fore
       go None a None g true None object class bound kind = absurd (cc (kind))
       go None a None g false o object class bound kind = absurd (cc (kind))
 
-  pub name_facts : (b c id : ℕ) (place : Pos) (name : List ℕ) (k : Kind) → slice_get forest.nodes id ≡ Some (SimpleName place name) → Inside p b c id → IsValue p id (SimpleName place name) → Judged p id (Some k) → NameFacts p b c id name k
+  pub name_facts : (b c id : ℕ) (position : Pos) (name : List ℕ) (k : Kind) → slice_get forest.nodes id ≡ Some (SimpleName position name) → Inside p b c id → IsValue p id (SimpleName position name) → Judged p id (Some k) → NameFacts p b c id name k
   unfolding Judged type_of scope_of binding_of class_at_name
-  name_facts b c id place name k there inside v judged =
-      let w = right_name p (type_at_node p) id place name (unbroken forest accepted whole sorted id (SimpleName place name) there) in
-      by_meaning b c id name k inside w.has_object v.no_class (binding_is id (SimpleName place name) there)
-      (sym (ap (λ (o : Option Ty). kind_of o (scope_at_node p id)) (type_is forest accepted whole sorted id (SimpleName place name) there) ∙ ap (kind_of (type_of_meaning p (meaning p id name))) (scope_is forest accepted whole sorted id (SimpleName place name) there)) ∙ judged)
+  name_facts b c id position name k there inside v judged =
+      let w = right_name p (type_at_node p) id position name (unbroken forest accepted whole sorted id (SimpleName position name) there) in
+      by_meaning b c id name k inside w.has_object v.no_class (binding_is id (SimpleName position name) there)
+      (sym (ap (λ (o : Option Ty). kind_of o (scope_at_node p id)) (type_is forest accepted whole sorted id (SimpleName position name) there) ∙ ap (kind_of (type_of_meaning p (meaning p id name))) (scope_is forest accepted whole sorted id (SimpleName position name) there)) ∙ judged)

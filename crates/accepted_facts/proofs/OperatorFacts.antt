@@ -149,10 +149,10 @@ module _ (forest : Forest) (accepted : IsAccepted forest) (whole : IsForest fore
   unfolding Judged
   judged_as x t k e h = ap (λ o. kind_of o (scopes x)) e ∙ h
 
-  pub binary_facts : (b c id operator left operand : ℕ) (place : Pos) (k : Kind) → slice_get forest.nodes id ≡ Some (Binary place operator left operand) → Inside p b c id → Judged p id (Some k) → BinaryFacts p b c id operator left operand k
+  pub binary_facts : (b c id operator left operand : ℕ) (position : Pos) (k : Kind) → slice_get forest.nodes id ≡ Some (Binary position operator left operand) → Inside p b c id → Judged p id (Some k) → BinaryFacts p b c id operator left operand k
   unfolding children is_argument is_expression object_of takes_parts HasRightChildren declared_before type_of
-  binary_facts b c id operator left operand place k there inside judged =
-      let node : Node = Binary place operator left operand in
+  binary_facts b c id operator left operand position k there inside judged =
+      let node : Node = Binary position operator left operand in
       let s = sorted.each id node there in
       let first = same_first forest accepted whole sorted left (operand ∷ []) in
       let second = same_second forest accepted whole sorted left operand [] in
@@ -185,10 +185,10 @@ module _ (forest : Forest) (accepted : IsAccepted forest) (whole : IsForest fore
           let same : number ≡ k = some_inj number k (sym (int_of o) ∙ ap (λ t. kind_of (Some t) o) g.1 ∙ h) in
           (int_kind_of a s g.0 ∙ ap (λ k. Some k) same, inr (sym same))
 
-  pub unary_facts : (b c id operator operand : ℕ) (place : Pos) (k : Kind) → slice_get forest.nodes id ≡ Some (Unary place operator operand) → Inside p b c id → Judged p id (Some k) → UnaryFacts p b c id operator operand k
+  pub unary_facts : (b c id operator operand : ℕ) (position : Pos) (k : Kind) → slice_get forest.nodes id ≡ Some (Unary position operator operand) → Inside p b c id → Judged p id (Some k) → UnaryFacts p b c id operator operand k
   unfolding children is_argument is_expression object_of takes_parts HasRightChildren declared_before type_of
-  unary_facts b c id operator operand place k there inside judged =
-      let node : Node = Unary place operator operand in
+  unary_facts b c id operator operand position k there inside judged =
+      let node : Node = Unary position operator operand in
       let s = sorted.each id node there in
       let first = same_first forest accepted whole sorted operand [] in
       let x = child_at forest accepted whole sorted b c id node there inside refl operand first (of_expression forest accepted whole sorted operand s) refl refl in

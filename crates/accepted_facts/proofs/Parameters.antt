@@ -37,9 +37,9 @@ use Rattle.accepted_facts.specs.Methods.{Takes, kind_of_parameter, kinds_taken}
 
 variable_number : (nodes : List Node) (x : ℕ) (node : Node) (d : Declared) → variable_of nodes x node ≡ Some d → d.node ≡ x
 unfolding variable_of
-variable_number nodes x (Parameter place name flags declared_type) d e = sym (ap (λ (d : Declared). d.node) (some_inj _ d e))
-variable_number nodes x (Local place name flags declared_type) d e = sym (ap (λ (d : Declared). d.node) (some_inj _ d e))
-variable_number nodes x (LocalWithValue place name_place name flags declared_type value) d e = sym (ap (λ (d : Declared). d.node) (some_inj _ d e))
+variable_number nodes x (Parameter position name flags declared_type) d e = sym (ap (λ (d : Declared). d.node) (some_inj _ d e))
+variable_number nodes x (Local position name flags declared_type) d e = sym (ap (λ (d : Declared). d.node) (some_inj _ d e))
+variable_number nodes x (LocalWithValue position name_place name flags declared_type value) d e = sym (ap (λ (d : Declared). d.node) (some_inj _ d e))
 variable_number nodes x _ d e = absurd (cc (e))
 
 module _ (forest : Forest) (accepted : IsAccepted forest) (whole : IsForest forest) (sorted : IsWellSorted forest.nodes) where
@@ -55,17 +55,17 @@ module _ (forest : Forest) (accepted : IsAccepted forest) (whole : IsForest fore
   pub listed_parameter : (b c q : ℕ) (node list_node : Node) (d : Declared) → slice_get forest.nodes b ≡ Some node → is_member node ≡ true → is_no_class node ≡ true → (context p b).class ≡ Some c → is_among q (children node) ≡ true
       → slice_get forest.nodes q ≡ Some list_node → (ds : List Declared) → parameters_of p.nodes list_node ≡ Some ds → In d ds → IsParameter b c d
   unfolding child_context parameters_of children is_member is_no_class declarations_of
-  listed_parameter b c q node (Parameters place list) d at member plain class among stands ds e h =
+  listed_parameter b c q node (Parameters position list) d at member plain class among stands ds e h =
       let m = mapped_in (variable_at forest.nodes) d list (subst (In d) (sym (some_inj _ ds e)) h) in
       let n = bound (slice_get forest.nodes m.0) (variable_of forest.nodes m.0) d m.2 in
       let same : d.node ≡ m.0 = variable_number forest.nodes m.0 n.0 d n.2 in
       let up = child_context_is forest whole b q node at among in
-      let down = child_context_is forest whole q m.0 (Parameters place list) stands (among_in m.0 list m.1) in
+      let down = child_context_is forest whole q m.0 (Parameters position list) stands (among_in m.0 list m.1) in
       let class_q : (context p q).class ≡ Some c = ap (λ (x : Context). x.class) up ∙ ap (λ o. or_else o (context p b).class) (no_class_number forest whole b node at plain) ∙ class in
       let member_q : (context p q).member ≡ Some b = ap (λ (x : Context). x.member) up ∙ ap (λ t. if t then Some b else (context p b).member) member in
       record {
         is_there = ap (variable_at p.nodes) same ∙ m.2;
-        class = ap (λ x. (context p x).class) same ∙ ap (λ (x : Context). x.class) down ∙ ap (λ o. or_else o (context p q).class) (no_class_number forest whole q (Parameters place list) stands refl) ∙ class_q;
+        class = ap (λ x. (context p x).class) same ∙ ap (λ (x : Context). x.class) down ∙ ap (λ o. or_else o (context p q).class) (no_class_number forest whole q (Parameters position list) stands refl) ∙ class_q;
         member = ap (λ x. (context p x).member) same ∙ ap (λ (x : Context). x.member) down ∙ member_q;
       }
   listed_parameter b c q node _ d at member plain class among stands ds e h = absurd (cc (e))
@@ -77,23 +77,23 @@ module _ (forest : Forest) (accepted : IsAccepted forest) (whole : IsForest fore
   pub at_front : (q : ℕ) (o : Option ℕ) (ys : List ℕ) → o ≡ Some q → is_among q (optional o ++ ys) ≡ true
   at_front q o ys e = ap (λ o. is_among q (optional o ++ ys)) e ∙ or_left (q == q) _ (is_same_number q q refl)
 
-  method_parameter : (b c q : ℕ) (place : Pos) (name : List ℕ) (flags parameters : Option ℕ) (result_type : ℕ) (body : Option ℕ) (n : Node) (d : Declared) → slice_get forest.nodes b ≡ Some (MethodNode place name flags result_type parameters body) → (context p b).class ≡ Some c
+  method_parameter : (b c q : ℕ) (position : Pos) (name : List ℕ) (flags parameters : Option ℕ) (result_type : ℕ) (body : Option ℕ) (n : Node) (d : Declared) → slice_get forest.nodes b ≡ Some (MethodNode position name flags result_type parameters body) → (context p b).class ≡ Some c
       → parameters ≡ Some q → slice_get forest.nodes q ≡ Some n → (ds : List Declared) → parameters_of p.nodes n ≡ Some ds → In d ds → IsParameter b c d
   unfolding children is_member is_no_class
-  method_parameter b c q place name flags parameters result_type body n d at class e stands ds k h =
-      listed_parameter b c q (MethodNode place name flags result_type parameters body) n d at refl refl class
+  method_parameter b c q position name flags parameters result_type body n d at class e stands ds k h =
+      listed_parameter b c q (MethodNode position name flags result_type parameters body) n d at refl refl class
       (behind q (optional flags) _ (or_right (q == result_type) _ (at_front q parameters (optional body) e))) stands ds k h
 
   of_method : (b c : ℕ) (node : Node) (m : DeclaredMethod) (d : Declared) → slice_get forest.nodes b ≡ Some node → method_of p.nodes b node ≡ Some m → (context p b).class ≡ Some c → In d m.parameters → IsParameter b c d
   unfolding method_of declarations_of
-  of_method b c (MethodNode place name flags result_type parameters body) m d at is class h = go parameters refl (subst (In d) (sym (ap (λ (m : DeclaredMethod). m.parameters) (some_inj _ m is))) h)
+  of_method b c (MethodNode position name flags result_type parameters body) m d at is class h = go parameters refl (subst (In d) (sym (ap (λ (m : DeclaredMethod). m.parameters) (some_inj _ m is))) h)
     where
       none : In d [] → ⊥
       none h = elim h [ ]
 
       by_list : (q : ℕ) → parameters ≡ Some q → (n : Node) → slice_get forest.nodes q ≡ Some n → (ds : Option (List Declared)) → parameters_of forest.nodes n ≡ ds → In d (unwrap_or ds []) → IsParameter b c d
       by_list q e n stands None k h = absurd (none h)
-      by_list q e n stands (Some ds) k h = method_parameter b c q place name flags parameters result_type body n d at class e stands ds k h
+      by_list q e n stands (Some ds) k h = method_parameter b c q position name flags parameters result_type body n d at class e stands ds k h
 
       listed : (q : ℕ) → parameters ≡ Some q → (n : Option Node) → slice_get forest.nodes q ≡ n → In d (unwrap_or (option_and_then (parameters_of forest.nodes) n) []) → IsParameter b c d
       listed q e None stands h = absurd (none h)
@@ -111,7 +111,7 @@ module _ (forest : Forest) (accepted : IsAccepted forest) (whole : IsForest fore
 
   static_is : (b : ℕ) (node : Node) (m : DeclaredMethod) → slice_get p.nodes b ≡ Some node → method_of p.nodes b node ≡ Some m → is_static_member p.nodes b ≡ m.declared.modifiers.is_static
   unfolding method_of member_flags
-  static_is b (MethodNode place name flags result_type parameters body) m at is =
+  static_is b (MethodNode position name flags result_type parameters body) m at is =
       ap (λ (o : Option Node). holds (option_and_then member_flags o) (λ flags. (modifiers_at p.nodes flags).is_static)) at ∙ ap (λ (m : DeclaredMethod). m.declared.modifiers.is_static) (some_inj _ m is)
   static_is b _ m at is = absurd (cc (is))
 

@@ -85,36 +85,36 @@ module _ (forest : Forest) (accepted : IsAccepted forest) (whole : IsForest fore
 
   -- ---- declarations with a value (JLS 14.4)
 
-  rules_of_local : (id : ℕ) (place name_place : Pos) (name : List ℕ) (flags : Option ℕ) (declared_type value : ℕ) → slice_get forest.nodes id ≡ Some (LocalWithValue place name_place name flags declared_type value)
+  rules_of_local : (id : ℕ) (position name_place : Pos) (name : List ℕ) (flags : Option ℕ) (declared_type value : ℕ) → slice_get forest.nodes id ≡ Some (LocalWithValue position name_place name flags declared_type value)
       → (misfits_initial_value p types declared_type value ≡ false) × (misfit_scope (scopes value) (variable_scope_at p id) ≡ false)
   unfolding type_breaks t1 t2 t3 t4 t5 t6 t7 t8 t9 t10 t11 t12 t13 t14 use_breaks e1 e2 e3 e4_and_e5 e6 e7 e8 e9 e10
-  rules_of_local id place name_place name flags declared_type value there =
-      let node : Node = LocalWithValue place name_place name flags declared_type value in
-      let after = both_empty (broken (is_declared_already p id name) T2 name_place) (broken (misfits_initial_value p types declared_type value) T7 place ++ []) (unbroken forest accepted whole sorted id node there) in (
-        right (misfits_initial_value p types declared_type value) T7 place (both_empty (broken (misfits_initial_value p types declared_type value) T7 place) [] after.1).0,
-        right (misfit_scope (scopes value) (variable_scope_at p id)) E4 place (both_empty (broken (misfit_scope (scopes value) (variable_scope_at p id)) E4 place) [] (use_unbroken forest accepted whole sorted id node there)).0,
+  rules_of_local id position name_place name flags declared_type value there =
+      let node : Node = LocalWithValue position name_place name flags declared_type value in
+      let after = both_empty (broken (is_declared_already p id name) T2 name_place) (broken (misfits_initial_value p types declared_type value) T7 position ++ []) (unbroken forest accepted whole sorted id node there) in (
+        right (misfits_initial_value p types declared_type value) T7 position (both_empty (broken (misfits_initial_value p types declared_type value) T7 position) [] after.1).0,
+        right (misfit_scope (scopes value) (variable_scope_at p id)) E4 position (both_empty (broken (misfit_scope (scopes value) (variable_scope_at p id)) E4 position) [] (use_unbroken forest accepted whole sorted id node there)).0,
       )
 
-  local_is : (id : ℕ) (place name_place : Pos) (name : List ℕ) (flags : Option ℕ) (declared_type value : ℕ) → slice_get p.nodes id ≡ Some (LocalWithValue place name_place name flags declared_type value) → (d : Declared) × (variable_at p.nodes id ≡ Some d) × (declared_type_of p d ≡ written_type p declared_type)
+  local_is : (id : ℕ) (position name_place : Pos) (name : List ℕ) (flags : Option ℕ) (declared_type value : ℕ) → slice_get p.nodes id ≡ Some (LocalWithValue position name_place name flags declared_type value) → (d : Declared) × (variable_at p.nodes id ≡ Some d) × (declared_type_of p d ≡ written_type p declared_type)
   unfolding variable_of
-  local_is id place name_place name flags declared_type value there = (_, ap (λ (o : Option Node). option_and_then (variable_of p.nodes id) o) there, refl)
+  local_is id position name_place name flags declared_type value there = (_, ap (λ (o : Option Node). option_and_then (variable_of p.nodes id) o) there, refl)
 
   behind : (q : ℕ) (xs ys : List ℕ) → is_among q ys ≡ true → is_among q (xs ++ ys) ≡ true
   behind q [] ys h = h
   behind q (x ∷ xs) ys h = or_right (q == x) (is_among q (xs ++ ys)) (behind q xs ys h)
 
-  pub initial_value_facts : (b c id value declared_type : ℕ) (place name_place : Pos) (name : List ℕ) (flags : Option ℕ) → slice_get forest.nodes id ≡ Some (LocalWithValue place name_place name flags declared_type value) → Inside p b c id → InitialValueFacts p b c id value
+  pub initial_value_facts : (b c id value declared_type : ℕ) (position name_place : Pos) (name : List ℕ) (flags : Option ℕ) → slice_get forest.nodes id ≡ Some (LocalWithValue position name_place name flags declared_type value) → Inside p b c id → InitialValueFacts p b c id value
   unfolding children is_inner object_of takes_parts HasRightChildren declared_before kind_of_variable
-  initial_value_facts b c id value declared_type place name_place name flags there inside =
-      let node : Node = LocalWithValue place name_place name flags declared_type value in
+  initial_value_facts b c id value declared_type position name_place name flags there inside =
+      let node : Node = LocalWithValue position name_place name flags declared_type value in
       let w = (sorted.each id node there).2 in
       let among = behind value (optional flags) (declared_type ∷ value ∷ []) (or_right (value == declared_type) _ (or_left (value == value) _ (is_same_number value value refl))) in
       let y = statement_value forest accepted whole sorted b c id value node there inside refl among (of_expression forest accepted whole sorted value w) refl refl in
       let t = type_of_value forest accepted whole sorted b c id value y in
-      let d = local_is id place name_place name flags declared_type value (at_p forest accepted whole sorted id node there) in
+      let d = local_is id position name_place name flags declared_type value (at_p forest accepted whole sorted id node there) in
       let u = variable_has_type forest accepted sorted id d.0 d.1 in
       let k = has_kind u.0 (variable_scope_at p id) (variable_holds forest sorted id d.0 u.0 d.1 u.1) (λ r. variable_has_scope forest accepted whole sorted id b c d.0 u.0 d.1 inside.class inside.member u.1 r) in
-      let rules = rules_of_local id place name_place name flags declared_type value there in
+      let rules = rules_of_local id position name_place name flags declared_type value there in
       let fit : assigns p.classes t.0 u.0 ≡ true = not_false (assigns p.classes t.0 u.0)
       (sym (ap (λ (o : Option Ty). holds o (λ u. holds (types value) (λ v. not (assigns p.classes v u)))) (sym d.2 ∙ u.1) ∙ ap (λ (o : Option Ty). holds o (λ v. not (assigns p.classes v u.0))) t.1) ∙ rules.0) in
       let j = value_fits forest accepted whole sorted b c id value u.0 (variable_scope_at p id) k.0 y w.node w.is_there w.passes k.1 (λ t2 e. ap (λ t. assigns p.classes t u.0) (some_inj t2 t.0 (sym e ∙ t.1)) ∙ fit) rules.1 in
@@ -131,12 +131,12 @@ module _ (forest : Forest) (accepted : IsAccepted forest) (whole : IsForest fore
   -- the member around a node, where it is a method with this result
   method_result : (b : ℕ) (node : Node) (m : DeclaredMethod) → slice_get p.nodes b ≡ Some node → method_of p.nodes b node ≡ Some m → (result : ℕ) × (result_of_member node ≡ Some result) × (type_at p.nodes result ≡ m.declared.declared_type)
   unfolding method_of result_of_member
-  method_result b (MethodNode place name flags result_type parameters body) m at is = (result_type, refl, ap (λ (m : DeclaredMethod). m.declared.declared_type) (some_inj _ m is))
+  method_result b (MethodNode position name flags result_type parameters body) m at is = (result_type, refl, ap (λ (m : DeclaredMethod). m.declared.declared_type) (some_inj _ m is))
   method_result b _ m at is = absurd (cc (is))
 
   no_method_result : (b : ℕ) (node : Node) → method_of p.nodes b node ≡ None → result_of_member node ≡ None
   unfolding method_of result_of_member
-  no_method_result b (MethodNode place name flags result_type parameters body) e = absurd (cc (e))
+  no_method_result b (MethodNode position name flags result_type parameters body) e = absurd (cc (e))
   no_method_result b _ e = refl
 
   result_is : (b id : ℕ) (m : DeclaredMethod) → (context p id).member ≡ Some b → method_at p.nodes b ≡ Some m → result_at p id ≡ m.declared.declared_type
@@ -155,11 +155,11 @@ module _ (forest : Forest) (accepted : IsAccepted forest) (whole : IsForest fore
       go None k = refl
       go (Some node) k = ap (λ (o : Option ℕ). elim o as (λ _. WrittenType) [ None ↦ void_type | Some result ↦ type_at p.nodes result ]) (no_method_result b node k)
 
-  rules_of_return : (id : ℕ) (place : Pos) (value : ℕ) → slice_get forest.nodes id ≡ Some (Return place (Some value)) → (misfits_result p types id value ≡ false) × (misfit_scope (scopes value) (result_scope_at p id) ≡ false)
+  rules_of_return : (id : ℕ) (position : Pos) (value : ℕ) → slice_get forest.nodes id ≡ Some (Return position (Some value)) → (misfits_result p types id value ≡ false) × (misfit_scope (scopes value) (result_scope_at p id) ≡ false)
   unfolding use_breaks e1 e2 e3 e4_and_e5 e6 e7 e8 e9 e10
-  rules_of_return id place value there = (
-    right_return p types id place value (unbroken forest accepted whole sorted id (Return place (Some value)) there),
-    right (misfit_scope (scopes value) (result_scope_at p id)) E6 place (both_empty (broken (misfit_scope (scopes value) (result_scope_at p id)) E6 place) [] (use_unbroken forest accepted whole sorted id (Return place (Some value)) there)).0,
+  rules_of_return id position value there = (
+    right_return p types id position value (unbroken forest accepted whole sorted id (Return position (Some value)) there),
+    right (misfit_scope (scopes value) (result_scope_at p id)) E6 position (both_empty (broken (misfit_scope (scopes value) (result_scope_at p id)) E6 position) [] (use_unbroken forest accepted whole sorted id (Return position (Some value)) there)).0,
   )
 
   fits_parts : (w : WrittenType) (t : Ty) → fits_result p w t ≡ true → ((is_same_type w long_type ≡ true) × (is_int t ≡ true)) ⊎ ((is_same_type w void_type ≡ false) × ((u : Ty) × (type_written p.names w ≡ Some u) × (assigns p.classes t u ≡ true)))
@@ -181,12 +181,12 @@ module _ (forest : Forest) (accepted : IsAccepted forest) (whole : IsForest fore
   unfolding is_same_type
   void_not_long e = true≢false (sym e)
 
-  pub return_facts : (b c id value : ℕ) (place : Pos) → slice_get forest.nodes id ≡ Some (Return place (Some value)) → Inside p b c id → ReturnFacts p b c id value
+  pub return_facts : (b c id value : ℕ) (position : Pos) → slice_get forest.nodes id ≡ Some (Return position (Some value)) → Inside p b c id → ReturnFacts p b c id value
   unfolding children is_inner object_of takes_parts HasRightChildren declared_before result_scope_at
-  return_facts b c id value place there inside = by_member (method_at p.nodes b) refl
+  return_facts b c id value position there inside = by_member (method_at p.nodes b) refl
     where
       node : Node
-      node = Return place (Some value)
+      node = Return position (Some value)
 
       w : Of is_expression forest.nodes value
       w = sorted.each id node there
@@ -198,7 +198,7 @@ module _ (forest : Forest) (accepted : IsAccepted forest) (whole : IsForest fore
       t = type_of_value forest accepted whole sorted b c id value y
 
       rules : (misfits_result p types id value ≡ false) × (misfit_scope (scopes value) (result_scope_at p id) ≡ false)
-      rules = rules_of_return id place value there
+      rules = rules_of_return id position value there
 
       fits : fits_result p (result_at p id) t.0 ≡ true
       fits = not_false (fits_result p (result_at p id) t.0) (sym (ap (λ (o : Option Ty). holds o (λ t. not (fits_result p (result_at p id) t))) t.1) ∙ rules.0)
@@ -244,8 +244,8 @@ module _ (forest : Forest) (accepted : IsAccepted forest) (whole : IsForest fore
           [ inl long ↦ void_not_long long.0 | inr q ↦ true≢false (sym void_type_same ∙ q.0) ])
 
   -- a `return` without a value stands in no method that gives one
-  pub returns_nothing : (b c id : ℕ) (place : Pos) (m : DeclaredMethod) → slice_get forest.nodes id ≡ Some (Return place None) → Inside p b c id → method_at p.nodes b ≡ Some m → m.declared.declared_type ≡ void_type
+  pub returns_nothing : (b c id : ℕ) (position : Pos) (m : DeclaredMethod) → slice_get forest.nodes id ≡ Some (Return position None) → Inside p b c id → method_at p.nodes b ≡ Some m → m.declared.declared_type ≡ void_type
   unfolding type_breaks t1 t2 t3 t4 t5 t6 t7 t8 t9 t10 t11 t12 t13 t14
-  returns_nothing b c id place m there inside k =
-      let e = right (lacks_value p id) T9 place (both_empty (broken (lacks_value p id) T9 place) [] (unbroken forest accepted whole sorted id (Return place None) there)).0 in
+  returns_nothing b c id position m there inside k =
+      let e = right (lacks_value p id) T9 position (both_empty (broken (lacks_value p id) T9 position) [] (unbroken forest accepted whole sorted id (Return position None) there)).0 in
       same_type m.declared.declared_type void_type (sym (ap (λ w. is_same_type w void_type) (result_is b id m inside.member k)) ∙ not_false (is_same_type (result_at p id) void_type) e)

@@ -168,26 +168,26 @@ module _ (forest : Forest) (accepted : IsAccepted forest) (whole : IsForest fore
       let k = boolean_is t.0 (sym (ap (λ (o : Option Ty). holds o (λ t. not (is_boolean t))) t.1) ∙ right (holds (types x) (λ t. not (is_boolean t))) T8 (place_at p.nodes x) (both_empty (broken (holds (types x) (λ t. not (is_boolean t))) T8 (place_at p.nodes x)) [] e).0) in
       boolean_judged forest accepted whole sorted x (t.1 ∙ ap (λ t. Some t) k)
 
-  pub if_condition : (b c id condition then_part : ℕ) (place : Pos) (else_part : Option ℕ) → slice_get forest.nodes id ≡ Some (If place condition then_part else_part) → Inside p b c id → Operand p b c id condition truth
+  pub if_condition : (b c id condition then_part : ℕ) (position : Pos) (else_part : Option ℕ) → slice_get forest.nodes id ≡ Some (If position condition then_part else_part) → Inside p b c id → Operand p b c id condition truth
   unfolding children is_inner object_of takes_parts HasRightChildren declared_before type_breaks t1 t2 t3 t4 t5 t6 t7 t8 t9 t10 t11 t12 t13 t14
-  if_condition b c id condition then_part place else_part there inside =
-      let node : Node = If place condition then_part else_part in
+  if_condition b c id condition then_part position else_part there inside =
+      let node : Node = If position condition then_part else_part in
       let s = sorted.each id node there in
       let v = statement_value b c id condition node there inside refl (same_first forest accepted whole sorted condition (then_part ∷ optional else_part)) (of_expression forest accepted whole sorted condition s.0) refl refl in
       operand_at forest accepted whole sorted b c id condition node truth there (same_first forest accepted whole sorted condition (then_part ∷ optional else_part)) refl v (condition_at b c id condition v (unbroken forest accepted whole sorted id node there))
 
-  pub while_condition : (b c id condition body : ℕ) (place : Pos) → slice_get forest.nodes id ≡ Some (While place condition body) → Inside p b c id → Operand p b c id condition truth
+  pub while_condition : (b c id condition body : ℕ) (position : Pos) → slice_get forest.nodes id ≡ Some (While position condition body) → Inside p b c id → Operand p b c id condition truth
   unfolding children is_inner object_of takes_parts HasRightChildren declared_before type_breaks t1 t2 t3 t4 t5 t6 t7 t8 t9 t10 t11 t12 t13 t14
-  while_condition b c id condition body place there inside =
-      let node : Node = While place condition body in
+  while_condition b c id condition body position there inside =
+      let node : Node = While position condition body in
       let s = sorted.each id node there in
       let v = statement_value b c id condition node there inside refl (same_first forest accepted whole sorted condition (body ∷ [])) (of_expression forest accepted whole sorted condition s.0) refl refl in
       operand_at forest accepted whole sorted b c id condition node truth there (same_first forest accepted whole sorted condition (body ∷ [])) refl v (condition_at b c id condition v (unbroken forest accepted whole sorted id node there))
 
-  pub for_condition : (b c id first condition step body : ℕ) (place : Pos) → slice_get forest.nodes id ≡ Some (For place first condition step body) → Inside p b c id → ForFacts p b c id condition
+  pub for_condition : (b c id first condition step body : ℕ) (position : Pos) → slice_get forest.nodes id ≡ Some (For position first condition step body) → Inside p b c id → ForFacts p b c id condition
   unfolding children is_inner object_of takes_parts HasRightChildren type_breaks t1 t2 t3 t4 t5 t6 t7 t8 t9 t10 t11 t12 t13 t14
-  for_condition b c id first condition step body place there inside =
-      let node : Node = For place first condition step body in
+  for_condition b c id first condition step body position there inside =
+      let node : Node = For position first condition step body in
       let s = sorted.each id node there in
       let v = statement_value b c id condition node there inside refl (same_second forest accepted whole sorted first condition (step ∷ body ∷ [])) (of_expression forest accepted whole sorted condition s.1) refl refl in
       record { smaller = v.less; inside = v.inside; judged = condition_at b c id condition v (unbroken forest accepted whole sorted id node there) }
@@ -256,18 +256,18 @@ module _ (forest : Forest) (accepted : IsAccepted forest) (whole : IsForest fore
 
   target_holds : (id : ℕ) (node : Node) (u : Ty) → slice_get forest.nodes id ≡ Some node → is_target node ≡ true → type_of p types id node ≡ Some u → holds_values u ≡ true
   unfolding type_of is_target
-  target_holds id (SimpleName place name) u there k e = meaning_holds id name u e
-  target_holds id (FieldAccess place name object) u there k e = (let a = of_option (receiver p types object) (λ r. access_type p r name) u e in access_holds a.0 name u a.2)
-  target_holds id (Element place array index) u there k e =
+  target_holds id (SimpleName position name) u there k e = meaning_holds id name u e
+  target_holds id (FieldAccess position name object) u there k e = (let a = of_option (receiver p types object) (λ r. access_type p r name) u e in access_holds a.0 name u a.2)
+  target_holds id (Element position array index) u there k e =
       let a = of_option (types array) (λ a. option_and_then (λ i. element_type a) (types index)) u e in
       let b = of_option (types index) (λ i. element_type a.0) u a.2 in element_holds a.0 u b.2
   target_holds id _ u there k e = absurd (true≢false (sym k))
 
   target_is_expression : (n : Node) → is_target n ≡ true → is_expression n ≡ true
   unfolding is_target is_expression
-  target_is_expression (SimpleName place name) e = refl
-  target_is_expression (FieldAccess place name object) e = refl
-  target_is_expression (Element place array index) e = refl
+  target_is_expression (SimpleName position name) e = refl
+  target_is_expression (FieldAccess position name object) e = refl
+  target_is_expression (Element position array index) e = refl
   target_is_expression _ e = absurd (true≢false (sym e))
 
   as_expression : (x : ℕ) → Of is_target forest.nodes x → Of is_expression forest.nodes x
@@ -277,30 +277,30 @@ module _ (forest : Forest) (accepted : IsAccepted forest) (whole : IsForest fore
 
   target_has_rule : (id : ℕ) (node : Node) → (rule : Rule) × (target_rule p id node ≡ Some rule)
   unfolding target_rule
-  target_has_rule id (SimpleName place name) = (_, refl)
+  target_has_rule id (SimpleName position name) = (_, refl)
   target_has_rule id _ = (E5, refl)
 
   abbrev Stores : ℕ → ℕ → ℕ → Bool
   Stores id target value = misfit_scope (scopes value) (scopes target) && not (is_guarded_store p types id target value)
 
   -- E4 and E5 at an assignment: the scope fits, or a guard allows the store
-  scopes_pass : (id target value : ℕ) (place : Pos) (node : Node) → slice_get forest.nodes target ≡ Some node →
-      found_at (read p.nodes (target_rule p target) target) (λ rule. broken (Stores id target value) rule place) ≡ [] →
+  scopes_pass : (id target value : ℕ) (position : Pos) (node : Node) → slice_get forest.nodes target ≡ Some node →
+      found_at (read p.nodes (target_rule p target) target) (λ rule. broken (Stores id target value) rule position) ≡ [] →
       (misfit_scope (scopes value) (scopes target) ≡ false) ⊎ (is_guarded_store p types id target value ≡ true)
-  scopes_pass id target value place node there e =
+  scopes_pass id target value position node there e =
       let r = target_has_rule target node in
       let s : read p.nodes (target_rule p target) target ≡ Some r.0 = ap (option_and_then (target_rule p target)) (at_p forest accepted whole sorted target node there) ∙ r.1 in
       either (misfit_scope (scopes value) (scopes target)) (is_guarded_store p types id target value)
-      (right (Stores id target value) r.0 place (sym (ap (λ (o : Option Rule). found_at o (λ rule. broken (Stores id target value) rule place)) s) ∙ e))
+      (right (Stores id target value) r.0 position (sym (ap (λ (o : Option Rule). found_at o (λ rule. broken (Stores id target value) rule position)) s) ∙ e))
     where
       either : (a b : Bool) → (a && not b) ≡ false → (a ≡ false) ⊎ (b ≡ true)
       either false b e = inl refl
       either true true e = inr refl
       either true false e = absurd (true≢false e)
 
-  use_of_assign : (id target value : ℕ) (place : Pos) → use_breaks p types scopes id (Assign place target value) ≡ [] → found_at (read p.nodes (target_rule p target) target) (λ rule. broken (Stores id target value) rule place) ≡ []
+  use_of_assign : (id target value : ℕ) (position : Pos) → use_breaks p types scopes id (Assign position target value) ≡ [] → found_at (read p.nodes (target_rule p target) target) (λ rule. broken (Stores id target value) rule position) ≡ []
   unfolding use_breaks e1 e2 e3 e4_and_e5 e6 e7 e8 e9 e10
-  use_of_assign id target value place e = (both_empty (found_at (read p.nodes (target_rule p target) target) (λ rule. broken (Stores id target value) rule place)) [] e).0
+  use_of_assign id target value position e = (both_empty (found_at (read p.nodes (target_rule p target) target) (λ rule. broken (Stores id target value) rule position)) [] e).0
 
   -- T7 at typed sides
   assigned : (target value : ℕ) (u t : Ty) → types target ≡ Some u → types value ≡ Some t → misfits_assignment p types target value ≡ false → (assigns p.classes t u ≡ true) × (holds (read p.nodes (is_length_target p types) target) (λ b. b) ≡ false)
@@ -319,10 +319,10 @@ module _ (forest : Forest) (accepted : IsAccepted forest) (whole : IsForest fore
       let j = value_fits b c id value u (Some Unknown) (unscoped k) v node there expression (unscoped_kind u (scopes target) k h kind) fit (unknown_taken (scopes value)) in
       (j.0, j.1, inr (j.2, guarded))
 
-  pub assign_facts : (b c id target value : ℕ) (place : Pos) → slice_get forest.nodes id ≡ Some (Assign place target value) → Inside p b c id → AssignFacts p b c id target value
+  pub assign_facts : (b c id target value : ℕ) (position : Pos) → slice_get forest.nodes id ≡ Some (Assign position target value) → Inside p b c id → AssignFacts p b c id target value
   unfolding children is_inner object_of takes_parts HasRightChildren declared_before Judged
-  assign_facts b c id target value place there inside =
-      let node : Node = Assign place target value in
+  assign_facts b c id target value position there inside =
+      let node : Node = Assign position target value in
       let s = sorted.each id node there in
       let o = s.0 in
       let w = s.1 in
@@ -334,8 +334,8 @@ module _ (forest : Forest) (accepted : IsAccepted forest) (whole : IsForest fore
       let t = type_of_value forest accepted whole sorted b c id value y in
       let value_type = target_holds target o.node u.0 o.is_there o.passes (sym (type_is forest accepted whole sorted target o.node o.is_there) ∙ u.1) in
       let k = has_kind u.0 (scopes target) value_type (λ r. scope_of_value forest accepted whole sorted b c id target u.0 x u.1 r) in
-      let types_fit = assigned target value u.0 t.0 u.1 t.1 (right_assign p types id place target value (unbroken forest accepted whole sorted id node there)) in
-      let scopes_fit = scopes_pass id target value place o.node o.is_there (use_of_assign id target value place (use_unbroken id node there)) in
+      let types_fit = assigned target value u.0 t.0 u.1 t.1 (right_assign p types id position target value (unbroken forest accepted whole sorted id node there)) in
+      let scopes_fit = scopes_pass id target value position o.node o.is_there (use_of_assign id target value position (use_unbroken id node there)) in
       let fit : (t2 : Ty) → types value ≡ Some t2 → assigns p.classes t2 u.0 ≡ true = λ t2 e. ap (λ t. assigns p.classes t u.0) (some_inj t2 t.0 (sym e ∙ t.1)) ∙ types_fit.0 in
       let j = stored_fits b c id target value u.0 k.0 value_type y w.node w.is_there w.passes k.1 fit scopes_fit in
       record {

@@ -59,10 +59,10 @@ module _ (forest : Forest) (accepted : IsAccepted forest) (whole : IsForest fore
       and_none (context p x).in_super_call (holds (context p x).class (λ class. holds (form_in p class) (is_among x)))
       (ap (λ (o : Option ℕ). holds o (λ class. holds (form_in p class) (is_among x))) inside.class ∙ ap (λ (o : Option (List ℕ)). holds o (is_among x)) form)
 
-  argument_at : (b c id x superclass : ℕ) (place : Pos) (arguments : List ℕ) → slice_get forest.nodes id ≡ Some (SuperCall place arguments) → Inside p b c id → superclass_in p.classes c ≡ Some superclass → has_form superclass ≡ false → is_among x arguments ≡ true → ValueAt forest accepted whole sorted b c id x
+  argument_at : (b c id x superclass : ℕ) (position : Pos) (arguments : List ℕ) → slice_get forest.nodes id ≡ Some (SuperCall position arguments) → Inside p b c id → superclass_in p.classes c ≡ Some superclass → has_form superclass ≡ false → is_among x arguments ≡ true → ValueAt forest accepted whole sorted b c id x
   unfolding children is_inner object_of HasRightChildren child_context
-  argument_at b c id x superclass place arguments there inside up none among =
-      let node : Node = SuperCall place arguments in
+  argument_at b c id x superclass position arguments there inside up none among =
+      let node : Node = SuperCall position arguments in
       let o : Of is_argument forest.nodes x = among_of forest.nodes is_argument x arguments (sorted.each id node there) among in
       let i = inside_child forest whole accepted b c id x node o.node inside there refl among o.is_there in
       record {
@@ -77,9 +77,9 @@ module _ (forest : Forest) (accepted : IsAccepted forest) (whole : IsForest fore
         };
       }
 
-  use_of_super : (id : ℕ) (place : Pos) (arguments : List ℕ) → use_breaks p types scopes id (SuperCall place arguments) ≡ [] → found_at (superclass_at p id) (e3_of_constructor p scopes (this_at p id) arguments) ≡ []
+  use_of_super : (id : ℕ) (position : Pos) (arguments : List ℕ) → use_breaks p types scopes id (SuperCall position arguments) ≡ [] → found_at (superclass_at p id) (e3_of_constructor p scopes (this_at p id) arguments) ≡ []
   unfolding use_breaks e1 e2 e3 e4_and_e5 e6 e7 e8 e9 e10
-  use_of_super id place arguments e = (both_empty (found_at (superclass_at p id) (e3_of_constructor p scopes (this_at p id) arguments)) [] e).0
+  use_of_super id position arguments e = (both_empty (found_at (superclass_at p id) (e3_of_constructor p scopes (this_at p id) arguments)) [] e).0
 
   super_scoped : (id superclass : ℕ) (arguments : List ℕ) (home : Scope) → superclass_at p id ≡ Some superclass → this_at p id ≡ Some home → found_at (superclass_at p id) (e3_of_constructor p scopes (this_at p id) arguments) ≡ []
       → misfit_arguments p scopes (λ d. option_and_then (substitute (Some home) (Some home)) (constructor_parameter_scope p superclass d)) (constructor_parameters p.classes superclass) arguments ≡ []
@@ -94,10 +94,10 @@ module _ (forest : Forest) (accepted : IsAccepted forest) (whole : IsForest fore
       ∙ ap (λ t. not t && misfit p types (constructor_parameters p.classes superclass) arguments) none
       ∙ ap (λ (o : Option (List Ty)). holds o (λ ts. not (accepts_arguments p (constructor_parameters p.classes superclass) ts))) k) ∙ e)
 
-  pub super_call_facts : (b c id superclass : ℕ) (place : Pos) (arguments : List ℕ) → slice_get forest.nodes id ≡ Some (SuperCall place arguments) → Inside p b c id → superclass_at p id ≡ Some superclass → SuperCallFacts p b c id superclass arguments
+  pub super_call_facts : (b c id superclass : ℕ) (position : Pos) (arguments : List ℕ) → slice_get forest.nodes id ≡ Some (SuperCall position arguments) → Inside p b c id → superclass_at p id ≡ Some superclass → SuperCallFacts p b c id superclass arguments
   unfolding binding_of children declared_before
-  super_call_facts b c id superclass place arguments there inside up =
-      let node : Node = SuperCall place arguments in
+  super_call_facts b c id superclass position arguments there inside up =
+      let node : Node = SuperCall position arguments in
       let above : superclass_in p.classes c ≡ Some superclass = sym (ap (option_and_then (superclass_in p.classes)) inside.class) ∙ up in
       let h = this_has_scope forest accepted whole sorted c in
       let here : this_at p id ≡ Some h.0 = ap (option_and_then (this_in p)) inside.class ∙ h.1 in
@@ -106,11 +106,11 @@ module _ (forest : Forest) (accepted : IsAccepted forest) (whole : IsForest fore
         home = h.0;
         is_home = h.1;
         passes = λ none. (
-            let values : (x : ℕ) → is_among x arguments ≡ true → ValueAt forest accepted whole sorted b c id x = λ x among. argument_at b c id x superclass place arguments there inside above none among in
+            let values : (x : ℕ) → is_among x arguments ≡ true → ValueAt forest accepted whole sorted b c id x = λ x among. argument_at b c id x superclass position arguments there inside above none among in
             let ts = arguments_typed forest accepted whole sorted b c id arguments values in
             let passed = pass forest accepted whole sorted b c id arguments ts.0 (constructor_parameters p.classes superclass) (constructor_parameter_scope p superclass) h.0 h.0 values
             (λ x k among j. operand_at forest accepted whole sorted b c id x node k there among refl (values x among) j) ts.1
-            (super_accepts id superclass arguments ts.0 up ts.1 none (right_super_call p types id place arguments (unbroken forest accepted whole sorted id node there)))
-            (super_scoped id superclass arguments h.0 up here (use_of_super id place arguments (use_unbroken forest accepted whole sorted id node there))) (λ d i. parameters_kinds forest accepted whole sorted superclass d i) in
+            (super_accepts id superclass arguments ts.0 up ts.1 none (right_super_call p types id position arguments (unbroken forest accepted whole sorted id node there)))
+            (super_scoped id superclass arguments h.0 up here (use_of_super id position arguments (use_unbroken forest accepted whole sorted id node there))) (λ d i. parameters_kinds forest accepted whole sorted superclass d i) in
             record { taken = passed.0; takes = takes_are forest accepted whole sorted superclass passed.0 passed.1; passes = passed.2 });
       }

@@ -69,7 +69,7 @@ module _ (forest : Forest) (accepted : IsAccepted forest) (whole : IsForest fore
       left =
           let n = at_class_unbroken forest accepted class row c there_ is in
           sym (ap (λ t. not t && list_any (is_left_open p class) (abstract_methods p.classes class)) plain)
-          ∙ right (leaves_open p class c) C7 c.place (both_empty (broken (leaves_open p class c) C7 c.place) (flat_map (λ (m : DeclaredMethod). broken (has_wrong_body m) C7 m.declared.place) row.methods) n.left_open).0
+          ∙ right (leaves_open p class c) C7 c.position (both_empty (broken (leaves_open p class c) C7 c.position) (flat_map (λ (m : DeclaredMethod). broken (has_wrong_body m) C7 m.declared.position) row.methods) n.left_open).0
 
       among : g.method.declared.modifiers.is_abstract ≡ true → In g.method (abstract_methods p.classes class)
       among a =
@@ -84,9 +84,9 @@ module _ (forest : Forest) (accepted : IsAccepted forest) (whole : IsForest fore
       wrong_body (inl k) = absurd (true≢false (sym (own_of_framework forest accepted q.0 d.row name g d.is_row k q.2) ∙ user))
       wrong_body (inr w) =
           let n = at_class_unbroken forest accepted q.0 d.row w.2.class d.is_row (written_of forest accepted whole sorted w.0 d.row w.2) in
-          right (has_wrong_body g.method) C7 g.method.declared.place
-          (flat_none (λ (m : DeclaredMethod). broken (has_wrong_body m) C7 m.declared.place) g.method d.row.methods
-          (both_empty (broken (leaves_open p q.0 w.2.class) C7 w.2.class.place) (flat_map (λ (m : DeclaredMethod). broken (has_wrong_body m) C7 m.declared.place) d.row.methods) n.left_open).1 d.among)
+          right (has_wrong_body g.method) C7 g.method.declared.position
+          (flat_none (λ (m : DeclaredMethod). broken (has_wrong_body m) C7 m.declared.position) g.method d.row.methods
+          (both_empty (broken (leaves_open p q.0 w.2.class) C7 w.2.class.position) (flat_map (λ (m : DeclaredMethod). broken (has_wrong_body m) C7 m.declared.position) d.row.methods) n.left_open).1 d.among)
 
       go : (t : Bool) → g.method.declared.modifiers.is_abstract ≡ t → is_some g.method.body ≡ true
       go true a = absurd (true≢false (sym (open_there a) ∙ none_passes (is_left_open p class) (abstract_methods p.classes class) g.method left (among a)))

@@ -48,9 +48,9 @@ nothing_at p rule e id node at =
     sym (ap (λ o. elim o as (λ _. List Found) [ None ↦ [] | Some node ↦ rule id node ]) at)
     ∙ empty_below (λ id. elim (slice_get p.nodes id) as (λ _. List Found) [ None ↦ [] | Some node ↦ rule id node ]) (length p.nodes) id e (slice_get_within p.nodes id node at)
 
-pub right : (test : Bool) (rule : Rule) (place : Pos) → broken test rule place ≡ [] → test ≡ false
-right true rule place e = absurd (cc (e))
-right false rule place e = refl
+pub right : (test : Bool) (rule : Rule) (position : Pos) → broken test rule position ≡ [] → test ≡ false
+right true rule position e = absurd (cc (e))
+right false rule position e = refl
 
 numbers_empty : {A : Type 0} (f : ℕ → List Found) (xs : List A) (n k : ℕ) → flat_map f (numbers_from n xs) ≡ [] → k < length xs → f (n + k) ≡ []
 unfolding numbers_from

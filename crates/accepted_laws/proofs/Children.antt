@@ -40,59 +40,59 @@ module _ (nodes : List Node) where
   -- the children of what is no class are inner
   pub inner_children : (node : Node) → is_no_class node ≡ true → HasRightChildren nodes node → AllOf is_inner nodes (children node)
   unfolding HasRightChildren children is_no_class
-  inner_children (Class place name flags header members) e h = absurd (true≢false (sym e))
-  inner_children (Flags place define_scope scope runs_in is_static is_abstract is_synchronized) e h =
+  inner_children (Class position name flags header members) e h = absurd (true≢false (sym e))
+  inner_children (Flags position define_scope scope runs_in is_static is_abstract is_synchronized) e h =
       both is_inner (optional define_scope) _ (maybe is_define_scope is_inner inner_define_scope define_scope h.0) (both is_inner (optional scope) _ (maybe is_scope_name is_inner inner_scope_name scope h.1) (maybe is_scope_name is_inner inner_scope_name runs_in h.2))
-  inner_children (DefineScope place first second parent_first) e h = (one is_scope_name is_inner inner_scope_name h.0, (one is_scope_name is_inner inner_scope_name h.1, tt))
-  inner_children (Supers place superclass interfaces) e h = both is_inner (optional superclass) _ (maybe is_super_type is_inner inner_super_type superclass h.0) (listed is_super_type is_inner inner_super_type interfaces h.1)
-  inner_children (SuperType place name argument) e h = maybe is_type_argument is_inner inner_type_argument argument h
-  inner_children (ClassType place name argument is_array) e h = maybe is_type_argument is_inner inner_type_argument argument h
-  inner_children (Field place name flags declared_type equals value) e h = both is_inner (optional flags) _ (maybe is_flags is_inner inner_flags flags h.0) (one is_type is_inner inner_type h.1, maybe is_literal is_inner inner_literal value h.2)
-  inner_children (Method place name flags result_type parameters body) e h =
+  inner_children (DefineScope position first second parent_first) e h = (one is_scope_name is_inner inner_scope_name h.0, (one is_scope_name is_inner inner_scope_name h.1, tt))
+  inner_children (Supers position superclass interfaces) e h = both is_inner (optional superclass) _ (maybe is_super_type is_inner inner_super_type superclass h.0) (listed is_super_type is_inner inner_super_type interfaces h.1)
+  inner_children (SuperType position name argument) e h = maybe is_type_argument is_inner inner_type_argument argument h
+  inner_children (ClassType position name argument is_array) e h = maybe is_type_argument is_inner inner_type_argument argument h
+  inner_children (Field position name flags declared_type equals value) e h = both is_inner (optional flags) _ (maybe is_flags is_inner inner_flags flags h.0) (one is_type is_inner inner_type h.1, maybe is_literal is_inner inner_literal value h.2)
+  inner_children (Method position name flags result_type parameters body) e h =
       both is_inner (optional flags) _ (maybe is_flags is_inner inner_flags flags h.0) (one is_result is_inner inner_result h.1, both is_inner (optional parameters) _ (maybe is_parameter_list is_inner inner_parameter_list parameters h.2) (maybe is_block is_inner inner_block body h.3))
-  inner_children (Constructor place name flags parameters super_call body) e h =
+  inner_children (Constructor position name flags parameters super_call body) e h =
       both is_inner (optional flags) _ (maybe is_flags is_inner inner_flags flags h.0) (both is_inner (optional parameters) _ (maybe is_parameter_list is_inner inner_parameter_list parameters h.1)
       (both is_inner (optional super_call) _ (maybe is_super_call is_inner inner_super_call super_call h.2) (one is_block is_inner inner_block h.3, tt)))
-  inner_children (Parameters place list) e h = listed is_parameter is_inner inner_parameter list h
-  inner_children (Parameter place name flags declared_type) e h = both is_inner (optional flags) _ (maybe is_flags is_inner inner_flags flags h.0) (one is_type is_inner inner_type h.1, tt)
-  inner_children (SuperCall place arguments) e h = listed is_argument is_inner inner_argument arguments h
-  inner_children (Block place statements) e h = listed is_statement is_inner inner_statement statements h
-  inner_children (Local place name flags declared_type) e h = both is_inner (optional flags) _ (maybe is_flags is_inner inner_flags flags h.0) (one is_type is_inner inner_type h.1, tt)
-  inner_children (LocalWithValue place name_place name flags declared_type value) e h =
+  inner_children (Parameters position list) e h = listed is_parameter is_inner inner_parameter list h
+  inner_children (Parameter position name flags declared_type) e h = both is_inner (optional flags) _ (maybe is_flags is_inner inner_flags flags h.0) (one is_type is_inner inner_type h.1, tt)
+  inner_children (SuperCall position arguments) e h = listed is_argument is_inner inner_argument arguments h
+  inner_children (Block position statements) e h = listed is_statement is_inner inner_statement statements h
+  inner_children (Local position name flags declared_type) e h = both is_inner (optional flags) _ (maybe is_flags is_inner inner_flags flags h.0) (one is_type is_inner inner_type h.1, tt)
+  inner_children (LocalWithValue position name_place name flags declared_type value) e h =
       both is_inner (optional flags) _ (maybe is_flags is_inner inner_flags flags h.0) (one is_type is_inner inner_type h.1, (one is_expression is_inner inner_expression h.2, tt))
-  inner_children (Assign place target value) e h = (one is_target is_inner inner_target h.0, (one is_expression is_inner inner_expression h.1, tt))
-  inner_children (ExpressionStatement place expression) e h = (one is_invocation is_inner inner_invocation h, tt)
-  inner_children (If place condition then_part else_part) e h = (one is_expression is_inner inner_expression h.0, (one is_statement is_inner inner_statement h.1, maybe is_statement is_inner inner_statement else_part h.2))
-  inner_children (While place condition body) e h = (one is_expression is_inner inner_expression h.0, (one is_statement is_inner inner_statement h.1, tt))
-  inner_children (For place first condition step body) e h = (one is_for_start is_inner inner_for_start h.0, (one is_expression is_inner inner_expression h.1, (one is_assignment is_inner inner_assignment h.2, (one is_statement is_inner inner_statement h.3, tt))))
-  inner_children (Return place value) e h = maybe is_expression is_inner inner_expression value h
-  inner_children (Binary place operator left right) e h = (one is_expression is_inner inner_expression h.0, (one is_expression is_inner inner_expression h.1, tt))
-  inner_children (Unary place operator child) e h = (one is_expression is_inner inner_expression h, tt)
-  inner_children (Cast place name_place name child) e h = (one is_expression is_inner inner_expression h, tt)
-  inner_children (Parenthesized place inner) e h = (one is_expression is_inner inner_expression h, tt)
-  inner_children (FieldAccess place name object) e h = (one is_expression is_inner inner_expression h, tt)
-  inner_children (Call place name object arguments) e h = both is_inner (optional object) _ (maybe is_expression is_inner inner_expression object h.0) (listed is_argument is_inner inner_argument arguments h.1)
-  inner_children (Element place array index) e h = (one is_expression is_inner inner_expression h.0, (one is_expression is_inner inner_expression h.1, tt))
-  inner_children (New place name_place name arguments) e h = listed is_argument is_inner inner_argument arguments h
-  inner_children (NewArray place element length_) e h = (one is_element_type is_inner inner_element_type h.0, (one is_expression is_inner inner_expression h.1, tt))
-  inner_children (ScopeName place name) e h = tt
-  inner_children (TypeArgument place name) e h = tt
-  inner_children (IntType place is_array) e h = tt
-  inner_children (BooleanType place is_array) e h = tt
-  inner_children (VoidType place) e h = tt
-  inner_children (LongType place) e h = tt
-  inner_children (Empty place) e h = tt
-  inner_children (SimpleName place name) e h = tt
-  inner_children (Text place text) e h = tt
-  inner_children (Number place value is_negative) e h = tt
-  inner_children (True place) e h = tt
-  inner_children (False place) e h = tt
-  inner_children (Null place) e h = tt
-  inner_children (This place) e h = tt
+  inner_children (Assign position target value) e h = (one is_target is_inner inner_target h.0, (one is_expression is_inner inner_expression h.1, tt))
+  inner_children (ExpressionStatement position expression) e h = (one is_invocation is_inner inner_invocation h, tt)
+  inner_children (If position condition then_part else_part) e h = (one is_expression is_inner inner_expression h.0, (one is_statement is_inner inner_statement h.1, maybe is_statement is_inner inner_statement else_part h.2))
+  inner_children (While position condition body) e h = (one is_expression is_inner inner_expression h.0, (one is_statement is_inner inner_statement h.1, tt))
+  inner_children (For position first condition step body) e h = (one is_for_start is_inner inner_for_start h.0, (one is_expression is_inner inner_expression h.1, (one is_assignment is_inner inner_assignment h.2, (one is_statement is_inner inner_statement h.3, tt))))
+  inner_children (Return position value) e h = maybe is_expression is_inner inner_expression value h
+  inner_children (Binary position operator left right) e h = (one is_expression is_inner inner_expression h.0, (one is_expression is_inner inner_expression h.1, tt))
+  inner_children (Unary position operator child) e h = (one is_expression is_inner inner_expression h, tt)
+  inner_children (Cast position name_place name child) e h = (one is_expression is_inner inner_expression h, tt)
+  inner_children (Parenthesized position inner) e h = (one is_expression is_inner inner_expression h, tt)
+  inner_children (FieldAccess position name object) e h = (one is_expression is_inner inner_expression h, tt)
+  inner_children (Call position name object arguments) e h = both is_inner (optional object) _ (maybe is_expression is_inner inner_expression object h.0) (listed is_argument is_inner inner_argument arguments h.1)
+  inner_children (Element position array index) e h = (one is_expression is_inner inner_expression h.0, (one is_expression is_inner inner_expression h.1, tt))
+  inner_children (New position name_place name arguments) e h = listed is_argument is_inner inner_argument arguments h
+  inner_children (NewArray position element length_) e h = (one is_element_type is_inner inner_element_type h.0, (one is_expression is_inner inner_expression h.1, tt))
+  inner_children (ScopeName position name) e h = tt
+  inner_children (TypeArgument position name) e h = tt
+  inner_children (IntType position is_array) e h = tt
+  inner_children (BooleanType position is_array) e h = tt
+  inner_children (VoidType position) e h = tt
+  inner_children (LongType position) e h = tt
+  inner_children (Empty position) e h = tt
+  inner_children (SimpleName position name) e h = tt
+  inner_children (Text position text) e h = tt
+  inner_children (Number position value is_negative) e h = tt
+  inner_children (True position) e h = tt
+  inner_children (False position) e h = tt
+  inner_children (Null position) e h = tt
+  inner_children (This position) e h = tt
 
   class_children : (node : Node) → HasRightChildren nodes node → is_no_class node ≡ false → AllOf is_no_class nodes (children node)
   unfolding HasRightChildren children is_no_class
-  class_children (Class place name flags header members) h e =
+  class_children (Class position name flags header members) h e =
       both is_no_class (optional flags) _ (maybe is_flags is_no_class (λ n k. inner_no_class n (inner_flags n k)) flags h.0)
       (both is_no_class (optional header) _ (maybe is_header is_no_class (λ n k. inner_no_class n (inner_header n k)) header h.1) (listed is_member is_no_class member_no_class members h.2))
   class_children _ h e = absurd (true≢false e)
@@ -107,9 +107,9 @@ module _ (nodes : List Node) where
 
 member_not_inner : (n : Node) → is_member n ≡ true → is_inner n ≡ true → ⊥
 unfolding is_member is_inner
-member_not_inner (Field place name flags declared_type equals value) m e = true≢false (sym e)
-member_not_inner (Method place name flags result_type parameters body) m e = true≢false (sym e)
-member_not_inner (Constructor place name flags parameters super_call body) m e = true≢false (sym e)
+member_not_inner (Field position name flags declared_type equals value) m e = true≢false (sym e)
+member_not_inner (Method position name flags result_type parameters body) m e = true≢false (sym e)
+member_not_inner (Constructor position name flags parameters super_call body) m e = true≢false (sym e)
 member_not_inner _ m e = true≢false (sym m)
 
 of_node : (test : Node → Bool) (nodes : List Node) (x : ℕ) (n : Node) → slice_get nodes x ≡ Some n → Of test nodes x → test n ≡ true
@@ -117,7 +117,7 @@ of_node test nodes x n e o = (let same : Some o.node ≡ Some n = sym o.is_there
 
 class_declares_nothing : (nodes : List Node) (node : Node) (x : ℕ) → is_no_class node ≡ false → declared_before nodes node x ≡ []
 unfolding declared_before is_no_class
-class_declares_nothing nodes (Class place name flags header members) x e = refl
+class_declares_nothing nodes (Class position name flags header members) x e = refl
 class_declares_nothing nodes _ x e = absurd (true≢false e)
 
 module _ (forest : Forest) (whole : IsForest forest) (sorted : IsWellSorted forest.nodes) where

@@ -48,7 +48,7 @@ module _ (forest : Forest) (accepted : IsAccepted forest) where
   unfolding c3 classes_above
   user_acyclic a row c e w back =
       let n = at_class_unbroken forest accepted a row c (ap (λ rows. slice_get rows a) (counted_is_written forest accepted) ∙ e) w in
-      true≢false (sym ((chain_comes_back next (length q.written) a (written-stays forest)).1 back) ∙ right (is_cyclic q.written a) _ c.place n.class_cycle)
+      true≢false (sym ((chain_comes_back next (length q.written) a (written-stays forest)).1 back) ∙ right (is_cyclic q.written a) _ c.position n.class_cycle)
 
   framework_acyclic : (a : ℕ) (row : ClassRow) → slice_get q.written a ≡ Some row → IsFrameworkRow a row → ComesBack next a → ⊥
   framework_acyclic a row e k back = elim k.extends_object as (λ _. ⊥) [

@@ -41,15 +41,15 @@ class_made nodes x _ is_class = (_, refl)
 
 -- a class as it is written stands at its node
 pub record IsClassNode (nodes : List Node) (x : ℕ) (c : WrittenClass) : Type 0 where
-  pub place : Pos
+  pub position : Pos
   pub flags : Option ℕ
   pub header : Option ℕ
-  pub is_there : slice_get nodes x ≡ Some (Class place c.name flags header c.members)
+  pub is_there : slice_get nodes x ≡ Some (Class position c.name flags header c.members)
   pub number : c.node ≡ x
   pub modifiers : c.modifiers ≡ modifiers_at nodes flags
 
 abbrev pub class_node : (nodes : List Node) (x : ℕ) (c : WrittenClass) → IsClassNode nodes x c → Node
-class_node nodes x c n = Class n.place c.name n.flags n.header c.members
+class_node nodes x c n = Class n.position c.name n.flags n.header c.members
 
 pub is_class_node : (nodes : List Node) (x : ℕ) (c : WrittenClass) (n : IsClassNode nodes x c) → is_no_class (class_node nodes x c n) ≡ false
 unfolding is_no_class
@@ -65,8 +65,8 @@ member_is_child nodes x c n m h = among_right m (optional n.flags) _ (among_righ
 
 class_node_is : (nodes : List Node) (x : ℕ) (node : Node) (c : WrittenClass) → slice_get nodes x ≡ Some node → class_of nodes x node ≡ Some c → IsClassNode nodes x c
 unfolding class_of
-class_node_is nodes x (Class place name flags header members) c there e =
-    subst (IsClassNode nodes x) (some_inj _ c e) (record { place = place; flags = flags; header = header; is_there = there; number = refl; modifiers = refl })
+class_node_is nodes x (Class position name flags header members) c there e =
+    subst (IsClassNode nodes x) (some_inj _ c e) (record { position = position; flags = flags; header = header; is_there = there; number = refl; modifiers = refl })
 class_node_is nodes x _ c there e = absurd (cc (e))
 
 -- the user classes are those of the class nodes, one by one
@@ -109,9 +109,9 @@ names_count = refl
 -- ---- a user class of an accepted program
 
 pub record UserClass (forest : Forest) (class : ℕ) (c : WrittenClass) : Type 0 where
-  pub place : ℕ
-  pub user : slice_get (declarations_of forest).users place ≡ Some c
-  pub number : class ≡ first_user_class + place
+  pub index : ℕ
+  pub user : slice_get (declarations_of forest).users index ≡ Some c
+  pub number : class ≡ first_user_class + index
   pub node : IsClassNode forest.nodes c.node c
   pub numbered : number_of_class (joined forest.files) c.node ≡ Some class
 
@@ -139,7 +139,7 @@ module _ (forest : Forest) (whole : IsForest forest) where
           let q = user_class_at forest.nodes (joined forest.files) whole.classes j c u in
           let number : class ≡ first_user_class + j = n ∙ ap (λ m. m + j) framework_count in
           record {
-            place = j;
+            index = j;
             user = u;
             number = number;
             node = subst (λ x. IsClassNode forest.nodes x c) (sym q.2.number) q.2;
@@ -161,8 +161,8 @@ module _ (forest : Forest) (whole : IsForest forest) where
     named_there : (class : ℕ) (c : WrittenClass) → UserClass forest class c → slice_get p.names class ≡ Some c.name
     unfolding declarations_of class_names
     named_there class c u =
-        ap (slice_get p.names) (u.number ∙ ap (λ m. m + u.place) (sym names_count))
-        ∙ get_right (map (λ (c : FrameworkClass). c.name) framework_classes) (map (λ (c : WrittenClass). c.name) (user_classes forest)) u.place c.name (get_map (λ (c : WrittenClass). c.name) (user_classes forest) u.place c u.user)
+        ap (slice_get p.names) (u.number ∙ ap (λ m. m + u.index) (sym names_count))
+        ∙ get_right (map (λ (c : FrameworkClass). c.name) framework_classes) (map (λ (c : WrittenClass). c.name) (user_classes forest)) u.index c.name (get_map (λ (c : WrittenClass). c.name) (user_classes forest) u.index c u.user)
 
     -- the name of a class denotes it
     pub name_denotes : (class : ℕ) (row : ClassRow) (c : WrittenClass) → slice_get p.classes class ≡ Some row → row.written ≡ Some c → class_number p.names c.name ≡ Some class
@@ -171,7 +171,7 @@ module _ (forest : Forest) (whole : IsForest forest) where
         let u = user_class_is class row c there is in
         let q = position_least (is_same c.name) p.names class c.name (named_there class c u) (same_name c.name) in
         let n = at_class_unbroken forest accepted class row c there is in
-        let not_less : nat_lt q.0 class ≡ false = sym (ap (λ (o : Option ℕ). holds o (λ first. nat_lt first class)) q.1) ∙ right (holds (position (is_same c.name) p.names) (λ first. nat_lt first class)) _ c.place n.class_twice in
+        let not_less : nat_lt q.0 class ≡ false = sym (ap (λ (o : Option ℕ). holds o (λ first. nat_lt first class)) q.1) ∙ right (holds (position (is_same c.name) p.names) (λ first. nat_lt first class)) _ c.position n.class_twice in
         q.1 ∙ ap (λ m. Some m) (let l = q.2 in grind (arith, nat_tests))
 
     -- the members of a class have it as their class

@@ -45,7 +45,7 @@ chain_alone next (suc n) a l e = ap (λ (o : Option ℕ). a ∷ (elim o as (λ _
 
 both_false : (o : Option Written) (f g : Written → Bool) (r s : Rule) → broken_value o f r ≡ [] → broken_value o g s ≡ [] → holds o (λ w. f w || g w) ≡ false
 both_false None f g r s e h = refl
-both_false (Some w) f g r s e h = ap (λ t. t || g w) (right (f w) r w.place e) ∙ right (g w) s w.place h
+both_false (Some w) f g r s e h = ap (λ t. t || g w) (right (f w) r w.position e) ∙ right (g w) s w.position h
 
 -- neither A1 nor A9 is broken at a declaration
 declared_right : (p : Declarations) (t : ScopedDeclaration) (o : Option ScopedDeclaration) → o ≡ Some t → found_at o (λ t. broken_value t.scope (is_unknown_scope p t) A1) ≡ [] → found_at o (λ t. broken_value t.scope (contradicts p t) A9) ≡ []
@@ -55,18 +55,18 @@ declared_right p t o e h k =
     (sym (ap (λ (o : Option ScopedDeclaration). found_at o (λ t. broken_value t.scope (is_unknown_scope p t) A1)) e) ∙ h)
     (sym (ap (λ (o : Option ScopedDeclaration). found_at o (λ t. broken_value t.scope (contradicts p t) A9)) e) ∙ k)
 
-class_declares_none : (p : Declarations) (id : ℕ) (place : Pos) (name : List ℕ) (flags header : Option ℕ) (members : List ℕ) (t : ScopedDeclaration) → scoped_declaration_at p id (Class place name flags header members) ≡ Some t → ⊥
+class_declares_none : (p : Declarations) (id : ℕ) (position : Pos) (name : List ℕ) (flags header : Option ℕ) (members : List ℕ) (t : ScopedDeclaration) → scoped_declaration_at p id (Class position name flags header members) ≡ Some t → ⊥
 unfolding scoped_declaration_at
-class_declares_none p id place name flags header members t e = cc (e)
+class_declares_none p id position name flags header members t e = cc (e)
 
 right_declaration : (p : Declarations) (id : ℕ) (node : Node) (t : ScopedDeclaration) → scoped_declaration_at p id node ≡ Some t → a1 p id node ≡ [] → a9 p id node ≡ [] → holds t.scope (λ w. is_unknown_scope p t w || contradicts p t w) ≡ false
 unfolding a1 a9
-right_declaration p id (Class place name flags header members) t e h k = absurd (class_declares_none p id place name flags header members t e)
-right_declaration p id (Field place name flags declared_type equals value) t e h k = declared_right p t _ e h k
-right_declaration p id (Method place name flags result_type parameters body) t e h k = declared_right p t _ e h k
-right_declaration p id (Parameter place name flags declared_type) t e h k = declared_right p t _ e h k
-right_declaration p id (Local place name flags declared_type) t e h k = declared_right p t _ e h k
-right_declaration p id (LocalWithValue place name_place name flags declared_type value) t e h k = declared_right p t _ e h k
+right_declaration p id (Class position name flags header members) t e h k = absurd (class_declares_none p id position name flags header members t e)
+right_declaration p id (Field position name flags declared_type equals value) t e h k = declared_right p t _ e h k
+right_declaration p id (Method position name flags result_type parameters body) t e h k = declared_right p t _ e h k
+right_declaration p id (Parameter position name flags declared_type) t e h k = declared_right p t _ e h k
+right_declaration p id (Local position name flags declared_type) t e h k = declared_right p t _ e h k
+right_declaration p id (LocalWithValue position name_place name flags declared_type value) t e h k = declared_right p t _ e h k
 right_declaration p id _ t e h k = declared_right p t _ e h k
 
 module _ (forest : Forest) (accepted : IsAccepted forest) (whole : IsForest forest) (sorted : IsWellSorted forest.nodes) where
@@ -149,11 +149,11 @@ module _ (forest : Forest) (accepted : IsAccepted forest) (whole : IsForest fore
 
   defaults : (id : ℕ) (node : Node) (t : ScopedDeclaration) → scoped_declaration_at p id node ≡ Some t → HasDefaults t
   unfolding scoped_declaration_at scoped_variable_at
-  defaults id (Field place name flags declared_type equals value) t e = field_defaults id t (context p id).class (field_at p.nodes id) e
-  defaults id (Method place name flags result_type parameters body) t e = method_defaults id t (context p id).class refl (method_at p.nodes id) refl e
-  defaults id (Parameter place name flags declared_type) t e = variable_defaults id t (context p id).class refl (context p id).member refl (variable_at p.nodes id) e
-  defaults id (Local place name flags declared_type) t e = variable_defaults id t (context p id).class refl (context p id).member refl (variable_at p.nodes id) e
-  defaults id (LocalWithValue place name_place name flags declared_type value) t e = variable_defaults id t (context p id).class refl (context p id).member refl (variable_at p.nodes id) e
+  defaults id (Field position name flags declared_type equals value) t e = field_defaults id t (context p id).class (field_at p.nodes id) e
+  defaults id (Method position name flags result_type parameters body) t e = method_defaults id t (context p id).class refl (method_at p.nodes id) refl e
+  defaults id (Parameter position name flags declared_type) t e = variable_defaults id t (context p id).class refl (context p id).member refl (variable_at p.nodes id) e
+  defaults id (Local position name flags declared_type) t e = variable_defaults id t (context p id).class refl (context p id).member refl (variable_at p.nodes id) e
+  defaults id (LocalWithValue position name_place name flags declared_type value) t e = variable_defaults id t (context p id).class refl (context p id).member refl (variable_at p.nodes id) e
   defaults id _ t e = absurd (cc (e))
 
   -- each variable, field and result whose values are references has a scope

@@ -110,9 +110,9 @@ module _ (forest : Forest) (accepted : IsAccepted forest) where
     -- the rules on annotations of methods at the node of a method
     pub methods_unbroken : (class id : ℕ) (node : Node) (m : DeclaredMethod) → slice_get p.nodes id ≡ Some node → method_of p.nodes id node ≡ Some m → (context p id).class ≡ Some class → a6_of p class m ++ a7_and_a8_of p class m ≡ []
     unfolding a6_to_a8 method_of
-    methods_unbroken class id (Method place name flags result_type parameters body) m stands is c =
-        let n = no_break_at_node forest accepted id (Method place name flags result_type parameters body) stands in
-        let b = no_annotation_break p id (Method place name flags result_type parameters body) n.no_annotation_rule in
+    methods_unbroken class id (Method position name flags result_type parameters body) m stands is c =
+        let n = no_break_at_node forest accepted id (Method position name flags result_type parameters body) stands in
+        let b = no_annotation_break p id (Method position name flags result_type parameters body) n.no_annotation_rule in
         let at : method_at p.nodes id ≡ Some m = ap (option_and_then (method_of p.nodes id)) stands ∙ is in
         sym (ap (λ (o : Option ℕ). found_at o (λ class. found_at (method_at p.nodes id) (λ (m : DeclaredMethod). a6_of p class m ++ a7_and_a8_of p class m))) c
         ∙ ap (λ (o : Option DeclaredMethod). found_at o (λ (m : DeclaredMethod). a6_of p class m ++ a7_and_a8_of p class m)) at)
@@ -134,7 +134,7 @@ module _ (forest : Forest) (accepted : IsAccepted forest) where
         of_user j u =
             let q = method_at_member class j d.row d.is_row u g.method d.among in
             let n6 = at_class_unbroken forest accepted class d.row u.class d.is_row (written_of j d.row u) in
-            let broken6 : overrides_wrongly p class g.method ≡ false = right (overrides_wrongly p class g.method) C6 g.method.declared.place (flat_none (λ (m : DeclaredMethod). broken (overrides_wrongly p class m) C6 m.declared.place) g.method d.row.methods n6.override_types d.among) in
+            let broken6 : overrides_wrongly p class g.method ≡ false = right (overrides_wrongly p class g.method) C6 g.method.declared.position (flat_none (λ (m : DeclaredMethod). broken (overrides_wrongly p class m) C6 m.declared.position) g.method d.row.methods n6.override_types d.among) in
             let wrong : is_wrong_override p class g.method f.method ≡ false = sym (ap (λ (o : Option FoundMethod). holds o (λ (f : FoundMethod). is_wrong_override p class g.method f.method)) above) ∙ broken6 in
             let all = three (has_types_of p class g.method f.method) (both_static g.method f.method) f.method.overridable (not_false _ wrong) in
             let types = and_true (have_same_types g.method.parameters f.method.parameters) (is_result_of p class g.method.declared.name g.method.declared.declared_type f.method.declared.declared_type) all.0 in

@@ -33,7 +33,7 @@ pub record ReadsFlags (N N1 : List Node) (flags : FlagSet) : Type 0 where
   pub ids : List ℕ
   pub goes : GoesOn N N1 ids
   pub same : (child : ℕ) → is_among child ids ≡ is_among child (row_children flags)
-  pub none : flags.place ≡ None → ids ≡ []
+  pub none : flags.position ≡ None → ids ≡ []
   pub define_scope : OptionOf is_define_scope N1 flags.define_scope
   pub scope : OptionOf is_scope_name N1 flags.scope
   pub runs_in : OptionOf is_scope_name N1 flags.runs_in
@@ -84,9 +84,9 @@ has_place : (p : Pos) (o : Option Pos) → (elim o as (λ _. Option Pos) [ None 
 has_place p None e = cc (e)
 has_place p (Some q) e = cc (e)
 
-placed_is : (p : Pos) (flags : FlagSet) → (placed p flags).place ≡ None → ⊥
+placed_is : (p : Pos) (flags : FlagSet) → (placed p flags).position ≡ None → ⊥
 unfolding placed
-placed_is p flags e = has_place p flags.place e
+placed_is p flags e = has_place p flags.position e
 
 -- a modifier more
 modified_sorted : {N N1 : List Node} (p : Pos) (f g : FlagSet) → SameNodes f g → ReadsFlags N N1 f → ReadsFlags N N1 (placed p g)
@@ -96,7 +96,7 @@ modified_sorted {N} {N1} p f g s r =
       ids = r.ids;
       goes = r.goes;
       same = λ child. r.same child ∙ ap (is_among child) (same_children f g s);
-      none = λ e. absurd (has_place p g.place e);
+      none = λ e. absurd (has_place p g.position e);
       define_scope = subst (OptionOf is_define_scope N1) (sym s.define_scope) r.define_scope;
       scope = subst (OptionOf is_scope_name N1) (sym s.scope) r.scope;
       runs_in = subst (OptionOf is_scope_name N1) (sym s.runs_in) r.runs_in;
@@ -160,7 +160,7 @@ scoped {flags = flags} {id = id} p e r x =
           (sym (r.same child ∙ three_rows child flags.define_scope flags.scope flags.runs_in
           ∙ ap (λ (o : Option ℕ). is_among child (optional flags.define_scope) || (is_among child (optional o) || is_among child (optional flags.runs_in))) e))
           ∙ sym (three_rows child flags.define_scope (Some id) flags.runs_in);
-      none = λ h. absurd (has_place p flags.place h);
+      none = λ h. absurd (has_place p flags.position h);
       define_scope = option_later is_define_scope x.goes flags.define_scope r.define_scope;
       scope = x.is;
       runs_in = option_later is_scope_name x.goes flags.runs_in r.runs_in;
@@ -178,7 +178,7 @@ running {flags = flags} {id = id} p e r x =
           (sym (r.same child ∙ three_rows child flags.define_scope flags.scope flags.runs_in
           ∙ ap (λ (o : Option ℕ). is_among child (optional flags.define_scope) || (is_among child (optional flags.scope) || is_among child (optional o))) e))
           ∙ sym (three_rows child flags.define_scope flags.scope (Some id));
-      none = λ h. absurd (has_place p flags.place h);
+      none = λ h. absurd (has_place p flags.position h);
       define_scope = option_later is_define_scope x.goes flags.define_scope r.define_scope;
       scope = option_later is_scope_name x.goes flags.scope r.scope;
       runs_in = x.is;
@@ -200,7 +200,7 @@ defining {flags = flags} {id = id} p e r x =
           (sym (r.same child ∙ three_rows child flags.define_scope flags.scope flags.runs_in
           ∙ ap (λ (o : Option ℕ). is_among child (optional o) || (is_among child (optional flags.scope) || is_among child (optional flags.runs_in))) e))
           ∙ sym (three_rows child (Some id) flags.scope flags.runs_in);
-      none = λ h. absurd (has_place p flags.place h);
+      none = λ h. absurd (has_place p flags.position h);
       define_scope = x.is;
       scope = option_later is_scope_name x.goes flags.scope r.scope;
       runs_in = option_later is_scope_name x.goes flags.runs_in r.runs_in;
@@ -238,7 +238,7 @@ effectless_row flags e child = go flags.define_scope flags.scope flags.runs_in e
 -- with the node of the row, where there is one
 pub flags_sorted : {is_local : Bool} {N N1 : List Node} {i o : List Lexeme} {flags : FlagSet} → FlagRow is_local N i N1 o flags → ReadsOption is_flags N (with_flags N1 flags) (flags_number N1 flags)
 unfolding with_flags flags_number flags_node flags_at HasRightChildren children is_flags
-flags_sorted {N = N} {N1 = N1} {flags = flags} d = go (has_effect flags) refl flags.place refl
+flags_sorted {N = N} {N1 = N1} {flags = flags} d = go (has_effect flags) refl flags.position refl
   where
     r : ReadsFlags N N1 flags
     r = row_sorted d
@@ -249,7 +249,7 @@ flags_sorted {N = N} {N1 = N1} {flags = flags} d = go (has_effect flags) refl fl
     flag_node : Bool → Option Pos → Option Node
     flag_node t o = if t then (elim o as (λ _. Option Node) [ None ↦ None | Some p ↦ Some (row p) ]) else None
 
-    go : (t : Bool) → has_effect flags ≡ t → (o : Option Pos) → flags.place ≡ o
+    go : (t : Bool) → has_effect flags ≡ t → (o : Option Pos) → flags.position ≡ o
         → ReadsOption is_flags N (elim (flag_node t o) as (λ _. List Node) [ None ↦ N1 | Some node ↦ put N1 node ])
         (elim (flag_node t o) as (λ _. Option ℕ) [ None ↦ None | Some node ↦ Some (next N1) ])
     go false e o f = record { goes = goes_as r.ids [] (no_element r.ids (λ child. r.same child ∙ effectless_row flags e child)) r.goes; is = tt }

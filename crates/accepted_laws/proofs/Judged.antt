@@ -38,14 +38,14 @@ SameScopes id t u = (c : ℕ) → c < id → t c ≡ u c
 module _ (p : Declarations) (types : Types) where
   scope-same : (id : ℕ) (t u : Scopes) (node : Node) → SameScopes id t u → AllBelow id (children node) → scope_of p types t id node ≡ scope_of p types u id node
   unfolding AllBelow children scope_of receiver_scope
-  scope-same id t u (Parenthesized place inner) same b = same inner b.0
-  scope-same id t u (FieldAccess place name object) same b =
+  scope-same id t u (Parenthesized position inner) same b = same inner b.0
+  scope-same id t u (FieldAccess position name object) same b =
       ap (λ (o : Option Scope). option_and_then (λ (r : Receiver). option_and_then (scope_of_field p o) (accessed_field p r name)) (receiver p types object)) (same object b.0)
-  scope-same id t u (Call place name None ids) same b = refl
-  scope-same id t u (Call place name (Some object) ids) same b =
+  scope-same id t u (Call position name None ids) same b = refl
+  scope-same id t u (Call position name (Some object) ids) same b =
       ap (λ (o : Option Scope). option_and_then (λ (r : Receiver). option_and_then (scope_of_call p o (current_at p id)) (called_method p r name)) (call_receiver p types id (Some object))) (same object b.0)
-  scope-same id t u (Element place array index) same b = ap (λ (o : Option Scope). option_and_then (scope_of_element p o) (types array)) (same array b.0)
-  scope-same id t u (Cast place name_place name child) same b = ap (λ (o : Option Scope). option_and_then (λ class. scope_in_class p class o) (class_number p.names name)) (same child b.0)
+  scope-same id t u (Element position array index) same b = ap (λ (o : Option Scope). option_and_then (scope_of_element p o) (types array)) (same array b.0)
+  scope-same id t u (Cast position name_place name child) same b = ap (λ (o : Option Scope). option_and_then (λ class. scope_in_class p class o) (class_number p.names name)) (same child b.0)
   scope-same id t u _ same b = refl
 
   pub scopes_are : BehindChildren p → (id : ℕ) (node : Node) → slice_get p.nodes id ≡ Some node → lookup None (scopes_in p types) id ≡ scope_of p types (lookup None (scopes_in p types)) id node
@@ -89,15 +89,15 @@ module _ (p : Declarations) (first : BehindChildren p) (none : type_phase p ≡ 
   types = lookup None (types_in p)
 
   -- `this`
-  pub this_fine : (b c id : ℕ) (place : _) → slice_get p.nodes id ≡ Some (ThisNode place) → Inside p b c id → (k : Kind) → Judged p id (Some k) → (own : OwnObject p b c) × (Some k ≡ Some (reference (ClassTy c) own.home))
+  pub this_fine : (b c id : ℕ) (position : _) → slice_get p.nodes id ≡ Some (ThisNode position) → Inside p b c id → (k : Kind) → Judged p id (Some k) → (own : OwnObject p b c) × (Some k ≡ Some (reference (ClassTy c) own.home))
   unfolding Judged type_of scope_of type_breaks t1 t2 t3 t4 t5 t6 t7 t8 t9 t10 t11 t12 t13 t14
-  this_fine b c id place at inside k j =
-      let ts = types_are p first none id (ThisNode place) at in
-      let s = scopes_are p types first id (ThisNode place) at in
+  this_fine b c id position at inside k j =
+      let ts = types_are p first none id (ThisNode position) at in
+      let s = scopes_are p types first id (ThisNode position) at in
       let ty : lookup None (types_in p) id ≡ Some (ClassTy c) = ts.1 ∙ ap (λ o. option_map (λ class. ClassTy class) o) inside.class in
       let sc : lookup None (scopes_in p types) id ≡ this_in p c = s ∙ ap (λ o. option_and_then (this_in p) o) inside.class in
       let q = is_reference_kind (ClassTy c) (this_in p c) c k (sym (ap (λ t. kind_of t (lookup None (scopes_in p types) id)) ty ∙ ap (λ o. kind_of (Some (ClassTy c)) o) sc) ∙ j) in
-      (record { has_object = static_ (right (not (has_object p id)) T13 place (both_empty (broken (not (has_object p id)) T13 place) [] ts.0).0); home = q.0; is_home = q.1 }, ap (λ k. Some k) q.2)
+      (record { has_object = static_ (right (not (has_object p id)) T13 position (both_empty (broken (not (has_object p id)) T13 position) [] ts.0).0); home = q.0; is_home = q.1 }, ap (λ k. Some k) q.2)
     where
       static_ : not (has_object p id) ≡ false → is_static_member p.nodes b ≡ false
       static_ e = has_object_static p id b inside.member e

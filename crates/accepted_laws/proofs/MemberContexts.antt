@@ -20,7 +20,7 @@ use Rattle.accepted_laws.proofs.Tools.{some_inj}
 
 member_no_class : (node : Node) → is_member node ≡ true → is_no_class node ≡ true
 unfolding is_member is_no_class
-member_no_class (Class place name flags header members) e = e
+member_no_class (Class position name flags header members) e = e
 member_no_class _ e = refl
 
 module _ (forest : Forest) (whole : IsForest forest) (sorted : IsWellSorted forest.nodes) where

@@ -31,74 +31,74 @@ use Rattle.accepted_laws.proofs.Tools.{some_inj}
 -- ---- annotations and types hold no variables
 
 unfoldable is_quiet : Node → Bool
-is_quiet (Flags place define_scope scope runs_in is_static is_abstract is_synchronized) = true
-is_quiet (DefineScope place first second parent_first) = true
-is_quiet (ScopeName place name) = true
-is_quiet (TypeArgument place name) = true
-is_quiet (IntType place is_array) = true
-is_quiet (BooleanType place is_array) = true
-is_quiet (ClassType place name argument is_array) = true
-is_quiet (VoidType place) = true
-is_quiet (LongType place) = true
+is_quiet (Flags position define_scope scope runs_in is_static is_abstract is_synchronized) = true
+is_quiet (DefineScope position first second parent_first) = true
+is_quiet (ScopeName position name) = true
+is_quiet (TypeArgument position name) = true
+is_quiet (IntType position is_array) = true
+is_quiet (BooleanType position is_array) = true
+is_quiet (ClassType position name argument is_array) = true
+is_quiet (VoidType position) = true
+is_quiet (LongType position) = true
 is_quiet _ = false
 
 quiet_flags : Within is_flags is_quiet
 unfolding is_flags is_quiet
-quiet_flags (Flags place define_scope scope runs_in is_static is_abstract is_synchronized) e = refl
+quiet_flags (Flags position define_scope scope runs_in is_static is_abstract is_synchronized) e = refl
 quiet_flags _ e = absurd (true≢false (sym e))
 
 quiet_definition : Within is_define_scope is_quiet
 unfolding is_define_scope is_quiet
-quiet_definition (DefineScope place first second parent_first) e = refl
+quiet_definition (DefineScope position first second parent_first) e = refl
 quiet_definition _ e = absurd (true≢false (sym e))
 
 quiet_name : Within is_scope_name is_quiet
 unfolding is_scope_name is_quiet
-quiet_name (ScopeName place name) e = refl
+quiet_name (ScopeName position name) e = refl
 quiet_name _ e = absurd (true≢false (sym e))
 
 quiet_argument : Within is_type_argument is_quiet
 unfolding is_type_argument is_quiet
-quiet_argument (TypeArgument place name) e = refl
+quiet_argument (TypeArgument position name) e = refl
 quiet_argument _ e = absurd (true≢false (sym e))
 
 quiet_result : Within is_result is_quiet
 unfolding is_result is_type is_quiet
-quiet_result (VoidType place) e = refl
-quiet_result (LongType place) e = refl
-quiet_result (IntType place is_array) e = refl
-quiet_result (BooleanType place is_array) e = refl
-quiet_result (ClassType place name argument is_array) e = refl
+quiet_result (VoidType position) e = refl
+quiet_result (LongType position) e = refl
+quiet_result (IntType position is_array) e = refl
+quiet_result (BooleanType position is_array) e = refl
+quiet_result (ClassType position name argument is_array) e = refl
 quiet_result _ e = absurd (true≢false (sym e))
 
 quiet_type : Within is_type is_quiet
 unfolding is_type is_quiet
-quiet_type (IntType place is_array) e = refl
-quiet_type (BooleanType place is_array) e = refl
-quiet_type (ClassType place name argument is_array) e = refl
+quiet_type (IntType position is_array) e = refl
+quiet_type (BooleanType position is_array) e = refl
+quiet_type (ClassType position name argument is_array) e = refl
 quiet_type _ e = absurd (true≢false (sym e))
 
 no_variable : (nodes : List Node) (x : ℕ) (node : Node) → is_quiet node ≡ true → is_some (variable_of nodes x node) ≡ false
 unfolding is_quiet variable_of
-no_variable nodes x (Parameter place name flags declared_type) e = absurd (true≢false (sym e))
-no_variable nodes x (Local place name flags declared_type) e = absurd (true≢false (sym e))
-no_variable nodes x (LocalWithValue place name_place name flags declared_type value) e = absurd (true≢false (sym e))
+no_variable nodes x (Parameter position name flags declared_type) e = absurd (true≢false (sym e))
+no_variable nodes x (Local position name flags declared_type) e = absurd (true≢false (sym e))
+no_variable nodes x (LocalWithValue position name_place name flags declared_type value) e = absurd (true≢false (sym e))
 no_variable nodes x _ e = refl
 
 module _ (nodes : List Node) where
   quiet_children : (node : Node) → is_quiet node ≡ true → HasRightChildren nodes node → AllOf is_quiet nodes (children node)
   unfolding HasRightChildren children is_quiet
-  quiet_children (Flags place define_scope scope runs_in is_static is_abstract is_synchronized) e h =
+  quiet_children (Flags position define_scope scope runs_in is_static is_abstract is_synchronized) e h =
       both nodes is_quiet (optional define_scope) _ (maybe nodes is_define_scope is_quiet quiet_definition define_scope h.0)
       (both nodes is_quiet (optional scope) _ (maybe nodes is_scope_name is_quiet quiet_name scope h.1) (maybe nodes is_scope_name is_quiet quiet_name runs_in h.2))
-  quiet_children (DefineScope place first second parent_first) e h = (one nodes is_scope_name is_quiet quiet_name h.0, (one nodes is_scope_name is_quiet quiet_name h.1, tt))
-  quiet_children (ScopeName place name) e h = tt
-  quiet_children (TypeArgument place name) e h = tt
-  quiet_children (IntType place is_array) e h = tt
-  quiet_children (BooleanType place is_array) e h = tt
-  quiet_children (ClassType place name argument is_array) e h = maybe nodes is_type_argument is_quiet quiet_argument argument h
-  quiet_children (VoidType place) e h = tt
-  quiet_children (LongType place) e h = tt
+  quiet_children (DefineScope position first second parent_first) e h = (one nodes is_scope_name is_quiet quiet_name h.0, (one nodes is_scope_name is_quiet quiet_name h.1, tt))
+  quiet_children (ScopeName position name) e h = tt
+  quiet_children (TypeArgument position name) e h = tt
+  quiet_children (IntType position is_array) e h = tt
+  quiet_children (BooleanType position is_array) e h = tt
+  quiet_children (ClassType position name argument is_array) e h = maybe nodes is_type_argument is_quiet quiet_argument argument h
+  quiet_children (VoidType position) e h = tt
+  quiet_children (LongType position) e h = tt
   quiet_children _ e h = absurd (true≢false (sym e))
 
 -- ---- a filtered row of numbers, and what it begins with
@@ -199,7 +199,7 @@ begins test q (x ∷ xs) n (y ∷ ys) a pass only =
 
 parameter_made : (nodes : List Node) (x : ℕ) (node : Node) → is_parameter node ≡ true → (d : Declared) × (variable_of nodes x node ≡ Some d) × (d.node ≡ x)
 unfolding is_parameter variable_of
-parameter_made nodes x (Parameter place name flags declared_type) e = (_, refl, refl)
+parameter_made nodes x (Parameter position name flags declared_type) e = (_, refl, refl)
 parameter_made nodes x _ e = absurd (true≢false (sym e))
 
 -- those of a list of parameters
@@ -220,8 +220,8 @@ listed_parameters nodes (x ∷ ids) h = go (variable_at nodes x) (made h.0) (lis
 -- the list of parameters of a member: where it stands, and what stands before it
 record HasList (nodes : List Node) (node : Node) (list : List ℕ) : Type 0 where
   q : ℕ
-  place : Pos
-  is_there : slice_get nodes q ≡ Some (Parameters place list)
+  position : Pos
+  is_there : slice_get nodes q ≡ Some (Parameters position list)
   before : List ℕ
   behind : List ℕ
   children_are : children node ≡ before ++ q ∷ behind
@@ -310,7 +310,7 @@ module _ (forest : Forest) (whole : IsForest forest) (sorted : IsWellSorted fore
 
   parameter_quiet : (node : Node) → is_parameter node ≡ true → HasRightChildren nodes node → AllOf is_quiet nodes (children node)
   unfolding HasRightChildren children is_parameter
-  parameter_quiet (Parameter place name flags declared_type) e h = both nodes is_quiet (optional flags) _ (maybe nodes is_flags is_quiet quiet_flags flags h.0) (one nodes is_type is_quiet quiet_type h.1, tt)
+  parameter_quiet (Parameter position name flags declared_type) e h = both nodes is_quiet (optional flags) _ (maybe nodes is_flags is_quiet quiet_flags flags h.0) (one nodes is_type is_quiet quiet_type h.1, tt)
   parameter_quiet _ e h = absurd (true≢false (sym e))
 
   below_parameter : {a y : ℕ} (x : ℕ) → Subtree nodes a y → Of is_parameter nodes y → a ≤ x → x < y → Quiet x
@@ -345,16 +345,16 @@ module _ (forest : Forest) (whole : IsForest forest) (sorted : IsWellSorted fore
 
   no_flags_member : (node : Node) → is_member node ≡ true → is_flags node ≡ false
   unfolding is_member is_flags
-  no_flags_member (Flags place define_scope scope runs_in is_static is_abstract is_synchronized) e = absurd (true≢false (sym e))
+  no_flags_member (Flags position define_scope scope runs_in is_static is_abstract is_synchronized) e = absurd (true≢false (sym e))
   no_flags_member _ e = refl
 
-  parameters_plain : (place : Pos) (list : List ℕ) → (is_flags (Parameters place list) ≡ false) × (is_member (Parameters place list) ≡ false) × (children (Parameters place list) ≡ list)
+  parameters_plain : (position : Pos) (list : List ℕ) → (is_flags (Parameters position list) ≡ false) × (is_member (Parameters position list) ≡ false) × (children (Parameters position list) ≡ list)
   unfolding is_flags is_member children
-  parameters_plain place list = (refl, refl, refl)
+  parameters_plain position list = (refl, refl, refl)
 
   module _ (b : ℕ) (node : Node) (there : slice_get nodes b ≡ Some node) (member : is_member node ≡ true) (list : List ℕ) (h : HasList nodes node list) where
     abbrev head : Node
-    head = Parameters h.place list
+    head = Parameters h.position list
 
     tree : TreeFrom nodes 0 b
     tree = each_has_tree forest intervals b node there
@@ -366,7 +366,7 @@ module _ (forest : Forest) (whole : IsForest forest) (sorted : IsWellSorted fore
     of_list = (first_tree nodes parts.second).0
 
     list_trees : Subtrees nodes parts.between list h.q
-    list_trees = (let k = parameters_plain h.place list in subst (λ ids. Subtrees nodes parts.between ids h.q) k.2 (below_head nodes head of_list h.is_there k.0))
+    list_trees = (let k = parameters_plain h.position list in subst (λ ids. Subtrees nodes parts.between ids h.q) k.2 (below_head nodes head of_list h.is_there k.0))
 
     list_child : is_among h.q (children node) ≡ true
     list_child = ap (is_among h.q) h.children_are ∙ in_middle h.q h.before h.behind
@@ -380,7 +380,7 @@ module _ (forest : Forest) (whole : IsForest forest) (sorted : IsWellSorted fore
         let o = of_parameter c e in
         let d = parameter_made nodes c o.node o.passes in
         let variable : variable_at nodes c ≡ Some d.0 = ap (option_and_then (variable_of nodes c)) o.is_there ∙ d.1 in
-        let k = parameters_plain h.place list in
+        let k = parameters_plain h.position list in
         let of_q : (context p h.q).member ≡ Some b = ap (λ c. c.member) (child_context_is forest whole b h.q node there list_child) ∙ ap (λ t. if t then Some b else (context p b).member) member in
         let of_c : (context p c).member ≡ Some b = ap (λ c. c.member) (child_context_is forest whole h.q c head h.is_there (ap (is_among c) k.2 ∙ e)) ∙ ap (λ t. if t then Some h.q else (context p h.q).member) k.1 ∙ of_q in
         ap (λ (o : Option Declared). is_some o && holds (context p c).member (λ m. m == b)) variable ∙ ap (λ (o : Option ℕ). holds o (λ m. m == b)) of_c ∙ is_same_number b b refl
@@ -411,12 +411,12 @@ module _ (forest : Forest) (whole : IsForest forest) (sorted : IsWellSorted fore
   without : (b : ℕ) → body_parameters p b ≡ [] → BeginWithParameters p b
   without b e = record { others = variables_of p b; is = ap (λ (ds : List Declared). map (λ (d : Declared). d.node) ds ++ variables_of p b) (sym e) }
 
-  parameters_at_list : (q : ℕ) (node : Node) → slice_get nodes q ≡ Some node → is_parameter_list node ≡ true → HasRightChildren nodes node → (place : Pos) × (list : List ℕ) × (slice_get nodes q ≡ Some (Parameters place list)) × AllOf is_parameter nodes list
+  parameters_at_list : (q : ℕ) (node : Node) → slice_get nodes q ≡ Some node → is_parameter_list node ≡ true → HasRightChildren nodes node → (position : Pos) × (list : List ℕ) × (slice_get nodes q ≡ Some (Parameters position list)) × AllOf is_parameter nodes list
   unfolding is_parameter_list HasRightChildren
-  parameters_at_list q (Parameters place list) there e h = (place, list, there, h)
+  parameters_at_list q (Parameters position list) there e h = (position, list, there, h)
   parameters_at_list q _ there e h = absurd (true≢false (sym e))
 
-  list_node : (q : ℕ) → Of is_parameter_list nodes q → (place : Pos) × (list : List ℕ) × (slice_get nodes q ≡ Some (Parameters place list)) × AllOf is_parameter nodes list
+  list_node : (q : ℕ) → Of is_parameter_list nodes q → (position : Pos) × (list : List ℕ) × (slice_get nodes q ≡ Some (Parameters position list)) × AllOf is_parameter nodes list
   list_node q o = parameters_at_list q o.node o.is_there o.passes (sorted.each q o.node o.is_there)
 
   no_parameters : (b : ℕ) → slice_get nodes b ≡ None → body_parameters p b ≡ []
@@ -427,17 +427,17 @@ module _ (forest : Forest) (whole : IsForest forest) (sorted : IsWellSorted fore
   unfolding body_parameters declarations_of
   parameters_are b node there = ap (λ (o : Option Node). unwrap_or (option_and_then (read nodes (parameters_of nodes)) (option_and_then parameter_list o)) []) there
 
-  listed_are : (q : ℕ) (place : Pos) (list : List ℕ) → slice_get nodes q ≡ Some (Parameters place list) → unwrap_or (read nodes (parameters_of nodes) q) [] ≡ filter_map (variable_at nodes) list
+  listed_are : (q : ℕ) (position : Pos) (list : List ℕ) → slice_get nodes q ≡ Some (Parameters position list) → unwrap_or (read nodes (parameters_of nodes) q) [] ≡ filter_map (variable_at nodes) list
   unfolding parameters_of
-  listed_are q place list e = ap (λ (o : Option Node). unwrap_or (option_and_then (parameters_of nodes) o) []) e
+  listed_are q position list e = ap (λ (o : Option Node). unwrap_or (option_and_then (parameters_of nodes) o) []) e
 
   by_node : (b : ℕ) (node : Node) → slice_get nodes b ≡ Some node → HasRightChildren nodes node → body_parameters p b ≡ unwrap_or (option_and_then (read nodes (parameters_of nodes)) (parameter_list node)) [] → BeginWithParameters p b
   unfolding parameter_list HasRightChildren children is_member
-  by_node b (MethodNode place name flags result_type (Some q) body) there h e =
+  by_node b (MethodNode position name flags result_type (Some q) body) there h e =
       let l = list_node q h.2 in
-      let has : HasList nodes (MethodNode place name flags result_type (Some q) body) l.1 = record {
+      let has : HasList nodes (MethodNode position name flags result_type (Some q) body) l.1 = record {
         q = q;
-        place = l.0;
+        position = l.0;
         is_there = l.2;
         before = optional flags ++ result_type ∷ [];
         behind = optional body;
@@ -446,11 +446,11 @@ module _ (forest : Forest) (whole : IsForest forest) (sorted : IsWellSorted fore
         all = l.3;
       } in
       begin_with b _ there refl l.1 has (e ∙ listed_are q l.0 l.1 l.2)
-  by_node b (Constructor place name flags (Some q) super_call body) there h e =
+  by_node b (Constructor position name flags (Some q) super_call body) there h e =
       let l = list_node q h.1 in
-      let has : HasList nodes (Constructor place name flags (Some q) super_call body) l.1 = record {
+      let has : HasList nodes (Constructor position name flags (Some q) super_call body) l.1 = record {
         q = q;
-        place = l.0;
+        position = l.0;
         is_there = l.2;
         before = optional flags;
         behind = optional super_call ++ body ∷ [];

@@ -55,8 +55,8 @@ pub record IsMethodNode (nodes : List Node) (id : ℕ) (m : DeclaredMethod) : Ty
 
 method_made : (nodes : List Node) (id : ℕ) (node : Node) (m : DeclaredMethod) → slice_get nodes id ≡ Some node → method_of nodes id node ≡ Some m → IsMethodNode nodes id m
 unfolding method_of
-method_made nodes id (Method place name flags result_type parameters body) m stands e =
-    record { node = Method place name flags result_type parameters body; is_there = stands; is = e; number = sym (ap (λ (m : DeclaredMethod). m.declared.node) (some_inj _ m e)); not_builtin = sym (ap (λ (m : DeclaredMethod). m.builtin) (some_inj _ m e)) }
+method_made nodes id (Method position name flags result_type parameters body) m stands e =
+    record { node = Method position name flags result_type parameters body; is_there = stands; is = e; number = sym (ap (λ (m : DeclaredMethod). m.declared.node) (some_inj _ m e)); not_builtin = sym (ap (λ (m : DeclaredMethod). m.builtin) (some_inj _ m e)) }
 method_made nodes id _ m stands e = absurd (cc (e))
 
 pub method_node : (nodes : List Node) (id : ℕ) (m : DeclaredMethod) → method_at nodes id ≡ Some m → IsMethodNode nodes id m

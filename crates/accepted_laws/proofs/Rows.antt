@@ -36,9 +36,9 @@ pub at_class_unbroken : (forest : Forest) → IsAccepted forest → (class : ℕ
 at_class_unbroken forest a class row c there is =
     let n = no_break_at_class forest a class row c there is in no_class_break (declarations_of forest) class row c n.no_class_rule
 
-pub none_broken : {A : Type 0} (place : A → Pos) (rule : Rule) (xs : List A) → broken_at_each place rule xs ≡ [] → xs ≡ []
-none_broken place rule [] e = refl
-none_broken place rule (x ∷ xs) e = absurd (cc (e))
+pub none_broken : {A : Type 0} (position : A → Pos) (rule : Rule) (xs : List A) → broken_at_each position rule xs ≡ [] → xs ≡ []
+none_broken position rule [] e = refl
+none_broken position rule (x ∷ xs) e = absurd (cc (e))
 
 -- ---- rows that count
 
@@ -83,7 +83,7 @@ unfolding is_well_headed is_empty c2 c3 c10
 well_headed p class row c n =
     all_three (is_empty (unknown_supers p.names c)) (is_cyclic p.written class) (is_empty (forbidden_supers p.names p.written c))
     (ap (is_empty {A = Written}) (none_broken _ _ (unknown_supers p.names c) n.unknown_super))
-    (right (is_cyclic p.written class) _ c.place n.class_cycle)
+    (right (is_cyclic p.written class) _ c.position n.class_cycle)
     (ap (is_empty {A = Written}) (none_broken _ _ (forbidden_supers p.names p.written c) n.forbidden_super))
 
 module _ (forest : Forest) (accepted : IsAccepted forest) where

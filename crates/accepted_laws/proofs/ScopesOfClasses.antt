@@ -101,13 +101,13 @@ module _ (forest : Forest) (accepted : IsAccepted forest) where
         let name : class_number p.names c.name ≡ Some class = name_denotes forest whole accepted sorted class row c e w in
         record {
           known = unknown_not (scope_written_in p class) (sym (ap (λ (o : Option ℕ). found_at o (λ class. broken_value (scope_written_in p class) (λ w. has_unknown_scope p (Some w)) A1)) name) ∙ b.unknown_scope);
-          same = right (has_other_scope p class) A2 (a2_place u.node.place (scope_written_in p class))
-              (sym (ap (λ (o : Option ℕ). found_at o (λ class. broken (has_other_scope p class) A2 (a2_place u.node.place (scope_written_in p class)))) name) ∙ b.class_scope);
+          same = right (has_other_scope p class) A2 (a2_place u.node.position (scope_written_in p class))
+              (sym (ap (λ (o : Option ℕ). found_at o (λ class. broken (has_other_scope p class) A2 (a2_place u.node.position (scope_written_in p class)))) name) ∙ b.class_scope);
         }
       where
         unknown_not : (o : Option Written) → broken_value o (λ w. has_unknown_scope p (Some w)) A1 ≡ [] → has_unknown_scope p o ≡ false
         unknown_not None e = refl
-        unknown_not (Some w) e = right (has_unknown_scope p (Some w)) A1 w.place e
+        unknown_not (Some w) e = right (has_unknown_scope p (Some w)) A1 w.position e
 
     -- neither A1 nor A2 is broken at any class
     pub right_class : (class : ℕ) → class < length p.classes → IsRightClass p class

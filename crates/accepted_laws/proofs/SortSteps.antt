@@ -22,36 +22,36 @@ option_more test N M (Some x) h = of_more test N M x h
 
 children_more : (N M : List Node) (node : Node) → HasRightChildren N node → HasRightChildren (N ++ M) node
 unfolding HasRightChildren
-children_more N M (Class place name flags header members) h = (option_more _ N M flags h.0, option_more _ N M header h.1, all_more _ N M members h.2)
-children_more N M (Flags place define_scope scope runs_in is_static is_abstract is_synchronized) h = (option_more _ N M define_scope h.0, option_more _ N M scope h.1, option_more _ N M runs_in h.2)
-children_more N M (DefineScope place first second parent_first) h = (of_more _ N M first h.0, of_more _ N M second h.1)
-children_more N M (Supers place superclass interfaces) h = (option_more _ N M superclass h.0, all_more _ N M interfaces h.1)
-children_more N M (SuperType place name argument) h = option_more _ N M argument h
-children_more N M (ClassType place name argument is_array) h = option_more _ N M argument h
-children_more N M (Field place name flags declared_type equals value) h = (option_more _ N M flags h.0, of_more _ N M declared_type h.1, option_more _ N M value h.2)
-children_more N M (Method place name flags result_type parameters body) h = (option_more _ N M flags h.0, of_more _ N M result_type h.1, option_more _ N M parameters h.2, option_more _ N M body h.3)
-children_more N M (Constructor place name flags parameters super_call body) h = (option_more _ N M flags h.0, option_more _ N M parameters h.1, option_more _ N M super_call h.2, of_more _ N M body h.3)
-children_more N M (Parameters place list) h = all_more _ N M list h
-children_more N M (Parameter place name flags declared_type) h = (option_more _ N M flags h.0, of_more _ N M declared_type h.1)
-children_more N M (SuperCall place arguments) h = all_more _ N M arguments h
-children_more N M (Block place statements) h = all_more _ N M statements h
-children_more N M (Local place name flags declared_type) h = (option_more _ N M flags h.0, of_more _ N M declared_type h.1)
-children_more N M (LocalWithValue place name_place name flags declared_type value) h = (option_more _ N M flags h.0, of_more _ N M declared_type h.1, of_more _ N M value h.2)
-children_more N M (Assign place target value) h = (of_more _ N M target h.0, of_more _ N M value h.1)
-children_more N M (ExpressionStatement place expression) h = of_more _ N M expression h
-children_more N M (If place condition then_part else_part) h = (of_more _ N M condition h.0, of_more _ N M then_part h.1, option_more _ N M else_part h.2)
-children_more N M (While place condition body) h = (of_more _ N M condition h.0, of_more _ N M body h.1)
-children_more N M (For place first condition step body) h = (of_more _ N M first h.0, of_more _ N M condition h.1, of_more _ N M step h.2, of_more _ N M body h.3)
-children_more N M (Return place value) h = option_more _ N M value h
-children_more N M (Binary place operator left right) h = (of_more _ N M left h.0, of_more _ N M right h.1)
-children_more N M (Unary place operator child) h = of_more _ N M child h
-children_more N M (Cast place name_place name child) h = of_more _ N M child h
-children_more N M (Parenthesized place inner) h = of_more _ N M inner h
-children_more N M (FieldAccess place name object) h = of_more _ N M object h
-children_more N M (Call place name object ids) h = (option_more _ N M object h.0, all_more _ N M ids h.1)
-children_more N M (Element place array index) h = (of_more _ N M array h.0, of_more _ N M index h.1)
-children_more N M (New place name_place name ids) h = all_more _ N M ids h
-children_more N M (NewArray place element size) h = (of_more _ N M element h.0, of_more _ N M size h.1)
+children_more N M (Class position name flags header members) h = (option_more _ N M flags h.0, option_more _ N M header h.1, all_more _ N M members h.2)
+children_more N M (Flags position define_scope scope runs_in is_static is_abstract is_synchronized) h = (option_more _ N M define_scope h.0, option_more _ N M scope h.1, option_more _ N M runs_in h.2)
+children_more N M (DefineScope position first second parent_first) h = (of_more _ N M first h.0, of_more _ N M second h.1)
+children_more N M (Supers position superclass interfaces) h = (option_more _ N M superclass h.0, all_more _ N M interfaces h.1)
+children_more N M (SuperType position name argument) h = option_more _ N M argument h
+children_more N M (ClassType position name argument is_array) h = option_more _ N M argument h
+children_more N M (Field position name flags declared_type equals value) h = (option_more _ N M flags h.0, of_more _ N M declared_type h.1, option_more _ N M value h.2)
+children_more N M (Method position name flags result_type parameters body) h = (option_more _ N M flags h.0, of_more _ N M result_type h.1, option_more _ N M parameters h.2, option_more _ N M body h.3)
+children_more N M (Constructor position name flags parameters super_call body) h = (option_more _ N M flags h.0, option_more _ N M parameters h.1, option_more _ N M super_call h.2, of_more _ N M body h.3)
+children_more N M (Parameters position list) h = all_more _ N M list h
+children_more N M (Parameter position name flags declared_type) h = (option_more _ N M flags h.0, of_more _ N M declared_type h.1)
+children_more N M (SuperCall position arguments) h = all_more _ N M arguments h
+children_more N M (Block position statements) h = all_more _ N M statements h
+children_more N M (Local position name flags declared_type) h = (option_more _ N M flags h.0, of_more _ N M declared_type h.1)
+children_more N M (LocalWithValue position name_place name flags declared_type value) h = (option_more _ N M flags h.0, of_more _ N M declared_type h.1, of_more _ N M value h.2)
+children_more N M (Assign position target value) h = (of_more _ N M target h.0, of_more _ N M value h.1)
+children_more N M (ExpressionStatement position expression) h = of_more _ N M expression h
+children_more N M (If position condition then_part else_part) h = (of_more _ N M condition h.0, of_more _ N M then_part h.1, option_more _ N M else_part h.2)
+children_more N M (While position condition body) h = (of_more _ N M condition h.0, of_more _ N M body h.1)
+children_more N M (For position first condition step body) h = (of_more _ N M first h.0, of_more _ N M condition h.1, of_more _ N M step h.2, of_more _ N M body h.3)
+children_more N M (Return position value) h = option_more _ N M value h
+children_more N M (Binary position operator left right) h = (of_more _ N M left h.0, of_more _ N M right h.1)
+children_more N M (Unary position operator child) h = of_more _ N M child h
+children_more N M (Cast position name_place name child) h = of_more _ N M child h
+children_more N M (Parenthesized position inner) h = of_more _ N M inner h
+children_more N M (FieldAccess position name object) h = of_more _ N M object h
+children_more N M (Call position name object ids) h = (option_more _ N M object h.0, all_more _ N M ids h.1)
+children_more N M (Element position array index) h = (of_more _ N M array h.0, of_more _ N M index h.1)
+children_more N M (New position name_place name ids) h = all_more _ N M ids h
+children_more N M (NewArray position element size) h = (of_more _ N M element h.0, of_more _ N M size h.1)
 children_more N M _ h = h
 
 sorted_put : (N : List Node) (node : Node) → IsWellSorted N → HasRightChildren N node → IsWellSorted (put N node)
@@ -157,7 +157,7 @@ wider narrow wide h r = record { goes = r.goes; is = record { node = r.is.node; 
 
 pub expression_is_argument : (n : Node) → is_expression n ≡ true → is_argument n ≡ true
 unfolding is_argument is_expression
-expression_is_argument (Text place text) e = refl
+expression_is_argument (Text position text) e = refl
 expression_is_argument n e = is_other n e
   where
     is_other : (n : Node) → is_expression n ≡ true → is_argument n ≡ true

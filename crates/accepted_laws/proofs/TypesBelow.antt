@@ -83,7 +83,7 @@ module _ (p : Declarations) where
   length-same first id t u target same l = go (slice_get p.nodes target) refl
     where
       of : (node : Node) → AllBelow target (children node) → is_length_target p t node ≡ is_length_target p u node
-      of (FieldAccess place name object) b =
+      of (FieldAccess position name object) b =
           ap (λ (o : Option Receiver). Some (holds o (λ r. is_array_value r && is_length name))) (receiver-same t u object (same object (omega (arith, l, b.0))))
       of _ b = refl
 
@@ -93,60 +93,60 @@ module _ (p : Declarations) where
 
   pub breaks-same : BehindChildren → (id : ℕ) (t u : Types) (node : Node) → Same id t u → AllBelow id (children node) → type_breaks p t id node ≡ type_breaks p u id node
   unfolding AllBelow children type_breaks t1 t2 t3 t4 t5 t6 t7 t8 t9 t10 t11 t12 t13 t14 misfits_method misfits_new
-  breaks-same first id t u (Binary place operator left right) same b =
-      let f : Option Ty → Option Ty → List Found = λ l r. broken (holds l (λ x. holds r (λ y. not (is_some (binary_type p.classes operator x y))))) T3 place ++ [] in
+  breaks-same first id t u (Binary position operator left right) same b =
+      let f : Option Ty → Option Ty → List Found = λ l r. broken (holds l (λ x. holds r (λ y. not (is_some (binary_type p.classes operator x y))))) T3 position ++ [] in
       ap (λ l. f l (t right)) (same left b.0) ∙ ap (λ r. f (u left) r) (same right b.1.0)
-  breaks-same first id t u (Unary place operator operand) same b =
-      ap (λ (o : Option Ty). broken (holds o (λ x. not (is_some (unary_type operator x)))) T3 place ++ []) (same operand b.0)
-  breaks-same first id t u (Element place array index) same b =
-      let f : Option Ty → Option Ty → List Found = λ l r. broken (holds l (λ x. holds r (λ i. not (is_array x && is_int i)))) T3 place ++ [] in
+  breaks-same first id t u (Unary position operator operand) same b =
+      ap (λ (o : Option Ty). broken (holds o (λ x. not (is_some (unary_type operator x)))) T3 position ++ []) (same operand b.0)
+  breaks-same first id t u (Element position array index) same b =
+      let f : Option Ty → Option Ty → List Found = λ l r. broken (holds l (λ x. holds r (λ i. not (is_array x && is_int i)))) T3 position ++ [] in
       ap (λ l. f l (t index)) (same array b.0) ∙ ap (λ r. f (u array) r) (same index b.1.0)
-  breaks-same first id t u (NewArray place element length) same b =
-      ap (λ (o : Option Ty). broken (holds o (λ n. not (is_int n))) T3 place ++ broken (holds (read p.nodes (element_class p) element) (kind_is is_form p)) T14 place) (same length b.1.0)
-  breaks-same first id t u (Cast place name_place name operand) same b =
-      ap (λ (o : Option Ty). broken (holds o (λ x. holds (class_number p.names name) (λ class. not (are_related p.classes x (ClassTy class))))) T12 place ++ []) (same operand b.0)
-  breaks-same first id t u (FieldAccess place name object) same b =
-      ap (λ (o : Option Receiver). broken (holds o is_no_reference) T3 place ++ (broken (holds o (λ r. lacks_field p r name)) T4 place ++ (broken (holds o (λ r. lacks_object p id r && holds (accessed_field p r name) (λ (f : FoundField). not f.field.modifiers.is_static))) T13 place ++ [])))
+  breaks-same first id t u (NewArray position element length) same b =
+      ap (λ (o : Option Ty). broken (holds o (λ n. not (is_int n))) T3 position ++ broken (holds (read p.nodes (element_class p) element) (kind_is is_form p)) T14 position) (same length b.1.0)
+  breaks-same first id t u (Cast position name_place name operand) same b =
+      ap (λ (o : Option Ty). broken (holds o (λ x. holds (class_number p.names name) (λ class. not (are_related p.classes x (ClassTy class))))) T12 position ++ []) (same operand b.0)
+  breaks-same first id t u (FieldAccess position name object) same b =
+      ap (λ (o : Option Receiver). broken (holds o is_no_reference) T3 position ++ (broken (holds o (λ r. lacks_field p r name)) T4 position ++ (broken (holds o (λ r. lacks_object p id r && holds (accessed_field p r name) (λ (f : FoundField). not f.field.modifiers.is_static))) T13 position ++ [])))
       (receiver-same t u object (same object b.0))
-  breaks-same first id t u (Call place name object arguments) same b =
+  breaks-same first id t u (Call position name object arguments) same b =
       let f : Option Receiver → Option (List Ty) → List Found = λ o ts.
-      broken (holds o (λ r. holds ts (λ _. is_no_reference r))) T3 place
-      ++ (broken (holds o (λ r. holds ts (λ _. lacks_method p r name))) T5 place
-      ++ (broken (holds o (λ r. not (lacks_method p r name) && holds (called_method p r name) (λ (m : FoundMethod). holds ts (λ xs. not (accepts_arguments p m.method.parameters xs))))) T6 place
-      ++ (broken (holds o (λ r. holds ts (λ _. lacks_object p id r && (not (lacks_method p r name) && holds (called_method p r name) (λ (m : FoundMethod). not m.method.declared.modifiers.is_static))))) T13 place ++ []))) in
+      broken (holds o (λ r. holds ts (λ _. is_no_reference r))) T3 position
+      ++ (broken (holds o (λ r. holds ts (λ _. lacks_method p r name))) T5 position
+      ++ (broken (holds o (λ r. not (lacks_method p r name) && holds (called_method p r name) (λ (m : FoundMethod). holds ts (λ xs. not (accepts_arguments p m.method.parameters xs))))) T6 position
+      ++ (broken (holds o (λ r. holds ts (λ _. lacks_object p id r && (not (lacks_method p r name) && holds (called_method p r name) (λ (m : FoundMethod). not m.method.declared.modifiers.is_static))))) T13 position ++ []))) in
       ap (λ o. f o (all_types t arguments)) (call-receiver-same id t u object arguments same b)
       ∙ ap (λ ts. f (call_receiver p u id object) ts) (all-same id t u arguments same (below-right id (optional object) arguments b))
-  breaks-same first id t u (New place name_place name arguments) same b =
+  breaks-same first id t u (New position name_place name arguments) same b =
       let f : Bool → Option (List Ty) → List Found = λ part ts.
-      broken (if is_form_part p id then part else holds (class_number p.names name) (λ class. (is_user_class class || (class == 0)) && holds ts (λ xs. not (accepts_arguments p (constructor_parameters p.classes class) xs)))) T6 place
-      ++ (broken (holds ts (λ _. holds (class_number p.names name) (kind_is is_never_made p))) T11 place
-      ++ broken (holds (class_number p.names name) (kind_is is_form p) && not (is_form_part p id)) T14 place) in
+      broken (if is_form_part p id then part else holds (class_number p.names name) (λ class. (is_user_class class || (class == 0)) && holds ts (λ xs. not (accepts_arguments p (constructor_parameters p.classes class) xs)))) T6 position
+      ++ (broken (holds ts (λ _. holds (class_number p.names name) (kind_is is_never_made p))) T11 position
+      ++ broken (holds (class_number p.names name) (kind_is is_form p) && not (is_form_part p id)) T14 position) in
       ap (λ part. f part (all_types t arguments)) (part-same id t u arguments same b)
       ∙ ap (λ ts. f (misfits_form_part p u arguments) ts) (all-same id t u arguments same b)
-  breaks-same first id t u (Field place name flags declared_type None value) same b = refl
-  breaks-same first id t u (Field place name flags declared_type (Some equals) None) same b = refl
-  breaks-same first id t u (Field place name flags declared_type (Some equals) (Some value)) same b =
+  breaks-same first id t u (Field position name flags declared_type None value) same b = refl
+  breaks-same first id t u (Field position name flags declared_type (Some equals) None) same b = refl
+  breaks-same first id t u (Field position name flags declared_type (Some equals) (Some value)) same b =
       ap (λ (o : Option Ty). broken (misfits_value p (written_type p declared_type) o) T7 equals ++ []) (same value (below-right id (optional flags) (declared_type ∷ value ∷ []) b).1.0)
-  breaks-same first id t u (Method place name flags result_type parameters None) same b = refl
-  breaks-same first id t u (Method place name flags result_type parameters (Some body)) same b = refl
-  breaks-same first id t u (SuperCall place arguments) same b =
-      ap (λ (o : Option (List Ty)). broken (holds (superclass_at p id) (λ superclass. not (has_form superclass) && holds o (λ ts. not (accepts_arguments p (constructor_parameters p.classes superclass) ts)))) T6 place ++ [])
+  breaks-same first id t u (Method position name flags result_type parameters None) same b = refl
+  breaks-same first id t u (Method position name flags result_type parameters (Some body)) same b = refl
+  breaks-same first id t u (SuperCall position arguments) same b =
+      ap (λ (o : Option (List Ty)). broken (holds (superclass_at p id) (λ superclass. not (has_form superclass) && holds o (λ ts. not (accepts_arguments p (constructor_parameters p.classes superclass) ts)))) T6 position ++ [])
       (all-same id t u arguments same b)
-  breaks-same first id t u (LocalWithValue place name_place name flags declared_type value) same b =
-      ap (λ (o : Option Ty). broken (is_some (variable_named p id name)) T2 name_place ++ (broken (misfits_value p (written_type p declared_type) o) T7 place ++ []))
+  breaks-same first id t u (LocalWithValue position name_place name flags declared_type value) same b =
+      ap (λ (o : Option Ty). broken (is_some (variable_named p id name)) T2 name_place ++ (broken (misfits_value p (written_type p declared_type) o) T7 position ++ []))
       (same value (below-right id (optional flags) (declared_type ∷ value ∷ []) b).1.0)
-  breaks-same first id t u (Assign place target value) same b =
-      let f : Option Ty → Option Ty → Option Bool → List Found = λ a v o. broken (is_some a && (is_some v && (misfits_value p a v || holds o (λ h. h)))) T7 place ++ [] in
+  breaks-same first id t u (Assign position target value) same b =
+      let f : Option Ty → Option Ty → Option Bool → List Found = λ a v o. broken (is_some a && (is_some v && (misfits_value p a v || holds o (λ h. h)))) T7 position ++ [] in
       ap (λ a. f a (t value) (read p.nodes (is_length_target p t) target)) (same target b.0)
       ∙ ap (λ v. f (u target) v (read p.nodes (is_length_target p t) target)) (same value b.1.0)
       ∙ ap (λ o. f (u target) (u value) o) (length-same first id t u target same b.0)
-  breaks-same first id t u (If place condition then_part else_part) same b =
+  breaks-same first id t u (If position condition then_part else_part) same b =
       ap (λ (o : Option Ty). broken (holds o (λ ty. not (is_boolean ty))) T8 (place_at p.nodes condition) ++ []) (same condition b.0)
-  breaks-same first id t u (While place condition body) same b =
+  breaks-same first id t u (While position condition body) same b =
       ap (λ (o : Option Ty). broken (holds o (λ ty. not (is_boolean ty))) T8 (place_at p.nodes condition) ++ []) (same condition b.0)
-  breaks-same first id t u (For place start condition step body) same b =
+  breaks-same first id t u (For position start condition step body) same b =
       ap (λ (o : Option Ty). broken (holds o (λ ty. not (is_boolean ty))) T8 (place_at p.nodes condition) ++ []) (same condition b.1.0)
-  breaks-same first id t u (Return place None) same b = refl
-  breaks-same first id t u (Return place (Some value)) same b =
-      ap (λ (o : Option Ty). broken (holds o (λ ty. not (fits_result p (result_at p id) ty))) T9 place ++ []) (same value b.0)
+  breaks-same first id t u (Return position None) same b = refl
+  breaks-same first id t u (Return position (Some value)) same b =
+      ap (λ (o : Option Ty). broken (holds o (λ ty. not (fits_result p (result_at p id) ty))) T9 position ++ []) (same value b.0)
   breaks-same first id t u _ same b = refl

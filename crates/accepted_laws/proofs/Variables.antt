@@ -55,7 +55,7 @@ in_parameters nodes node None x v there member h = absurd (true≢false (sym h))
 in_parameters nodes node (Some q) x v there member h = go (x == q) h
   where
     of : (n : Node) → slice_get nodes q ≡ Some n → is_among v (elim (parameter_nodes n) [ None ↦ [] | Some list ↦ list ]) ≡ true → OfParameters nodes node v
-    of (Parameters place list) e h = record { q = q; among = there q refl; list = Parameters place list; stands = e; inside = h; plain = refl; member = member }
+    of (Parameters position list) e h = record { q = q; among = there q refl; list = Parameters position list; stands = e; inside = h; plain = refl; member = member }
     of _ e h = absurd (true≢false (sym h))
 
     at : (o : Option Node) → slice_get nodes q ≡ o → is_among v (elim (option_and_then parameter_nodes o) [ None ↦ [] | Some list ↦ list ]) ≡ true → OfParameters nodes node v
@@ -80,14 +80,14 @@ among_optional o q e = ap (λ o. is_among q (optional o)) e ∙ (let t : (q == q
 
 declared_is : (nodes : List Node) (node : Node) (x v : ℕ) → is_among v (declared_before nodes node x) ≡ true → ((is_among v (children node) ≡ true) × (is_member node ≡ false)) ⊎ OfParameters nodes node v
 unfolding declared_before children is_member
-declared_is nodes (Block place statements) x v h = inl (before_among x v statements h, refl)
-declared_is nodes (For place first condition step body) x v h = inl (before_among x v (first ∷ condition ∷ step ∷ body ∷ []) h, refl)
-declared_is nodes (Parameters place list) x v h = inl (before_among x v list h, refl)
-declared_is nodes (MethodNode place name flags result_type parameters body) x v h = inr (in_parameters nodes _ parameters x v (λ q e. in_method flags result_type parameters body q e) refl h)
+declared_is nodes (Block position statements) x v h = inl (before_among x v statements h, refl)
+declared_is nodes (For position first condition step body) x v h = inl (before_among x v (first ∷ condition ∷ step ∷ body ∷ []) h, refl)
+declared_is nodes (Parameters position list) x v h = inl (before_among x v list h, refl)
+declared_is nodes (MethodNode position name flags result_type parameters body) x v h = inr (in_parameters nodes _ parameters x v (λ q e. in_method flags result_type parameters body q e) refl h)
   where
     in_method : (flags : Option ℕ) (result_type : ℕ) (parameters body : Option ℕ) (q : ℕ) → parameters ≡ Some q → is_among q (optional flags ++ (result_type ∷ optional parameters ++ optional body)) ≡ true
     in_method flags result_type parameters body q e = among_right q (optional flags) _ (or_right (q == result_type) (is_among q (optional parameters ++ optional body)) (among_left q (optional parameters) (optional body) (among_optional parameters q e)))
-declared_is nodes (Constructor place name flags parameters super_call body) x v h = inr (in_parameters nodes _ parameters x v (λ q e. among_right q (optional flags) _ (among_left q (optional parameters) _ (among_optional parameters q e))) refl h)
+declared_is nodes (Constructor position name flags parameters super_call body) x v h = inr (in_parameters nodes _ parameters x v (λ q e. among_right q (optional flags) _ (among_left q (optional parameters) _ (among_optional parameters q e))) refl h)
 declared_is nodes _ x v h = absurd (true≢false (sym h))
 
 module _ (forest : Forest) (whole : IsForest forest)

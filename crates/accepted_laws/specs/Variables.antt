@@ -11,8 +11,8 @@ use Rattle.scj_rules.specs.LimitRules.{variables_of}
 
 -- the list of parameters of a method or a constructor
 unfoldable pub parameter_list : Node → Option ℕ
-parameter_list (Method place name flags result_type parameters body) = parameters
-parameter_list (Constructor place name flags parameters super_call body) = parameters
+parameter_list (Method position name flags result_type parameters body) = parameters
+parameter_list (Constructor position name flags parameters super_call body) = parameters
 parameter_list _ = None
 
 -- the parameters of a body; a class's unwritten constructor has none

@@ -198,9 +198,9 @@ module _ (forest : Forest) (accepted : IsAccepted forest) (whole : IsForest fore
   scoped_there : (v b c : ℕ) (node : Node) (d : Declared) → slice_get q.nodes v ≡ Some node → variable_of q.nodes v node ≡ Some d → (context q v).class ≡ Some c → (context q v).member ≡ Some b
       → (scoped_declaration_at q v node ≡ scoped_variable_at q v) × (scoped_variable_at q v ≡ Some (scoped_variable c (current_in q c b) (is_static_member q.nodes b) d))
   unfolding variable_of scoped_declaration_at scoped_variable_at
-  scoped_there v b c (Parameter place name flags declared_type) d there is ec em = (refl, at_variable v b c d ec em (ap (option_and_then (variable_of q.nodes v)) there ∙ is))
-  scoped_there v b c (Local place name flags declared_type) d there is ec em = (refl, at_variable v b c d ec em (ap (option_and_then (variable_of q.nodes v)) there ∙ is))
-  scoped_there v b c (LocalWithValue place name_place name flags declared_type value) d there is ec em = (refl, at_variable v b c d ec em (ap (option_and_then (variable_of q.nodes v)) there ∙ is))
+  scoped_there v b c (Parameter position name flags declared_type) d there is ec em = (refl, at_variable v b c d ec em (ap (option_and_then (variable_of q.nodes v)) there ∙ is))
+  scoped_there v b c (Local position name flags declared_type) d there is ec em = (refl, at_variable v b c d ec em (ap (option_and_then (variable_of q.nodes v)) there ∙ is))
+  scoped_there v b c (LocalWithValue position name_place name flags declared_type value) d there is ec em = (refl, at_variable v b c d ec em (ap (option_and_then (variable_of q.nodes v)) there ∙ is))
   scoped_there v b c _ d there is ec em = absurd (cc (is))
 
   -- a variable of a body, whose type is a reference, has a scope

@@ -41,37 +41,37 @@ module _ (p : Declarations) where
   written_at : (t : ℕ) (node : Node) → slice_get p.nodes t ≡ Some node → written_type p t ≡ type_written p.names (unwrap_or (type_of_node node) void_type)
   written_at t node there = ap (λ (o : Option Node). type_written p.names (unwrap_or (option_and_then type_of_node o) void_type)) there
 
-  class_type_made : (t : ℕ) (place : Pos) (name : List ℕ) (argument : Option ℕ) (is_array : Bool) → slice_get p.nodes t ≡ Some (ClassType place name argument is_array) → HasNumber (class_number p.names name) → HasType (written_type p t)
+  class_type_made : (t : ℕ) (position : Pos) (name : List ℕ) (argument : Option ℕ) (is_array : Bool) → slice_get p.nodes t ≡ Some (ClassType position name argument is_array) → HasNumber (class_number p.names name) → HasType (written_type p t)
   unfolding type_of_node type_written
-  class_type_made t place name argument true there n =
-      (ClassArray n.0, written_at t (ClassType place name argument true) there ∙ ap (λ (o : Option ℕ). option_map (λ class. ClassArray class) o) n.1)
-  class_type_made t place name argument false there n =
-      (ClassTy n.0, written_at t (ClassType place name argument false) there ∙ ap (λ (o : Option ℕ). option_map (λ class. ClassTy class) o) n.1)
+  class_type_made t position name argument true there n =
+      (ClassArray n.0, written_at t (ClassType position name argument true) there ∙ ap (λ (o : Option ℕ). option_map (λ class. ClassArray class) o) n.1)
+  class_type_made t position name argument false there n =
+      (ClassTy n.0, written_at t (ClassType position name argument false) there ∙ ap (λ (o : Option ℕ). option_map (λ class. ClassTy class) o) n.1)
 
-  named_type : (t : ℕ) (place : Pos) (name : List ℕ) (argument : Option ℕ) (is_array : Bool) → slice_get p.nodes t ≡ Some (ClassType place name argument is_array) → at_node p (c9_type p) t ≡ [] → HasNumber (class_number p.names name)
+  named_type : (t : ℕ) (position : Pos) (name : List ℕ) (argument : Option ℕ) (is_array : Bool) → slice_get p.nodes t ≡ Some (ClassType position name argument is_array) → at_node p (c9_type p) t ≡ [] → HasNumber (class_number p.names name)
   unfolding c9_type
-  named_type t place name argument is_array there e =
+  named_type t position name argument is_array there e =
       number_of_held (class_number p.names name) (is_type_class p)
-      (right (names_no_type p name) C9 place (sym (ap (λ (o : Option Node). found_at (option_and_then (c9_type p) o) (λ found. found)) there) ∙ e))
+      (right (names_no_type p name) C9 position (sym (ap (λ (o : Option Node). found_at (option_and_then (c9_type p) o) (λ found. found)) there) ∙ e))
 
   -- the type at a node of a type, where C9 isn't broken
   pub type_made : (t : ℕ) (node : Node) → slice_get p.nodes t ≡ Some node → is_type node ≡ true → at_node p (c9_type p) t ≡ [] → HasType (written_type p t)
   unfolding is_type type_of_node type_written
-  type_made t (IntType place true) there k e = (IntArray, written_at t (IntType place true) there)
-  type_made t (IntType place false) there k e = (Int, written_at t (IntType place false) there)
-  type_made t (BooleanType place true) there k e = (BoolArray, written_at t (BooleanType place true) there)
-  type_made t (BooleanType place false) there k e = (Boolean, written_at t (BooleanType place false) there)
-  type_made t (ClassType place name argument is_array) there k e = class_type_made t place name argument is_array there (named_type t place name argument is_array there e)
+  type_made t (IntType position true) there k e = (IntArray, written_at t (IntType position true) there)
+  type_made t (IntType position false) there k e = (Int, written_at t (IntType position false) there)
+  type_made t (BooleanType position true) there k e = (BoolArray, written_at t (BooleanType position true) there)
+  type_made t (BooleanType position false) there k e = (Boolean, written_at t (BooleanType position false) there)
+  type_made t (ClassType position name argument is_array) there k e = class_type_made t position name argument is_array there (named_type t position name argument is_array there e)
   type_made t _ there k e = absurd (true≢false (sym k))
 
   -- of a result: the same, or `void`, or `long`
   pub result_made : (t : ℕ) (node : Node) → slice_get p.nodes t ≡ Some node → is_result node ≡ true → at_node p (c9_type p) t ≡ [] → (type_at p.nodes t ≡ long_type) ⊎ HasType (written_type p t)
   unfolding is_result is_type type_of_node type_written
-  result_made t (VoidType place) there k e = inr (Void, written_at t (VoidType place) there)
-  result_made t (LongType place) there k e = inl (ap (λ (o : Option Node). unwrap_or (option_and_then type_of_node o) void_type) there)
-  result_made t (IntType place is_array) there k e = inr (type_made t (IntType place is_array) there k e)
-  result_made t (BooleanType place is_array) there k e = inr (type_made t (BooleanType place is_array) there k e)
-  result_made t (ClassType place name argument is_array) there k e = inr (type_made t (ClassType place name argument is_array) there k e)
+  result_made t (VoidType position) there k e = inr (Void, written_at t (VoidType position) there)
+  result_made t (LongType position) there k e = inl (ap (λ (o : Option Node). unwrap_or (option_and_then type_of_node o) void_type) there)
+  result_made t (IntType position is_array) there k e = inr (type_made t (IntType position is_array) there k e)
+  result_made t (BooleanType position is_array) there k e = inr (type_made t (BooleanType position is_array) there k e)
+  result_made t (ClassType position name argument is_array) there k e = inr (type_made t (ClassType position name argument is_array) there k e)
   result_made t _ there k e = absurd (true≢false (sym k))
 
 module _ (forest : Forest) (accepted : IsAccepted forest) (sorted : IsWellSorted forest.nodes) where
@@ -91,11 +91,11 @@ module _ (forest : Forest) (accepted : IsAccepted forest) (sorted : IsWellSorted
 
   variable_typed : (id : ℕ) (node : Node) (d : Declared) → HasRightChildren p.nodes node → c9 p node ≡ [] → variable_of p.nodes id node ≡ Some d → HasType (declared_type_of p d)
   unfolding variable_of HasRightChildren c9
-  variable_typed id (Parameter place name flags declared_type) d h e k =
+  variable_typed id (Parameter position name flags declared_type) d h e k =
       (let t = of_type declared_type h.1 e in (t.0, ap (declared_type_of p) (sym (some_inj _ d k)) ∙ t.1))
-  variable_typed id (Local place name flags declared_type) d h e k =
+  variable_typed id (Local position name flags declared_type) d h e k =
       (let t = of_type declared_type h.1 e in (t.0, ap (declared_type_of p) (sym (some_inj _ d k)) ∙ t.1))
-  variable_typed id (LocalWithValue place name_place name flags declared_type value) d h e k =
+  variable_typed id (LocalWithValue position name_place name flags declared_type value) d h e k =
       (let t = of_type declared_type h.1 e in (t.0, ap (declared_type_of p) (sym (some_inj _ d k)) ∙ t.1))
   variable_typed id _ d h e k = absurd (cc (k))
 
@@ -109,7 +109,7 @@ module _ (forest : Forest) (accepted : IsAccepted forest) (sorted : IsWellSorted
 
   field_typed : (id : ℕ) (node : Node) (d : Declared) → HasRightChildren p.nodes node → c9 p node ≡ [] → field_of p.nodes id node ≡ Some d → HasType (declared_type_of p d)
   unfolding field_of HasRightChildren c9
-  field_typed id (Field place name flags declared_type equals value) d h e k =
+  field_typed id (Field position name flags declared_type equals value) d h e k =
       (let t = of_type declared_type h.1 e in (t.0, ap (declared_type_of p) (sym (some_inj _ d k)) ∙ t.1))
   field_typed id _ d h e k = absurd (cc (k))
 
@@ -126,7 +126,7 @@ module _ (forest : Forest) (accepted : IsAccepted forest) (sorted : IsWellSorted
 
   result_typed : (id : ℕ) (node : Node) (m : DeclaredMethod) → HasRightChildren p.nodes node → c9 p node ≡ [] → method_of p.nodes id node ≡ Some m → LongOrTyped m.declared
   unfolding method_of HasRightChildren c9
-  result_typed id (Method place name flags result_type parameters body) m h e k =
+  result_typed id (Method position name flags result_type parameters body) m h e k =
       (let o = h.1 in subst (λ (m : DeclaredMethod). LongOrTyped m.declared) (some_inj _ m k) (result_made p result_type o.node o.is_there o.passes e))
   result_typed id _ m h e k = absurd (cc (k))
 
@@ -139,26 +139,26 @@ module _ (forest : Forest) (accepted : IsAccepted forest) (sorted : IsWellSorted
       go (Some node) there k = result_typed id node m (children_at id node there) (c9_unbroken id node there) k
 
   -- a class is named after `new` and in a cast
-  pub new_names_class : (id : ℕ) (place name_place : Pos) (name : List ℕ) (arguments : List ℕ) → slice_get p.nodes id ≡ Some (New place name_place name arguments) → HasNumber (class_number p.names name)
+  pub new_names_class : (id : ℕ) (position name_place : Pos) (name : List ℕ) (arguments : List ℕ) → slice_get p.nodes id ≡ Some (New position name_place name arguments) → HasNumber (class_number p.names name)
   unfolding c9
-  new_names_class id place name_place name arguments there = numbered (class_number p.names name) (right (names_no_class p name) C9 name_place (c9_unbroken id (New place name_place name arguments) there))
+  new_names_class id position name_place name arguments there = numbered (class_number p.names name) (right (names_no_class p name) C9 name_place (c9_unbroken id (New position name_place name arguments) there))
 
-  pub cast_names_class : (id : ℕ) (place name_place : Pos) (name : List ℕ) (operand : ℕ) → slice_get p.nodes id ≡ Some (Cast place name_place name operand) → HasNumber (class_number p.names name)
+  pub cast_names_class : (id : ℕ) (position name_place : Pos) (name : List ℕ) (operand : ℕ) → slice_get p.nodes id ≡ Some (Cast position name_place name operand) → HasNumber (class_number p.names name)
   unfolding c9
-  cast_names_class id place name_place name operand there = numbered (class_number p.names name) (right (names_no_class p name) C9 name_place (c9_unbroken id (Cast place name_place name operand) there))
+  cast_names_class id position name_place name operand there = numbered (class_number p.names name) (right (names_no_class p name) C9 name_place (c9_unbroken id (Cast position name_place name operand) there))
 
   -- the elements of a new array have a type, of which there are arrays
   element_made : (t : ℕ) (node : Node) → slice_get p.nodes t ≡ Some node → is_element_type node ≡ true → at_node p (c9_element p) t ≡ [] → HasType (option_and_then array_of (written_type p t))
   unfolding is_element_type type_of_node type_written c9_element array_of
-  element_made t (IntType place false) there k e = (IntArray, ap (option_and_then array_of) (written_at p t (IntType place false) there))
-  element_made t (BooleanType place false) there k e = (BoolArray, ap (option_and_then array_of) (written_at p t (BooleanType place false) there))
-  element_made t (ClassType place name argument false) there k e =
-      let n = numbered (class_number p.names name) (right (names_no_class p name) C9 place (sym (ap (λ (o : Option Node). found_at (option_and_then (c9_element p) o) (λ found. found)) there) ∙ e)) in
-      (ClassArray n.0, ap (option_and_then array_of) (written_at p t (ClassType place name argument false) there ∙ ap (λ (o : Option ℕ). option_map (λ class. ClassTy class) o) n.1))
+  element_made t (IntType position false) there k e = (IntArray, ap (option_and_then array_of) (written_at p t (IntType position false) there))
+  element_made t (BooleanType position false) there k e = (BoolArray, ap (option_and_then array_of) (written_at p t (BooleanType position false) there))
+  element_made t (ClassType position name argument false) there k e =
+      let n = numbered (class_number p.names name) (right (names_no_class p name) C9 position (sym (ap (λ (o : Option Node). found_at (option_and_then (c9_element p) o) (λ found. found)) there) ∙ e)) in
+      (ClassArray n.0, ap (option_and_then array_of) (written_at p t (ClassType position name argument false) there ∙ ap (λ (o : Option ℕ). option_map (λ class. ClassTy class) o) n.1))
   element_made t _ there k e = absurd (true≢false (sym k))
 
-  pub new_array_has_type : (id : ℕ) (place : Pos) (element size : ℕ) → slice_get p.nodes id ≡ Some (NewArray place element size) → HasType (option_and_then array_of (written_type p element))
+  pub new_array_has_type : (id : ℕ) (position : Pos) (element size : ℕ) → slice_get p.nodes id ≡ Some (NewArray position element size) → HasType (option_and_then array_of (written_type p element))
   unfolding c9 HasRightChildren
-  new_array_has_type id place element size there =
-      let o = (children_at id (NewArray place element size) there).0 in
-      element_made element o.node o.is_there o.passes (c9_unbroken id (NewArray place element size) there)
+  new_array_has_type id position element size there =
+      let o = (children_at id (NewArray position element size) there).0 in
+      element_made element o.node o.is_there o.passes (c9_unbroken id (NewArray position element size) there)

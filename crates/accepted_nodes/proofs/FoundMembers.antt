@@ -113,7 +113,7 @@ module _ (forest : Forest) (accepted : IsAccepted forest) (whole : IsForest fore
 
   field_number : (id : ℕ) (node : Node) (d : Declared) → field_of p.nodes id node ≡ Some d → d.node ≡ id
   unfolding field_of
-  field_number id (Field place name flags declared_type equals value) d e = sym (ap (λ (d : Declared). d.node) (some_inj _ d e))
+  field_number id (Field position name flags declared_type equals value) d e = sym (ap (λ (d : Declared). d.node) (some_inj _ d e))
   field_number id _ d e = absurd (cc (e))
 
   field_number_at : (id : ℕ) (d : Declared) → field_at p.nodes id ≡ Some d → d.node ≡ id
@@ -203,10 +203,10 @@ module _ (forest : Forest) (accepted : IsAccepted forest) (whole : IsForest fore
       (t.0, ap (λ (m : DeclaredMethod). type_written p.names m.declared.declared_type) (sym m.2) ∙ t.1, t.2)
 
   -- T14: a user's method whose result is `long` is a size method
-  method_form : (id result_type : ℕ) (place : Pos) (name : List ℕ) (flags parameters body : Option ℕ) → type_breaks p (type_at_node p) id (Method place name flags result_type parameters body) ≡ [] → broken (misfits_long p id name result_type body) T14 place ≡ []
+  method_form : (id result_type : ℕ) (position : Pos) (name : List ℕ) (flags parameters body : Option ℕ) → type_breaks p (type_at_node p) id (Method position name flags result_type parameters body) ≡ [] → broken (misfits_long p id name result_type body) T14 position ≡ []
   unfolding type_breaks t1 t2 t3 t4 t5 t6 t7 t8 t9 t10 t11 t12 t13 t14
-  method_form id result_type place name flags parameters None e = e
-  method_form id result_type place name flags parameters (Some body) e = (both_empty (broken (ends_without_return p result_type body) T10 place) (broken (misfits_long p id name result_type (Some body)) T14 place) e).1
+  method_form id result_type position name flags parameters None e = e
+  method_form id result_type position name flags parameters (Some body) e = (both_empty (broken (ends_without_return p result_type body) T10 position) (broken (misfits_long p id name result_type (Some body)) T14 position) e).1
 
   has_size : (id class : ℕ) (name : List ℕ) (body : Option ℕ) → (context p id).class ≡ Some class → misfits_size p id name body ≡ false → has_framework_size p class name ≡ true
   unfolding misfits_size
@@ -215,11 +215,11 @@ module _ (forest : Forest) (accepted : IsAccepted forest) (whole : IsForest fore
 
   long_is_size : (id class : ℕ) (node : Node) (m : DeclaredMethod) → slice_get p.nodes id ≡ Some node → method_of p.nodes id node ≡ Some m → (context p id).class ≡ Some class → m.declared.declared_type ≡ long_type → has_framework_size p class m.declared.name ≡ true
   unfolding method_of is_same_type
-  long_is_size id class (Method place name flags result_type parameters body) m stands is c long =
-      let n = no_break_at_node forest accepted id (Method place name flags result_type parameters body) stands in
+  long_is_size id class (Method position name flags result_type parameters body) m stands is c long =
+      let n = no_break_at_node forest accepted id (Method position name flags result_type parameters body) stands in
       let written : type_at p.nodes result_type ≡ long_type = ap (λ (m : DeclaredMethod). m.declared.declared_type) (some_inj _ m is) ∙ long in
       let size : misfits_size p id name body ≡ false = sym (ap (λ t. is_same_type t long_type && misfits_size p id name body) written)
-      ∙ right (misfits_long p id name result_type body) T14 place (method_form id result_type place name flags parameters body n.no_type_rule) in
+      ∙ right (misfits_long p id name result_type body) T14 position (method_form id result_type position name flags parameters body n.no_type_rule) in
       ap (has_framework_size p class) (sym (ap (λ (m : DeclaredMethod). m.declared.name) (some_inj _ m is))) ∙ has_size id class name body c size
   long_is_size id class _ m stands is c long = absurd (cc (is))
 

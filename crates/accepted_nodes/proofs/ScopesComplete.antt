@@ -193,10 +193,10 @@ module _ (forest : Forest) (accepted : IsAccepted forest) (whole : IsForest fore
   scoped_at : (b c id x : ℕ) (t : Ty) → ScopedBelow b c id → ValueAt forest accepted whole sorted b c id x → types x ≡ Some t → is_reference t ≡ true → HasScope (scopes x)
   scoped_at b c id x t below v e r = below x v.node t v.less v.is_there v.inside v.value e r
 
-  parenthesized_scoped : (id : ℕ) (place : Pos) (inner : ℕ) → Scoped id (Parenthesized place inner)
+  parenthesized_scoped : (id : ℕ) (position : Pos) (inner : ℕ) → Scoped id (Parenthesized position inner)
   unfolding type_of scope_of children is_argument is_expression object_of takes_parts HasRightChildren
-  parenthesized_scoped id place inner b c t there inside below e r =
-      let s = sorted.each id (Parenthesized place inner) there in
+  parenthesized_scoped id position inner b c t there inside below e r =
+      let s = sorted.each id (Parenthesized position inner) there in
       scoped_at b c id inner t below (child_at forest accepted whole sorted b c id _ there inside refl inner (same_first forest accepted whole sorted inner []) (of_expression forest accepted whole sorted inner s) refl refl) e r
 
   -- what may be cast is a reference
@@ -207,14 +207,14 @@ module _ (forest : Forest) (accepted : IsAccepted forest) (whole : IsForest fore
       go true e = refl
       go false e = absurd (true≢false e)
 
-  cast_scoped : (id : ℕ) (place name_place : Pos) (name : List ℕ) (operand : ℕ) → Scoped id (Cast place name_place name operand)
+  cast_scoped : (id : ℕ) (position name_place : Pos) (name : List ℕ) (operand : ℕ) → Scoped id (Cast position name_place name operand)
   unfolding type_of scope_of children is_argument is_expression object_of takes_parts HasRightChildren scope_in_class
-  cast_scoped id place name_place name operand b c t there inside below e r =
-      let s = sorted.each id (Cast place name_place name operand) there in
+  cast_scoped id position name_place name operand b c t there inside below e r =
+      let s = sorted.each id (Cast position name_place name operand) there in
       let v = child_at forest accepted whole sorted b c id _ there inside refl operand (same_first forest accepted whole sorted operand []) (of_expression forest accepted whole sorted operand s) refl refl in
       let u = value_has_type forest accepted whole sorted b c operand v.node v.is_there v.inside v.value in
-      let n = cast_names_class forest accepted sorted id place name_place name operand (at_p forest accepted whole sorted id _ there) in
-      let w = right_cast p types id place name_place name operand (unbroken forest accepted whole sorted id _ there) in
+      let n = cast_names_class forest accepted sorted id position name_place name operand (at_p forest accepted whole sorted id _ there) in
+      let w = right_cast p types id position name_place name operand (unbroken forest accepted whole sorted id _ there) in
       let reference : is_reference u.0 ≡ true = cast_of_reference u.0 (ClassTy n.0)
       (sym (ap (λ (o : Option Ty). holds o (λ t. holds (class_number p.names name) (λ class. not (are_related p.classes t (ClassTy class))))) u.1 ∙ ap (λ (o : Option ℕ). holds o (λ class. not (are_related p.classes u.0 (ClassTy class)))) n.1) ∙ w) in
       let h = scope_or_has (class_scope p n.0) (scopes operand) (known n.0) (scoped_at b c id operand u.0 below v u.1 reference) in
@@ -227,20 +227,20 @@ module _ (forest : Forest) (accepted : IsAccepted forest) (whole : IsForest fore
   element_of_array (ClassArray class) t scope e r h = scope_or_has (class_scope p class) (option_map beside scope) (known class) (has_beside scope (h refl))
   element_of_array _ t scope e r h = absurd (cc (e))
 
-  element_scoped : (id : ℕ) (place : Pos) (array index : ℕ) → Scoped id (Element place array index)
+  element_scoped : (id : ℕ) (position : Pos) (array index : ℕ) → Scoped id (Element position array index)
   unfolding type_of scope_of children is_argument is_expression object_of takes_parts HasRightChildren
-  element_scoped id place array index b c t there inside below e r =
-      let s = sorted.each id (Element place array index) there in
+  element_scoped id position array index b c t there inside below e r =
+      let s = sorted.each id (Element position array index) there in
       let v = child_at forest accepted whole sorted b c id _ there inside refl array (same_first forest accepted whole sorted array (index ∷ [])) (of_expression forest accepted whole sorted array s.0) refl refl in
       let a = of_option (types array) (λ a. option_and_then (λ i. element_type a) (types index)) t e in
       let i = of_option (types index) (λ i. element_type a.0) t a.2 in
       let h = element_of_array a.0 t (scopes array) i.2 r (λ k. scoped_at b c id array a.0 below v a.1 k) in
       (h.0, ap (option_and_then (scope_of_element p (scopes array))) a.1 ∙ h.1)
 
-  new_scoped : (id : ℕ) (place name_place : Pos) (name arguments : List ℕ) → Scoped id (New place name_place name arguments)
+  new_scoped : (id : ℕ) (position name_place : Pos) (name arguments : List ℕ) → Scoped id (New position name_place name arguments)
   unfolding scope_of scope_of_new
-  new_scoped id place name_place name arguments b c t there inside below e r =
-      let n = new_names_class forest accepted sorted id place name_place name arguments (at_p forest accepted whole sorted id _ there) in
+  new_scoped id position name_place name arguments b c t there inside below e r =
+      let n = new_names_class forest accepted sorted id position name_place name arguments (at_p forest accepted whole sorted id _ there) in
       let h = scope_or_has (class_scope p n.0) (current_at p id) (known n.0) (current_there b c id inside) in
       (h.0, ap (option_and_then (scope_of_new p id)) n.1 ∙ h.1)
 
@@ -271,13 +271,13 @@ module _ (forest : Forest) (accepted : IsAccepted forest) (whole : IsForest fore
   unfolding is_reference
   class_is_reference u class e = ap is_reference e
 
-  access_scoped : (id : ℕ) (place : Pos) (name : List ℕ) (object : ℕ) → Scoped id (FieldAccess place name object)
+  access_scoped : (id : ℕ) (position : Pos) (name : List ℕ) (object : ℕ) → Scoped id (FieldAccess position name object)
   unfolding type_of scope_of children is_argument is_expression object_of takes_parts HasRightChildren
-  access_scoped id place name object b c t there inside below e r =
-      let s = sorted.each id (FieldAccess place name object) there in
+  access_scoped id position name object b c t there inside below e r =
+      let s = sorted.each id (FieldAccess position name object) there in
       let o = of_expression forest accepted whole sorted object s in
       let at : class_at_name p object o.node ≡ None → ValueAt forest accepted whole sorted b c id object = λ k. value_at forest accepted whole sorted b c id _ there inside refl object (same_first forest accepted whole sorted object []) o k refl in
-      let w = right_access p types id place name object (unbroken forest accepted whole sorted id _ there) in
+      let w = right_access p types id position name object (unbroken forest accepted whole sorted id _ there) in
       by_receiver o.node at w (receiver_cases forest accepted whole sorted object o.node o.is_there (λ k. (let v = at k in value_has_type forest accepted whole sorted b c object v.node v.is_there v.inside v.value)))
     where
       found : (r0 : Receiver) → receiver p types object ≡ Some r0 → ((f : FoundField) (class : ℕ) → accessed_field p r0 name ≡ Some f → class_of_receiver r0 ≡ Some class → field_named p.classes class name ≡ Some f → declared_type_of p f.field ≡ Some t → HasScope (scope_of_field p (scopes object) f))
@@ -354,19 +354,19 @@ module _ (forest : Forest) (accepted : IsAccepted forest) (whole : IsForest fore
   pub arguments_typed : (b c id : ℕ) (ids : List ℕ) → ((x : ℕ) → is_among x ids ≡ true → ValueAt forest accepted whole sorted b c id x) → (ts : List Ty) × (all_types types ids ≡ Some ts)
   arguments_typed b c id ids h = all_typed forest accepted whole sorted ids (λ x among. (let v = h x among in value_has_type forest accepted whole sorted b c x v.node v.is_there v.inside v.value))
 
-  call_scoped : (id : ℕ) (place : Pos) (name : List ℕ) (object : Option ℕ) (arguments : List ℕ) → Scoped id (Call place name object arguments)
+  call_scoped : (id : ℕ) (position : Pos) (name : List ℕ) (object : Option ℕ) (arguments : List ℕ) → Scoped id (Call position name object arguments)
   unfolding type_of scope_of children is_argument is_expression object_of takes_parts HasRightChildren call_receiver receiver_scope
-  call_scoped id place name None arguments b c t there inside below e r =
-      let s = sorted.each id (Call place name None arguments) there in
+  call_scoped id position name None arguments b c t there inside below e r =
+      let s = sorted.each id (Call position name None arguments) there in
       let ts = arguments_typed b c id arguments (λ x among. child_at forest accepted whole sorted b c id _ there inside refl x among (all_of forest accepted whole sorted x arguments s.1 among) refl refl) in
-      call_scoped_by b c id name None arguments t (own_object c) ts.0 inside (ap (option_map (λ class. own_object class)) inside.class) ts.1 (right_call p types id place name None arguments (unbroken forest accepted whole sorted id _ there)) e r
+      call_scoped_by b c id name None arguments t (own_object c) ts.0 inside (ap (option_map (λ class. own_object class)) inside.class) ts.1 (right_call p types id position name None arguments (unbroken forest accepted whole sorted id _ there)) e r
       (λ f class m k rules plain. this_there b c id inside)
-  call_scoped id place name (Some object) arguments b c t there inside below e r =
-      let s = sorted.each id (Call place name (Some object) arguments) there in
+  call_scoped id position name (Some object) arguments b c t there inside below e r =
+      let s = sorted.each id (Call position name (Some object) arguments) there in
       let o = of_expression forest accepted whole sorted object s.0 in
       let ts = arguments_typed b c id arguments (λ x among. child_at forest accepted whole sorted b c id _ there inside refl x (or_right (x == object) (is_among x arguments) among) (all_of forest accepted whole sorted x arguments s.1 among) (not_first forest whole accepted id x object _ arguments there refl among) refl) in
       let at : class_at_name p object o.node ≡ None → ValueAt forest accepted whole sorted b c id object = λ k. value_at forest accepted whole sorted b c id _ there inside refl object (same_first forest accepted whole sorted object arguments) o k refl in
-      let w = right_call p types id place name (Some object) arguments (unbroken forest accepted whole sorted id _ there) in
+      let w = right_call p types id position name (Some object) arguments (unbroken forest accepted whole sorted id _ there) in
       elim (receiver_cases forest accepted whole sorted object o.node o.is_there (λ k. (let v = at k in value_has_type forest accepted whole sorted b c object v.node v.is_there v.inside v.value)))
       as (λ z. HasScope (option_and_then (λ r. option_and_then (scope_of_call p (scopes object) (current_at p id)) (called_method p r name)) (receiver p types object))) [
         | inl q ↦ call_scoped_by b c id name (Some object) arguments t (the_class q.0) ts.0 inside q.2 ts.1 w e r (λ f class m k rules plain. absurd (true≢false (sym (static_call id q.0 name f m rules.has_method rules.has_object) ∙ plain)))
@@ -375,23 +375,23 @@ module _ (forest : Forest) (accepted : IsAccepted forest) (whole : IsForest fore
 
   scoped_of : (id : ℕ) (node : Node) → IsValue p id node → Scoped id node
   unfolding type_of scope_of is_argument is_expression
-  scoped_of id (Number place value is_negative) v b c t there inside below e r = absurd (true≢false (sym r ∙ plain_int t e))
-  scoped_of id (True place) v b c t there inside below e r = absurd (true≢false (sym r ∙ plain_boolean t e))
-  scoped_of id (False place) v b c t there inside below e r = absurd (true≢false (sym r ∙ plain_boolean t e))
-  scoped_of id (Text place text) v b c t there inside below e r = absurd (true≢false (sym r ∙ plain_label t e))
-  scoped_of id (Null place) v b c t there inside below e r = (Any, refl)
-  scoped_of id (ThisNode place) v b c t there inside below e r = this_there b c id inside
-  scoped_of id (SimpleName place name) v b c t there inside below e r = meaning_scoped b c id name t inside e r
-  scoped_of id (Parenthesized place inner) v b c t there inside below e r = parenthesized_scoped id place inner b c t there inside below e r
-  scoped_of id (Binary place operator left operand) v b c t there inside below e r =
+  scoped_of id (Number position value is_negative) v b c t there inside below e r = absurd (true≢false (sym r ∙ plain_int t e))
+  scoped_of id (True position) v b c t there inside below e r = absurd (true≢false (sym r ∙ plain_boolean t e))
+  scoped_of id (False position) v b c t there inside below e r = absurd (true≢false (sym r ∙ plain_boolean t e))
+  scoped_of id (Text position text) v b c t there inside below e r = absurd (true≢false (sym r ∙ plain_label t e))
+  scoped_of id (Null position) v b c t there inside below e r = (Any, refl)
+  scoped_of id (ThisNode position) v b c t there inside below e r = this_there b c id inside
+  scoped_of id (SimpleName position name) v b c t there inside below e r = meaning_scoped b c id name t inside e r
+  scoped_of id (Parenthesized position inner) v b c t there inside below e r = parenthesized_scoped id position inner b c t there inside below e r
+  scoped_of id (Binary position operator left operand) v b c t there inside below e r =
       absurd (let x = of_option (types left) (λ a. option_and_then (binary_type p.classes operator a) (types operand)) t e in let y = of_option (types operand) (binary_type p.classes operator x.0) t x.2 in true≢false (sym r ∙ binary_plain p.classes operator x.0 y.0 t y.2))
-  scoped_of id (Unary place operator operand) v b c t there inside below e r = absurd (let x = of_option (types operand) (unary_type operator) t e in true≢false (sym r ∙ unary_plain operator x.0 t x.2))
-  scoped_of id (Cast place name_place name operand) v b c t there inside below e r = cast_scoped id place name_place name operand b c t there inside below e r
-  scoped_of id (FieldAccess place name object) v b c t there inside below e r = access_scoped id place name object b c t there inside below e r
-  scoped_of id (Call place name object arguments) v b c t there inside below e r = call_scoped id place name object arguments b c t there inside below e r
-  scoped_of id (Element place array index) v b c t there inside below e r = element_scoped id place array index b c t there inside below e r
-  scoped_of id (New place name_place name arguments) v b c t there inside below e r = new_scoped id place name_place name arguments b c t there inside below e r
-  scoped_of id (NewArray place element size) v b c t there inside below e r = current_there b c id inside
+  scoped_of id (Unary position operator operand) v b c t there inside below e r = absurd (let x = of_option (types operand) (unary_type operator) t e in true≢false (sym r ∙ unary_plain operator x.0 t x.2))
+  scoped_of id (Cast position name_place name operand) v b c t there inside below e r = cast_scoped id position name_place name operand b c t there inside below e r
+  scoped_of id (FieldAccess position name object) v b c t there inside below e r = access_scoped id position name object b c t there inside below e r
+  scoped_of id (Call position name object arguments) v b c t there inside below e r = call_scoped id position name object arguments b c t there inside below e r
+  scoped_of id (Element position array index) v b c t there inside below e r = element_scoped id position array index b c t there inside below e r
+  scoped_of id (New position name_place name arguments) v b c t there inside below e r = new_scoped id position name_place name arguments b c t there inside below e r
+  scoped_of id (NewArray position element size) v b c t there inside below e r = current_there b c id inside
   scoped_of id _ v b c t there inside below e r = absurd (true≢false (sym v.is_argument))
 
   pub scope_is : (x : ℕ) (node : Node) → slice_get forest.nodes x ≡ Some node → scopes x ≡ scope_of p types scopes x node

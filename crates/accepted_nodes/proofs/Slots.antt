@@ -170,4 +170,4 @@ module _ (forest : Forest) (accepted : IsAccepted forest) (whole : IsForest fore
       let k = field_has_number class name f e in
       let same : k.number ≡ number = some_inj k.number number (sym k.is ∙ n) in
       let s = slot_in p (counted-stays forest) one_node class number name f (above_below forest accepted under class l h) e plain (ap (field_numbered p) (sym same) ∙ k.numbers) under l h in
-      record { place = s.0; slot = s.1; declares = s.2 }
+      record { index = s.0; slot = s.1; declares = s.2 }

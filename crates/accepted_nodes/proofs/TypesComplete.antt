@@ -244,68 +244,68 @@ module _ (forest : Forest) (accepted : IsAccepted forest) (whole : IsForest fore
   abbrev Typed : ℕ → Node → Type 0
   Typed id node = (b c : ℕ) → slice_get forest.nodes id ≡ Some node → Inside p b c id → TypedBelow b c id → HasType (type_of p types id node)
 
-  binary_typed : (id : ℕ) (place : Pos) (operator left operand : ℕ) → Typed id (Binary place operator left operand)
+  binary_typed : (id : ℕ) (position : Pos) (operator left operand : ℕ) → Typed id (Binary position operator left operand)
   unfolding type_of children is_argument is_expression object_of takes_parts HasRightChildren
-  binary_typed id place operator left operand b c there inside below =
-      let s = sorted.each id (Binary place operator left operand) there in
+  binary_typed id position operator left operand b c there inside below =
+      let s = sorted.each id (Binary position operator left operand) there in
       let x = typed_child b c id _ there inside below refl left (same_first left (operand ∷ [])) (of_expression left s.0) refl refl in
       let y = typed_child b c id _ there inside below refl operand (same_second left operand []) (of_expression operand s.1) refl refl in
-      both_fit (types left) (types operand) (binary_type p.classes operator) x y (right_binary p types id place operator left operand (unbroken id _ there))
+      both_fit (types left) (types operand) (binary_type p.classes operator) x y (right_binary p types id position operator left operand (unbroken id _ there))
 
-  unary_typed : (id : ℕ) (place : Pos) (operator operand : ℕ) → Typed id (Unary place operator operand)
+  unary_typed : (id : ℕ) (position : Pos) (operator operand : ℕ) → Typed id (Unary position operator operand)
   unfolding type_of children is_argument is_expression object_of takes_parts HasRightChildren
-  unary_typed id place operator operand b c there inside below =
-      let s = sorted.each id (Unary place operator operand) there in
+  unary_typed id position operator operand b c there inside below =
+      let s = sorted.each id (Unary position operator operand) there in
       let x = typed_child b c id _ there inside below refl operand (same_first operand []) (of_expression operand s) refl refl in
-      one_fits (types operand) (unary_type operator) x (right_unary p types id place operator operand (unbroken id _ there))
+      one_fits (types operand) (unary_type operator) x (right_unary p types id position operator operand (unbroken id _ there))
 
-  cast_typed : (id : ℕ) (place name_place : Pos) (name : List ℕ) (operand : ℕ) → Typed id (Cast place name_place name operand)
+  cast_typed : (id : ℕ) (position name_place : Pos) (name : List ℕ) (operand : ℕ) → Typed id (Cast position name_place name operand)
   unfolding type_of children is_argument is_expression object_of takes_parts HasRightChildren
-  cast_typed id place name_place name operand b c there inside below =
-      let s = sorted.each id (Cast place name_place name operand) there in
+  cast_typed id position name_place name operand b c there inside below =
+      let s = sorted.each id (Cast position name_place name operand) there in
       let x = typed_child b c id _ there inside below refl operand (same_first operand []) (of_expression operand s) refl refl in
-      let n = cast_names_class forest accepted sorted id place name_place name operand (at_p id _ there) in
+      let n = cast_names_class forest accepted sorted id position name_place name operand (at_p id _ there) in
       (ClassTy n.0, ap (option_and_then (λ t. class_type_named p name)) x.1 ∙ ap (option_map (λ class. ClassTy class)) n.1)
 
-  element_typed : (id : ℕ) (place : Pos) (array index : ℕ) → Typed id (Element place array index)
+  element_typed : (id : ℕ) (position : Pos) (array index : ℕ) → Typed id (Element position array index)
   unfolding type_of children is_argument is_expression object_of takes_parts HasRightChildren
-  element_typed id place array index b c there inside below =
-      let s = sorted.each id (Element place array index) there in
+  element_typed id position array index b c there inside below =
+      let s = sorted.each id (Element position array index) there in
       let x = typed_child b c id _ there inside below refl array (same_first array (index ∷ [])) (of_expression array s.0) refl refl in
       let y = typed_child b c id _ there inside below refl index (same_second array index []) (of_expression index s.1) refl refl in
-      let r = right_element p types id place array index (unbroken id _ there) in
+      let r = right_element p types id position array index (unbroken id _ there) in
       let t = element_there x.0 y.0 (sym (ap (λ (o : Option Ty). holds o (λ a. holds (types index) (λ i. not (is_array a && is_int i)))) x.1 ∙ ap (λ (o : Option Ty). holds o (λ i. not (is_array x.0 && is_int i))) y.1) ∙ r) in
       (t.0, ap (option_and_then (λ a. option_and_then (λ i. element_type a) (types index))) x.1 ∙ ap (option_and_then (λ i. element_type x.0)) y.1 ∙ t.1)
 
-  new_array_typed : (id : ℕ) (place : Pos) (element size : ℕ) → Typed id (NewArray place element size)
+  new_array_typed : (id : ℕ) (position : Pos) (element size : ℕ) → Typed id (NewArray position element size)
   unfolding type_of children is_argument is_expression object_of takes_parts HasRightChildren
-  new_array_typed id place element size b c there inside below =
-      let s = sorted.each id (NewArray place element size) there in
+  new_array_typed id position element size b c there inside below =
+      let s = sorted.each id (NewArray position element size) there in
       let x = typed_child b c id _ there inside below refl size (same_second element size []) (of_expression size s.1) refl refl in
-      let t = new_array_has_type forest accepted sorted id place element size (at_p id _ there) in
+      let t = new_array_has_type forest accepted sorted id position element size (at_p id _ there) in
       (t.0, ap (option_and_then (λ n. option_and_then array_of (written_type p element))) x.1 ∙ t.1)
 
-  parenthesized_typed : (id : ℕ) (place : Pos) (inner : ℕ) → Typed id (Parenthesized place inner)
+  parenthesized_typed : (id : ℕ) (position : Pos) (inner : ℕ) → Typed id (Parenthesized position inner)
   unfolding type_of children is_argument is_expression object_of takes_parts HasRightChildren
-  parenthesized_typed id place inner b c there inside below =
-      let s = sorted.each id (Parenthesized place inner) there in
+  parenthesized_typed id position inner b c there inside below =
+      let s = sorted.each id (Parenthesized position inner) there in
       typed_child b c id _ there inside below refl inner (same_first inner []) (of_expression inner s) refl refl
 
-  access_there : (id : ℕ) (place : Pos) (name : List ℕ) (object : ℕ) → Typed id (FieldAccess place name object)
+  access_there : (id : ℕ) (position : Pos) (name : List ℕ) (object : ℕ) → Typed id (FieldAccess position name object)
   unfolding type_of children is_argument is_expression object_of takes_parts HasRightChildren
-  access_there id place name object b c there inside below =
-      let s = sorted.each id (FieldAccess place name object) there in
+  access_there id position name object b c there inside below =
+      let s = sorted.each id (FieldAccess position name object) there in
       let o = of_expression object s in
       let r = receiver_there object o.node o.is_there (object_typed b c id _ there inside below refl object (same_first object []) o refl) in
-      let w = right_access p types id place name object (unbroken id _ there) in
+      let w = right_access p types id position name object (unbroken id _ there) in
       let t = access_typed id name r.0 (sym (ap (λ (o : Option Receiver). holds o is_no_reference) r.1) ∙ w.of_reference) (sym (ap (λ (o : Option Receiver). holds o (λ r. lacks_field p r name)) r.1) ∙ w.has_field) in
       (t.0, ap (option_and_then (λ r. access_type p r name)) r.1 ∙ t.1)
 
   -- a call that has a receiver, and whose arguments have types
-  called_there : (id : ℕ) (place : Pos) (name : List ℕ) (object : Option ℕ) (arguments : List ℕ) (r : Receiver) (ts : List Ty) → call_receiver p types id object ≡ Some r → all_types types arguments ≡ Some ts
-      → RightCall p types id object arguments name → HasType (type_of p types id (Call place name object arguments))
+  called_there : (id : ℕ) (position : Pos) (name : List ℕ) (object : Option ℕ) (arguments : List ℕ) (r : Receiver) (ts : List Ty) → call_receiver p types id object ≡ Some r → all_types types arguments ≡ Some ts
+      → RightCall p types id object arguments name → HasType (type_of p types id (Call position name object arguments))
   unfolding type_of
-  called_there id place name object arguments r ts e f w =
+  called_there id position name object arguments r ts e f w =
       let both : (test : Receiver → Bool) → holds (call_receiver p types id object) (λ r. holds (all_types types arguments) (λ ts. test r)) ≡ test r
       = λ test. ap (λ (o : Option Receiver). holds o (λ r. holds (all_types types arguments) (λ ts. test r))) e ∙ ap (λ (o : Option (List Ty)). holds o (λ ts. test r)) f in
       let t = call_typed r name (sym (both is_no_reference) ∙ w.of_reference) (sym (both (λ r. lacks_method p r name)) ∙ w.has_method) in
@@ -314,47 +314,47 @@ module _ (forest : Forest) (accepted : IsAccepted forest) (whole : IsForest fore
   pub all_of : (x : ℕ) (ids : List ℕ) → AllOf is_argument forest.nodes ids → is_among x ids ≡ true → Of is_argument forest.nodes x
   all_of x ids h e = among_of forest.nodes is_argument x ids h e
 
-  call_there : (id : ℕ) (place : Pos) (name : List ℕ) (object : Option ℕ) (arguments : List ℕ) → Typed id (Call place name object arguments)
+  call_there : (id : ℕ) (position : Pos) (name : List ℕ) (object : Option ℕ) (arguments : List ℕ) → Typed id (Call position name object arguments)
   unfolding children is_argument is_expression object_of takes_parts HasRightChildren call_receiver
-  call_there id place name None arguments b c there inside below =
-      let s = sorted.each id (Call place name None arguments) there in
+  call_there id position name None arguments b c there inside below =
+      let s = sorted.each id (Call position name None arguments) there in
       let ts = all_typed arguments (λ x among. typed_child b c id _ there inside below refl x among (all_of x arguments s.1 among) refl refl) in
-      called_there id place name None arguments (own_object c) ts.0 (ap (option_map (λ class. own_object class)) inside.class) ts.1 (right_call p types id place name None arguments (unbroken id _ there))
-  call_there id place name (Some object) arguments b c there inside below =
-      let s = sorted.each id (Call place name (Some object) arguments) there in
+      called_there id position name None arguments (own_object c) ts.0 (ap (option_map (λ class. own_object class)) inside.class) ts.1 (right_call p types id position name None arguments (unbroken id _ there))
+  call_there id position name (Some object) arguments b c there inside below =
+      let s = sorted.each id (Call position name (Some object) arguments) there in
       let o = of_expression object s.0 in
       let ts = all_typed arguments
       (λ x among. typed_child b c id _ there inside below refl x (or_right (x == object) (is_among x arguments) among) (all_of x arguments s.1 among) (not_first forest whole accepted id x object _ arguments there refl among) refl) in
       let r = receiver_there object o.node o.is_there (object_typed b c id _ there inside below refl object (same_first object arguments) o refl) in
-      called_there id place name (Some object) arguments r.0 ts.0 r.1 ts.1 (right_call p types id place name (Some object) arguments (unbroken id _ there))
+      called_there id position name (Some object) arguments r.0 ts.0 r.1 ts.1 (right_call p types id position name (Some object) arguments (unbroken id _ there))
 
-  new_there : (id : ℕ) (place name_place : Pos) (name arguments : List ℕ) → is_form_part p id ≡ false → Typed id (New place name_place name arguments)
+  new_there : (id : ℕ) (position name_place : Pos) (name arguments : List ℕ) → is_form_part p id ≡ false → Typed id (New position name_place name arguments)
   unfolding type_of children is_argument is_expression object_of takes_parts HasRightChildren
-  new_there id place name_place name arguments plain b c there inside below =
-      let s = sorted.each id (New place name_place name arguments) there in
+  new_there id position name_place name arguments plain b c there inside below =
+      let s = sorted.each id (New position name_place name arguments) there in
       let ts = all_typed arguments (λ x among. typed_child b c id _ there inside below refl x among (all_of x arguments s among) refl plain) in
-      let n = new_names_class forest accepted sorted id place name_place name arguments (at_p id _ there) in
+      let n = new_names_class forest accepted sorted id position name_place name arguments (at_p id _ there) in
       (ClassTy n.0, ap (λ t. if t then None else option_and_then (λ ts. class_type_named p name) (all_types types arguments)) plain ∙ ap (option_and_then (λ ts. class_type_named p name)) ts.1 ∙ ap (option_map (λ class. ClassTy class)) n.1)
 
   typed_of : (id : ℕ) (node : Node) → IsValue p id node → Typed id node
   unfolding type_of is_argument is_expression class_at_name
-  typed_of id (Number place value is_negative) v b c there inside below = (Int, refl)
-  typed_of id (True place) v b c there inside below = (Boolean, refl)
-  typed_of id (False place) v b c there inside below = (Boolean, refl)
-  typed_of id (Null place) v b c there inside below = (NullTy, refl)
-  typed_of id (Text place text) v b c there inside below = (Label, refl)
-  typed_of id (ThisNode place) v b c there inside below = (ClassTy c, ap (option_map (λ class. ClassTy class)) inside.class)
-  typed_of id (SimpleName place name) v b c there inside below =
-      (let w = right_name p types id place name (unbroken id _ there) in meaning_typed id name w.means_something v.no_class)
-  typed_of id (Parenthesized place inner) v b c there inside below = parenthesized_typed id place inner b c there inside below
-  typed_of id (Binary place operator left operand) v b c there inside below = binary_typed id place operator left operand b c there inside below
-  typed_of id (Unary place operator operand) v b c there inside below = unary_typed id place operator operand b c there inside below
-  typed_of id (Cast place name_place name operand) v b c there inside below = cast_typed id place name_place name operand b c there inside below
-  typed_of id (FieldAccess place name object) v b c there inside below = access_there id place name object b c there inside below
-  typed_of id (Call place name object arguments) v b c there inside below = call_there id place name object arguments b c there inside below
-  typed_of id (Element place array index) v b c there inside below = element_typed id place array index b c there inside below
-  typed_of id (New place name_place name arguments) v b c there inside below = new_there id place name_place name arguments v.no_form_part b c there inside below
-  typed_of id (NewArray place element size) v b c there inside below = new_array_typed id place element size b c there inside below
+  typed_of id (Number position value is_negative) v b c there inside below = (Int, refl)
+  typed_of id (True position) v b c there inside below = (Boolean, refl)
+  typed_of id (False position) v b c there inside below = (Boolean, refl)
+  typed_of id (Null position) v b c there inside below = (NullTy, refl)
+  typed_of id (Text position text) v b c there inside below = (Label, refl)
+  typed_of id (ThisNode position) v b c there inside below = (ClassTy c, ap (option_map (λ class. ClassTy class)) inside.class)
+  typed_of id (SimpleName position name) v b c there inside below =
+      (let w = right_name p types id position name (unbroken id _ there) in meaning_typed id name w.means_something v.no_class)
+  typed_of id (Parenthesized position inner) v b c there inside below = parenthesized_typed id position inner b c there inside below
+  typed_of id (Binary position operator left operand) v b c there inside below = binary_typed id position operator left operand b c there inside below
+  typed_of id (Unary position operator operand) v b c there inside below = unary_typed id position operator operand b c there inside below
+  typed_of id (Cast position name_place name operand) v b c there inside below = cast_typed id position name_place name operand b c there inside below
+  typed_of id (FieldAccess position name object) v b c there inside below = access_there id position name object b c there inside below
+  typed_of id (Call position name object arguments) v b c there inside below = call_there id position name object arguments b c there inside below
+  typed_of id (Element position array index) v b c there inside below = element_typed id position array index b c there inside below
+  typed_of id (New position name_place name arguments) v b c there inside below = new_there id position name_place name arguments v.no_form_part b c there inside below
+  typed_of id (NewArray position element size) v b c there inside below = new_array_typed id position element size b c there inside below
   typed_of id _ v b c there inside below = absurd (true≢false (sym v.is_argument))
 
   pub type_is : (x : ℕ) (node : Node) → slice_get forest.nodes x ≡ Some node → types x ≡ type_of p types x node

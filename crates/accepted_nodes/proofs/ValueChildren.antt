@@ -25,16 +25,16 @@ use Rattle.accepted_laws.proofs.InnerNodes.{is_inner, inner_no_class}
 
 pub inner_no_member : (n : Node) → is_inner n ≡ true → is_member n ≡ false
 unfolding is_inner is_member
-inner_no_member (Class place name flags header members) e = refl
-inner_no_member (Field place name flags declared_type equals value) e = absurd (true≢false (sym e))
-inner_no_member (Method place name flags result_type parameters body) e = absurd (true≢false (sym e))
-inner_no_member (Constructor place name flags parameters super_call body) e = absurd (true≢false (sym e))
+inner_no_member (Class position name flags header members) e = refl
+inner_no_member (Field position name flags declared_type equals value) e = absurd (true≢false (sym e))
+inner_no_member (Method position name flags result_type parameters body) e = absurd (true≢false (sym e))
+inner_no_member (Constructor position name flags parameters super_call body) e = absurd (true≢false (sym e))
 inner_no_member _ e = refl
 
 -- a name that doesn't stand before a dot denotes no class
 pub no_class_name : (p : Declarations) (x : ℕ) (child : Node) → (context p x).before_dot ≡ false → class_at_name p x child ≡ None
 unfolding class_at_name class_in meaning class_meaning
-no_class_name p x (SimpleName place name) e = go (variable_named p x name) (option_and_then (λ class. field_named p.classes class name) (context p x).class)
+no_class_name p x (SimpleName position name) e = go (variable_named p x name) (option_and_then (λ class. field_named p.classes class name) (context p x).class)
   where
     go : (v : Option ℕ) (f : Option FoundField)
         → class_in (elim v as (λ _. Meaning) [ Some v ↦ a_variable v | None ↦ elim f as (λ _. Meaning) [ Some f ↦ a_field f | None ↦ if (context p x).before_dot then (elim (class_number p.names name) as (λ _. Meaning) [ None ↦ nothing | Some class ↦ a_class class ]) else nothing ] ]) ≡ None

@@ -66,40 +66,40 @@ module _ (forest : Forest) (accepted : IsAccepted forest) where
       ∙ right (holds (type_at_node p condition) (λ t. not (is_boolean t))) T8 (place_at p.nodes condition) (both_empty (broken (holds (type_at_node p condition) (λ t. not (is_boolean t))) T8 (place_at p.nodes condition)) [] e).0)
 
   -- the condition of an `if` is boolean
-  pub if_condition : (id : ℕ) (place : Pos) (condition then_part : ℕ) (else_part : Option ℕ) (t : Ty) → slice_get p.nodes id ≡ Some (If place condition then_part else_part) → type_at_node p condition ≡ Some t → t ≡ Boolean
+  pub if_condition : (id : ℕ) (position : Pos) (condition then_part : ℕ) (else_part : Option ℕ) (t : Ty) → slice_get p.nodes id ≡ Some (If position condition then_part else_part) → type_at_node p condition ≡ Some t → t ≡ Boolean
   unfolding type_breaks t1 t2 t3 t4 t5 t6 t7 t8 t9 t10 t11 t12 t13 t14
-  if_condition id place condition then_part else_part t there h =
-      let n = no_break_at_node forest accepted id (If place condition then_part else_part) there in condition_boolean condition t n.no_type_rule h
+  if_condition id position condition then_part else_part t there h =
+      let n = no_break_at_node forest accepted id (If position condition then_part else_part) there in condition_boolean condition t n.no_type_rule h
 
   -- the condition of a `while` is boolean
-  pub while_condition : (id : ℕ) (place : Pos) (condition body : ℕ) (t : Ty) → slice_get p.nodes id ≡ Some (While place condition body) → type_at_node p condition ≡ Some t → t ≡ Boolean
+  pub while_condition : (id : ℕ) (position : Pos) (condition body : ℕ) (t : Ty) → slice_get p.nodes id ≡ Some (While position condition body) → type_at_node p condition ≡ Some t → t ≡ Boolean
   unfolding type_breaks t1 t2 t3 t4 t5 t6 t7 t8 t9 t10 t11 t12 t13 t14
-  while_condition id place condition body t there h =
-      let n = no_break_at_node forest accepted id (While place condition body) there in condition_boolean condition t n.no_type_rule h
+  while_condition id position condition body t there h =
+      let n = no_break_at_node forest accepted id (While position condition body) there in condition_boolean condition t n.no_type_rule h
 
   -- the condition of a `for` is boolean
-  pub for_condition : (id : ℕ) (place : Pos) (first condition step body : ℕ) (t : Ty) → slice_get p.nodes id ≡ Some (For place first condition step body) → type_at_node p condition ≡ Some t → t ≡ Boolean
+  pub for_condition : (id : ℕ) (position : Pos) (first condition step body : ℕ) (t : Ty) → slice_get p.nodes id ≡ Some (For position first condition step body) → type_at_node p condition ≡ Some t → t ≡ Boolean
   unfolding type_breaks t1 t2 t3 t4 t5 t6 t7 t8 t9 t10 t11 t12 t13 t14
-  for_condition id place first condition step body t there h =
-      let n = no_break_at_node forest accepted id (For place first condition step body) there in condition_boolean condition t n.no_type_rule h
+  for_condition id position first condition step body t there h =
+      let n = no_break_at_node forest accepted id (For position first condition step body) there in condition_boolean condition t n.no_type_rule h
 
-  variable_is : (id : ℕ) (place name_place : Pos) (name : List ℕ) (flags : Option ℕ) (declared_type value : ℕ) → slice_get p.nodes id ≡ Some (LocalWithValue place name_place name flags declared_type value)
+  variable_is : (id : ℕ) (position name_place : Pos) (name : List ℕ) (flags : Option ℕ) (declared_type value : ℕ) → slice_get p.nodes id ≡ Some (LocalWithValue position name_place name flags declared_type value)
       → option_and_then (declared_type_of p) (variable_at p.nodes id) ≡ written_type p declared_type
   unfolding variable_of
-  variable_is id place name_place name flags declared_type value there =
+  variable_is id position name_place name flags declared_type value there =
       ap (λ (o : Option Node). option_and_then (declared_type_of p) (option_and_then (variable_of p.nodes id) o)) there
 
   -- the value with which a local is declared fits the local
-  pub initial_value_fits : (id : ℕ) (place name_place : Pos) (name : List ℕ) (flags : Option ℕ) (declared_type value : ℕ) → slice_get p.nodes id ≡ Some (LocalWithValue place name_place name flags declared_type value)
+  pub initial_value_fits : (id : ℕ) (position name_place : Pos) (name : List ℕ) (flags : Option ℕ) (declared_type value : ℕ) → slice_get p.nodes id ≡ Some (LocalWithValue position name_place name flags declared_type value)
       → (j k : Kind) → Judged p value (Some j) → kind_of_variable p id ≡ Some k → IsRealKind k → Fits p This Caller j k
   unfolding Judged kind_of_variable type_breaks t1 t2 t3 t4 t5 t6 t7 t8 t9 t10 t11 t12 t13 t14 use_breaks e1 e2 e3 e4_and_e5 e6 e7 e8 e9 e10
-  initial_value_fits id place name_place name flags declared_type value there j k ej ek real_ =
-      let n = no_break_at_node forest accepted id (LocalWithValue place name_place name flags declared_type value) there in
-      let after = both_empty (broken (is_declared_already p id name) T2 name_place) (broken (misfits_initial_value p (type_at_node p) declared_type value) T7 place ++ []) n.no_type_rule in
-      let types = right (misfits_initial_value p (type_at_node p) declared_type value) T7 place (both_empty (broken (misfits_initial_value p (type_at_node p) declared_type value) T7 place) [] after.1).0 in
-      let scopes = right (misfit_scope (scope_at_node p value) (variable_scope_at p id)) E4 place (both_empty (broken (misfit_scope (scope_at_node p value) (variable_scope_at p id)) E4 place) [] n.no_use_rule).0 in
+  initial_value_fits id position name_place name flags declared_type value there j k ej ek real_ =
+      let n = no_break_at_node forest accepted id (LocalWithValue position name_place name flags declared_type value) there in
+      let after = both_empty (broken (is_declared_already p id name) T2 name_place) (broken (misfits_initial_value p (type_at_node p) declared_type value) T7 position ++ []) n.no_type_rule in
+      let types = right (misfits_initial_value p (type_at_node p) declared_type value) T7 position (both_empty (broken (misfits_initial_value p (type_at_node p) declared_type value) T7 position) [] after.1).0 in
+      let scopes = right (misfit_scope (scope_at_node p value) (variable_scope_at p id)) E4 position (both_empty (broken (misfit_scope (scope_at_node p value) (variable_scope_at p id)) E4 position) [] n.no_use_rule).0 in
       let t = typed_of (type_at_node p value) (scope_at_node p value) j ej in
-      let ek2 : kind_of (written_type p declared_type) (variable_scope_at p id) ≡ Some k = ap (λ (o : Option Ty). kind_of o (variable_scope_at p id)) (sym (variable_is id place name_place name flags declared_type value there)) ∙ ek in
+      let ek2 : kind_of (written_type p declared_type) (variable_scope_at p id) ≡ Some k = ap (λ (o : Option Ty). kind_of o (variable_scope_at p id)) (sym (variable_is id position name_place name flags declared_type value there)) ∙ ek in
       let u = typed_of (written_type p declared_type) (variable_scope_at p id) k ek2 in
       let fit : not (assigns p.classes t.0 u.0) ≡ false =
       sym (ap (λ (o : Option Ty). holds o (λ u. holds (type_at_node p value) (λ v. not (assigns p.classes v u)))) u.1 ∙ ap (λ (o : Option Ty). holds o (λ v. not (assigns p.classes v u.0))) t.1) ∙ types in
@@ -109,13 +109,13 @@ module _ (forest : Forest) (accepted : IsAccepted forest) where
 
   module _ (whole : IsForest forest) (sorted : IsWellSorted forest.nodes) where
     -- `this` stands where there is an object, is of the class around it, and lies where that class's objects lie
-    pub this_is_own : (b c id : ℕ) (place : Pos) → slice_get p.nodes id ≡ Some (ThisNode place) → Inside p b c id → (own : OwnObject p b c) × Judged p id (Some (reference (ClassTy c) own.home))
+    pub this_is_own : (b c id : ℕ) (position : Pos) → slice_get p.nodes id ≡ Some (ThisNode position) → Inside p b c id → (own : OwnObject p b c) × Judged p id (Some (reference (ClassTy c) own.home))
     unfolding Judged kind_of type_of scope_of type_breaks t1 t2 t3 t4 t5 t6 t7 t8 t9 t10 t11 t12 t13 t14
-    this_is_own b c id place there inside =
-        let ts = types_are p (behind_children forest whole) (type_phase_empty forest accepted) id (ThisNode place) there in
+    this_is_own b c id position there inside =
+        let ts = types_are p (behind_children forest whole) (type_phase_empty forest accepted) id (ThisNode position) there in
         let h = this_has_scope forest accepted whole sorted c in
         let ty : type_at_node p id ≡ Some (ClassTy c) = ts.1 ∙ ap (λ (o : Option ℕ). option_map (λ class. ClassTy class) o) inside.class in
-        let sc : scope_at_node p id ≡ Some h.0 = scopes_are p (type_at_node p) (behind_children forest whole) id (ThisNode place) there ∙ ap (λ (o : Option ℕ). option_and_then (this_in p) o) inside.class ∙ h.1 in (
-          record { has_object = has_object_static p id b inside.member (right (not (has_object p id)) T13 place (both_empty (broken (not (has_object p id)) T13 place) [] ts.0).0); home = h.0; is_home = h.1 },
+        let sc : scope_at_node p id ≡ Some h.0 = scopes_are p (type_at_node p) (behind_children forest whole) id (ThisNode position) there ∙ ap (λ (o : Option ℕ). option_and_then (this_in p) o) inside.class ∙ h.1 in (
+          record { has_object = has_object_static p id b inside.member (right (not (has_object p id)) T13 position (both_empty (broken (not (has_object p id)) T13 position) [] ts.0).0); home = h.0; is_home = h.1 },
           ap (λ (o : Option Ty). kind_of o (scope_at_node p id)) ty ∙ ap (λ (o : Option Scope). kind_of (Some (ClassTy c)) o) sc,
         )

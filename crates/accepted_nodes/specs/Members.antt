@@ -14,6 +14,6 @@ pub record HasNumber (p : Declarations) (field : Declared) : Type 0 where
 -- each object of the class has a slot for the field of a number: it stands behind the hidden fields, at the place that the
 -- field has among the instance fields of the class
 pub record HasSlot (p : Declarations) (class : ℕ) (number : ℕ) (field : Declared) : Type 0 where
-  pub place : ℕ
-  pub slot : slot_of p class number ≡ Some (hidden_fields p.classes class + place)
-  pub declares : slice_get (instance_fields p.classes class) place ≡ Some field
+  pub index : ℕ
+  pub slot : slot_of p class number ≡ Some (hidden_fields p.classes class + index)
+  pub declares : slice_get (instance_fields p.classes class) index ≡ Some field

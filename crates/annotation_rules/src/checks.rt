@@ -71,8 +71,8 @@ pub fn note_annotation(
         }
         Node::Field { .. } => note_field_at(found, facts, id),
         Node::Method { .. } => note_method_at(found, facts, id),
-        Node::Class { place, name, .. } => match facts.class_of(name.get()) {
-            Some(class) => note_class(found, facts, class, *place),
+        Node::Class { position, name, .. } => match facts.class_of(name.get()) {
+            Some(class) => note_class(found, facts, class, *position),
             None => Ok(()),
         },
         _ => Ok(()),

@@ -112,7 +112,7 @@ fn note_override(found: &mut Vec<Found>, facts: &Facts, method: &MethodRef) -> R
 {
     if overrides_scopes(facts, method) {
         let declared = declared(facts.program(), method);
-        report_if(found, true, Rule::A6, declared.place)?;
+        report_if(found, true, Rule::A6, declared.position)?;
     }
     Ok(())
 }
@@ -134,9 +134,9 @@ fn note_written(found: &mut Vec<Found>, facts: &Facts, method: &MethodRef) -> Re
     note_override(found, facts, method)?;
     if let Some(written) = &modifiers.runs_in {
         let is_unknown = has_unknown_runs_in(facts, method, written);
-        report_if(found, is_unknown, Rule::A7, written.place)?;
+        report_if(found, is_unknown, Rule::A7, written.position)?;
         let is_other = has_other_runs_in(facts, method.on, method, written);
-        report_if(found, is_other, Rule::A8, written.place)?;
+        report_if(found, is_other, Rule::A8, written.position)?;
     }
     note_contradiction(found, facts, &thing)?;
     Ok(())

@@ -32,7 +32,7 @@ pub fn note_unknown(
     match &thing.scope {
         Some(written) => {
             let test = is_unknown_scope(facts, thing, written);
-            report_if(found, test, Rule::A1, written.place)
+            report_if(found, test, Rule::A1, written.position)
         }
         None => Ok(()),
     }
@@ -50,7 +50,7 @@ pub fn note_contradiction(
     match &thing.scope {
         Some(written) => {
             let test = contradicts(facts, thing, written);
-            report_if(found, test, Rule::A9, written.place)
+            report_if(found, test, Rule::A9, written.position)
         }
         None => Ok(()),
     }
@@ -102,11 +102,11 @@ pub fn note_class(
     found: &mut Vec<Found>,
     facts: &Facts,
     class: ClassId,
-    place: Pos,
+    position: Pos,
 ) -> Result<(), Memory>
     ensures { let p = declarations_of facts.now in
         OnOk result (found.new.items ≡ found.old.items
-        ++ (a1_of_class p class ++ broken (has_other_scope p class) A2 (a2_place place (scope_written_in p class)))) }
+        ++ (a1_of_class p class ++ broken (has_other_scope p class) A2 (a2_place position (scope_written_in p class)))) }
 {
     let written = scope_written_in(facts, class);
     let above = match facts.classes().superclass(class) {
@@ -116,11 +116,11 @@ pub fn note_class(
     let implied = is_implied_immortal(facts, class);
     let test = differs_from_above(facts, &written, &above, implied);
     let Some(value) = &written else {
-        return report_if(found, test, Rule::A2, place);
+        return report_if(found, test, Rule::A2, position);
     };
     let is_unknown = has_unknown_scope(facts, &written);
-    report_if(found, is_unknown, Rule::A1, value.place)?;
-    report_if(found, test, Rule::A2, value.place)?;
+    report_if(found, is_unknown, Rule::A1, value.position)?;
+    report_if(found, test, Rule::A2, value.position)?;
     Ok(())
 }
 
@@ -156,7 +156,7 @@ pub fn note_field(
     let scope = declaration_scope(facts, &thing);
     let test = misfits(facts, class, thing.is_static, &scope);
     let rule = field_rule(&class_scope(facts, class), thing.is_static);
-    report_if(found, test, rule, field.place)?;
+    report_if(found, test, rule, field.position)?;
     note_contradiction(found, facts, &thing)?;
     Ok(())
 }

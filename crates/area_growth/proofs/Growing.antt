@@ -124,17 +124,17 @@ still_closed_all s [] = same_still s s (unchanged s s refl refl)
 still_closed_all s (f ∷ fs) =
     still_then_still s (closed s f.opened) _ (still_closed s f.opened) (still_closed_all (closed s f.opened) fs)
 
-pub still_fault : (s : State) (job : Job) (activity : Activity) (place : Pos) (fault : RunFault) →
-    StillTo s (fault_in s job activity place fault)
+pub still_fault : (s : State) (job : Job) (activity : Activity) (position : Pos) (fault : RunFault) →
+    StillTo s (fault_in s job activity position fault)
 unfolding fault_in
-still_fault s TheSequencer activity place fault = same_still s _ (unchanged s _ refl refl)
-still_fault s (ReleaseAt n) activity place fault =
+still_fault s TheSequencer activity position fault = same_still s _ (unchanged s _ refl refl)
+still_fault s (ReleaseAt n) activity position fault =
     still_then_still s (closed_all s activity.frames) _ (still_closed_all s activity.frames)
     (same_still (closed_all s activity.frames) _ (unchanged (closed_all s activity.frames) _ refl refl))
 
-pub faulted : (s : State) (job : Job) (activity : Activity) (place : Pos) (fault : RunFault) →
-    GoesTo s (fault_in s job activity place fault)
-faulted s job activity place fault = goes_still s _ (still_fault s job activity place fault)
+pub faulted : (s : State) (job : Job) (activity : Activity) (position : Pos) (fault : RunFault) →
+    GoesTo s (fault_in s job activity position fault)
+faulted s job activity position fault = goes_still s _ (still_fault s job activity position fault)
 
 pub same_ended : (s : State) (job : Job) (activity : Activity) (value : Option Value) →
     SameTo s (job_ended s job activity value)
@@ -157,13 +157,13 @@ same_changed s t change r e f keeps =
 
 -- ---- effects
 
-pub still_called : (code : Code) (s : State) (job : Job) (activity : Activity) (frames : List Frame) (place : Pos)
-    (g : Frame) → StillTo s (called code s job activity frames place g)
+pub still_called : (code : Code) (s : State) (job : Job) (activity : Activity) (frames : List Frame) (position : Pos)
+    (g : Frame) → StillTo s (called code s job activity frames position g)
 unfolding called
-still_called code s job activity frames place g =
-    of_if (λ r. StillTo s r) (is_full frames) _ _ (still_fault s job activity place _)
+still_called code s job activity frames position g =
+    of_if (λ r. StillTo s r) (is_full frames) _ _ (still_fault s job activity position _)
     (of_option (λ r. StillTo s r) (ceiling_entered code s g) _ _ (still_active s job _)
-    (λ ceiling. of_if (λ r. StillTo s r) (nat_lt ceiling activity.priority) _ _ (still_fault s job activity place _)
+    (λ ceiling. of_if (λ r. StillTo s r) (nat_lt ceiling activity.priority) _ _ (still_fault s job activity position _)
     (still_active s job _)))
 
 one_area : (s : State) (scope : ℕ) (parent : Option ℕ) (bytes : ℕ) → GoesOn s (with_area s scope parent bytes)
@@ -178,33 +178,33 @@ one_object s class area slots is_open =
     makes area is_open refl (omega (arith, more))
     (λ a d. used_beside s.objects a (new_object class area slots) (λ e. d (sym e)))
 
-pub goes_opening : (s : State) (job : Job) (activity : Activity) (place : Pos) (scope : ℕ) (parent : Option ℕ)
+pub goes_opening : (s : State) (job : Job) (activity : Activity) (position : Pos) (scope : ℕ) (parent : Option ℕ)
     (bytes : ℕ) (next : State → ℕ → Step) → ((t : State) (a : ℕ) → SameTo t (next t a)) →
-    GoesTo s (opening s job activity place scope parent bytes next)
+    GoesTo s (opening s job activity position scope parent bytes next)
 unfolding opening
-goes_opening s job activity place scope parent bytes next h =
+goes_opening s job activity position scope parent bytes next h =
     of_if (λ r. GoesTo s r) (has_store_for s bytes) _ _
     (goes_then_same s (with_area s scope parent bytes) _ (one_area s scope parent bytes)
     (h (with_area s scope parent bytes) (length s.areas)))
-    (faulted s job activity place _)
+    (faulted s job activity position _)
 
-pub goes_allocating : (s : State) (job : Job) (activity : Activity) (place : Pos) (class area : ℕ) (slots : List Value)
+pub goes_allocating : (s : State) (job : Job) (activity : Activity) (position : Pos) (class area : ℕ) (slots : List Value)
     (next : State → ℕ → Step) → is_open_area s area ≡ true → ((t : State) (r : ℕ) → SameTo t (next t r)) →
-    GoesTo s (allocating s job activity place class area slots next)
+    GoesTo s (allocating s job activity position class area slots next)
 unfolding allocating
-goes_allocating s job activity place class area slots next is_open h =
+goes_allocating s job activity position class area slots next is_open h =
     of_if (λ r. GoesTo s r) (has_room s area (length slots)) _ _
     (goes_then_same s (with_object s class area slots) _ (one_object s class area slots is_open)
     (h (with_object s class area slots) (length s.objects)))
-    (faulted s job activity place _)
+    (faulted s job activity position _)
 
-pub goes_opened : (s : State) (job : Job) (activity : Activity) (frames : List Frame) (place : Pos) (g : Frame)
-    (scope bytes : ℕ) → GoesTo s (opened_in s job activity frames place g scope bytes)
+pub goes_opened : (s : State) (job : Job) (activity : Activity) (frames : List Frame) (position : Pos) (g : Frame)
+    (scope bytes : ℕ) → GoesTo s (opened_in s job activity frames position g scope bytes)
 unfolding opened_in
-goes_opened s job activity frames place g scope bytes =
-    of_if (λ r. GoesTo s r) (is_some (area_with_scope s scope activity.areas)) _ _ (faulted s job activity place _)
-    (of_if (λ r. GoesTo s r) (is_full frames) _ _ (faulted s job activity place _)
-    (goes_opening s job activity place scope (Some g.area) bytes _ (λ t a. same_active t job _)))
+goes_opened s job activity frames position g scope bytes =
+    of_if (λ r. GoesTo s r) (is_some (area_with_scope s scope activity.areas)) _ _ (faulted s job activity position _)
+    (of_if (λ r. GoesTo s r) (is_full frames) _ _ (faulted s job activity position _)
+    (goes_opening s job activity position scope (Some g.area) bytes _ (λ t a. same_active t job _)))
 
 pub still_left : (s : State) (job : Job) (activity : Activity) (f : Frame) (below : List Frame)
     (value : Option Value) → StillTo s (frame_left s job activity f below value)
@@ -244,12 +244,12 @@ same_asked s r =
     (of_if (λ x. SameTo s x) (is_exec s.phase) _ _ (unchanged s _ refl refl) (unchanged s _ refl refl))
     (unchanged s _ refl refl)
 
-pub still_registered : (code : Code) (s : State) (job : Job) (activity : Activity) (place : Pos) (r : ℕ) (o : Object)
-    (after : State) → StaysSame s after → StillTo s (registered code s job activity place r o after)
+pub still_registered : (code : Code) (s : State) (job : Job) (activity : Activity) (position : Pos) (r : ℕ) (o : Object)
+    (after : State) → StaysSame s after → StillTo s (registered code s job activity position r o after)
 unfolding registered
-still_registered code s job activity place r o after g =
-    of_if (λ x. StillTo s x) (not (is_init s.phase)) _ _ (still_fault s job activity place _)
+still_registered code s job activity position r o after g =
+    of_if (λ x. StillTo s x) (not (is_init s.phase)) _ _ (still_fault s job activity position _)
     (of_if (λ x. StillTo s x) (is_some (handler_number s.registry r)) _ _ (same_still s after g)
     (of_if (λ x. StillTo s x) (not (nat_lt (length s.registry) most_handlers)) _ _
-    (still_fault s job activity place _)
+    (still_fault s job activity position _)
     (same_still s _ (same_then_same s after _ g (unchanged after _ refl refl)))))

@@ -70,54 +70,54 @@ goes_changed : (s t : State) (job : Job) (activity : Activity) (f : Frame) (belo
     GoesOn s (with_frame t job activity f below)
 goes_changed s t job activity f below g = goes_same s _ (same_then_same s t _ g (same_active t job _))
 
-goes_applied : (code : Code) (s : State) (job : Job) (activity : Activity) (below : List Frame) (place : Pos)
+goes_applied : (code : Code) (s : State) (job : Job) (activity : Activity) (below : List Frame) (position : Pos)
     (effect : Effect) →
     IsSituated s.areas s.objects effect →
-    GoesIf s (applied code s job activity below place effect)
+    GoesIf s (applied code s job activity below position effect)
 unfolding applied
-goes_applied code s job activity below place (Goes f) m = some_goes s _ (goes_same s _ (same_active s job _))
-goes_applied code s job activity below place (Prints f label value) m =
+goes_applied code s job activity below position (Goes f) m = some_goes s _ (goes_same s _ (same_active s job _))
+goes_applied code s job activity below position (Prints f label value) m =
     some_goes s _ (goes_same s _ (same_active s job _))
-goes_applied code s job activity below place (Makes f class slots) m =
+goes_applied code s job activity below position (Makes f class slots) m =
     some_goes s _
-    (goes_allocating s job activity place class f.area slots _ m (λ t r. same_active t job _))
-goes_applied code s job activity below place (Stores f r slot value) m =
+    (goes_allocating s job activity position class f.area slots _ m (λ t r. same_active t job _))
+goes_applied code s job activity below position (Stores f r slot value) m =
     some_goes s _
     (goes_changed s _ job activity f below
     (same_changed s _ (λ (o : Object). record o { slots = slice_set o.slots slot value }) r refl refl
     (λ o there a. slot_kept slot value o a)))
-goes_applied code s job activity below place (StoresStatic f k value) m =
+goes_applied code s job activity below position (StoresStatic f k value) m =
     some_goes s _ (goes_changed s _ job activity f below (unchanged s _ refl refl))
-goes_applied code s job activity below place (SetsHidden f r values) m =
+goes_applied code s job activity below position (SetsHidden f r values) m =
     some_goes s _
     (goes_changed s _ job activity f below
     (same_changed s _ (with_first values) r refl refl (λ o there a. hidden_kept values o (m o there) a)))
-goes_applied code s job activity below place (SetsCeiling f r ceiling) m =
+goes_applied code s job activity below position (SetsCeiling f r ceiling) m =
     either_goes s (is_sequencer job) _ _
     (some_goes s _
     (goes_changed s _ job activity f below
     (same_changed s _ (with_ceiling ceiling) r refl refl (λ o there a. refl))))
-    (some_goes s _ (faulted s job activity place _))
-goes_applied code s job activity below place (Calls f g) m =
-    some_goes s _ (goes_still s _ (still_called code s job activity (f ∷ below) place g))
-goes_applied code s job activity below place (Opens f g scope bytes) m =
-    some_goes s _ (goes_opened s job activity (f ∷ below) place g scope bytes)
-goes_applied code s job activity below place (Leaves f value) m =
+    (some_goes s _ (faulted s job activity position _))
+goes_applied code s job activity below position (Calls f g) m =
+    some_goes s _ (goes_still s _ (still_called code s job activity (f ∷ below) position g))
+goes_applied code s job activity below position (Opens f g scope bytes) m =
+    some_goes s _ (goes_opened s job activity (f ∷ below) position g scope bytes)
+goes_applied code s job activity below position (Leaves f value) m =
     some_goes s _ (goes_still s _ (still_left s job activity f below value))
-goes_applied code s job activity below place (AsksRegistration f r) m =
+goes_applied code s job activity below position (AsksRegistration f r) m =
     mapped_goes s (object_at s r) _ (λ o.
-    goes_still s _ (still_registered code s job activity place r o (with_frame s job activity f below)
+    goes_still s _ (still_registered code s job activity position r o (with_frame s job activity f below)
     (same_active s job _)))
-goes_applied code s job activity below place (AsksRelease f r) m =
+goes_applied code s job activity below position (AsksRelease f r) m =
     some_goes s _
     (goes_same s _ (same_then_same s (with_frame s job activity f below) _ (same_active s job _)
     (same_released (with_frame s job activity f below) r)))
-goes_applied code s job activity below place (AsksTermination f r) m =
+goes_applied code s job activity below position (AsksTermination f r) m =
     some_goes s _
     (goes_same s _ (same_then_same s (with_frame s job activity f below) _ (same_active s job _)
     (same_asked (with_frame s job activity f below) r)))
-goes_applied code s job activity below place (Faults fault) m = some_goes s _ (faulted s job activity place fault)
-goes_applied code s job activity below place Stuck m = none_goes s
+goes_applied code s job activity below position (Faults fault) m = some_goes s _ (faulted s job activity position fault)
+goes_applied code s job activity below position Stuck m = none_goes s
 
 -- ---- operations of jobs
 
@@ -152,43 +152,43 @@ goes_frame code rows s job activity m = go activity.frames m
     go [] k = none_goes s
     go (f ∷ below) k = act f below f.rest (λ op rest e. k f below op rest refl e)
 
-goes_start : (code : Code) (s : State) (place : ℕ) (r : Release) → GoesIf s (start_op code s place r)
+goes_start : (code : Code) (s : State) (index : ℕ) (r : Release) → GoesIf s (start_op code s index r)
 unfolding start_op started_with
-goes_start code s place r =
+goes_start code s index r =
     bind_goes s (handler_row s.registry r.handler) _ (λ row _.
     bind_goes s (defined_by_chain code.program row.class) _ (λ scope _.
     bind_goes s (body_named code.program row.class (codes "handleAsyncEvent")) _ (λ body _.
     some_goes s _
-    (goes_opening s (ReleaseAt place) no_activity (class_place code.program row.class) scope
-    (innermost s.activity.areas) row.bytes _ (λ t a. same_active t (ReleaseAt place) _)))))
+    (goes_opening s (ReleaseAt index) no_activity (class_place code.program row.class) scope
+    (innermost s.activity.areas) row.bytes _ (λ t a. same_active t (ReleaseAt index) _)))))
 
-goes_release : (code : Code) (rows : List ReadingRow) (s : State) (place : ℕ) (r : Release) →
+goes_release : (code : Code) (rows : List ReadingRow) (s : State) (index : ℕ) (r : Release) →
     ((activity : Activity) → activity_in r.status ≡ Some activity → Situated code rows s activity.frames) →
-    GoesIf s (release_op_of code rows s place r)
+    GoesIf s (release_op_of code rows s index r)
 unfolding release_op_of activity_in
-goes_release code rows s place r m = go r.status m
+goes_release code rows s index r m = go r.status m
   where
     go : (p : ReleaseStatus) →
         ((activity : Activity) → activity_in p ≡ Some activity → Situated code rows s activity.frames) →
         GoesIf s (elim p [
-          | Waits ↦ start_op code s place r
-          | Started activity ↦ frame_op code rows s (ReleaseAt place) activity
+          | Waits ↦ start_op code s index r
+          | Started activity ↦ frame_op code rows s (ReleaseAt index) activity
           | Ended ↦ None
           | Dropped ↦ None
         ])
-    go Waits k = goes_start code s place r
-    go (Started activity) k = goes_frame code rows s (ReleaseAt place) activity (k activity refl)
+    go Waits k = goes_start code s index r
+    go (Started activity) k = goes_frame code rows s (ReleaseAt index) activity (k activity refl)
     go Ended k = none_goes s
     go Dropped k = none_goes s
 
 -- a release that is there, in a state in which all operations are situated
-pub goes_ref_op : (code : Code) (rows : List ReadingRow) (s : State) (place : ℕ) →
-    ((activity : Activity) → activity_of s (ReleaseAt place) ≡ Some activity → Situated code rows s activity.frames) →
-    GoesIf s (ref_op code rows s (ReleaseAt place))
+pub goes_ref_op : (code : Code) (rows : List ReadingRow) (s : State) (index : ℕ) →
+    ((activity : Activity) → activity_of s (ReleaseAt index) ≡ Some activity → Situated code rows s activity.frames) →
+    GoesIf s (ref_op code rows s (ReleaseAt index))
 unfolding ref_op activity_of
-goes_ref_op code rows s place m =
-    bind_goes s (slice_get s.releases place) _ (λ r there.
-    goes_release code rows s place r (λ activity e. m activity
+goes_ref_op code rows s index m =
+    bind_goes s (slice_get s.releases index) _ (λ r there.
+    goes_release code rows s index r (λ activity e. m activity
     (ap (λ (o : Option Release). o >>= (λ (r : Release). activity_in r.status)) there ∙ e)))
 
 -- ---- the sequencer
@@ -203,17 +203,17 @@ goes_method code s r name =
     bind_goes s (object_at s r) _ (λ o _.
     bind_goes s (body_named code.program o.class name) _ (λ body _. goes_body code s r body))
 
-goes_area : (s : State) (place : Pos) (scope bytes : ℕ) → GoesTo s (area_opened s place scope bytes)
+goes_area : (s : State) (position : Pos) (scope bytes : ℕ) → GoesTo s (area_opened s position scope bytes)
 unfolding area_opened
-goes_area s place scope bytes =
-    goes_opening s TheSequencer s.activity place scope (innermost s.activity.areas) bytes _
+goes_area s position scope bytes =
+    goes_opening s TheSequencer s.activity position scope (innermost s.activity.areas) bytes _
     (λ t a. unchanged t _ refl refl)
 
-goes_safelet : (code : Code) (s : State) (place : Pos) (class area : ℕ) → is_open_area s area ≡ true →
-    GoesTo s (safelet_made code s place class area)
+goes_safelet : (code : Code) (s : State) (position : Pos) (class area : ℕ) → is_open_area s area ≡ true →
+    GoesTo s (safelet_made code s position class area)
 unfolding safelet_made
-goes_safelet code s place class area is_open =
-    goes_allocating s TheSequencer s.activity place class area (new_slots code.program class) _ is_open
+goes_safelet code s position class area is_open =
+    goes_allocating s TheSequencer s.activity position class area (new_slots code.program class) _ is_open
     (λ t r. unchanged t _ refl refl)
 
 among_here : (a : ℕ) (areas : List ℕ) → is_among a (a ∷ areas) ≡ true

@@ -32,9 +32,9 @@ turn_goes : (code : Code) (rows : List ReadingRow) (turn : Turn) (s : State) →
     GoesIf s (turn_acts code rows turn s)
 unfolding turn_acts
 turn_goes code rows IdleTurn s m = some_goes s _ (goes_same s _ (unchanged s _ refl refl))
-turn_goes code rows (TurnOf place) s m =
-    goes_ref_op code rows s place
-    (λ activity there f below op rest e r. m.jobs (ReleaseAt place) activity f below op rest there e r)
+turn_goes code rows (TurnOf index) s m =
+    goes_ref_op code rows s index
+    (λ activity there f below op rest e r. m.jobs (ReleaseAt index) activity f below op rest there e r)
 
 -- a turn that is taken changes nothing that is looked at
 taken : (code : Code) (rows : List ReadingRow) (s : State) (turn : Turn) → AreSituated code rows s →
@@ -48,7 +48,7 @@ taken code rows s turn m = record {
     same : (job : Job) (activity : Activity) → activity_of (turn_taken s turn).state job ≡ Some activity →
         activity_of s job ≡ Some activity
     same TheSequencer activity e = e
-    same (ReleaseAt place) activity e = e
+    same (ReleaseAt index) activity e = e
 
 chosen_goes : (code : Code) (rows : List ReadingRow) (s : State) (turn : Turn) → AreSituated code rows s →
     GoesIf s (then_try (turn_taken s turn) (turn_acts code rows turn))
@@ -145,8 +145,8 @@ fired_same code s fire = go (fired_handler code s fire.handler)
     go None = unchanged s _ refl refl
     go (Some handler) = same_taken s handler
 
-fired_at_same : (code : Code) (fires : List Fire) (s : State) (place : ℕ) → SameTo s (fired_at code fires s place)
-fired_at_same code fires s place = go (slice_get fires place)
+fired_at_same : (code : Code) (fires : List Fire) (s : State) (index : ℕ) → SameTo s (fired_at code fires s index)
+fired_at_same code fires s index = go (slice_get fires index)
   where
     go : (f : Option Fire) → SameTo s (elim f as (λ x. Step) [ None ↦ silently s | Some fire ↦ fired code s fire ])
     go None = unchanged s _ refl refl

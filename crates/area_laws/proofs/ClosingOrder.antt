@@ -118,54 +118,54 @@ started_status Ended a e = absurd (cc)
 started_status Dropped a e = absurd (cc)
 
 abbrev turn_of : Option ℕ → Turn
-turn_of o = elim o as (λ z. Turn) [ None ↦ IdleTurn | Some place ↦ TurnOf place ]
+turn_of o = elim o as (λ z. Turn) [ None ↦ IdleTurn | Some index ↦ TurnOf index ]
 
-pub chosen_of : (s : State) (place : ℕ) → by_priority s ≡ Some (TurnOf place) → chosen s ≡ Some place
+pub chosen_of : (s : State) (index : ℕ) → by_priority s ≡ Some (TurnOf index) → chosen s ≡ Some index
 unfolding by_priority
-chosen_of s place e = go (chosen s) refl
+chosen_of s index e = go (chosen s) refl
   where
-    told : turn_of (chosen s) ≡ TurnOf place
-    told = some_inj (turn_of (chosen s)) (TurnOf place) e
+    told : turn_of (chosen s) ≡ TurnOf index
+    told = some_inj (turn_of (chosen s)) (TurnOf index) e
 
-    go : (o : Option ℕ) → chosen s ≡ o → chosen s ≡ Some place
+    go : (o : Option ℕ) → chosen s ≡ o → chosen s ≡ Some index
     go None f =
         let idle : turn_of (chosen s) ≡ IdleTurn = ap turn_of f in
-        let is : turn_of (chosen s) ≡ TurnOf place = told in
+        let is : turn_of (chosen s) ≡ TurnOf index = told in
         absurd (cc)
     go (Some n) f =
         let other : turn_of (chosen s) ≡ TurnOf n = ap turn_of f in
-        let is : turn_of (chosen s) ≡ TurnOf place = told in
-        let same : n ≡ place = cc in
+        let is : turn_of (chosen s) ≡ TurnOf index = told in
+        let same : n ≡ index = cc in
         f ∙ ap (λ (k : ℕ). Some k) same
 
 module _ (forest : Forest) (accepted : IsAcceptedProgram forest) (plan : Plan) (s : State) where
-  pub release_closes : Reached (code_of forest) plan by_priority Arrived s → (place : ℕ) (activity : Activity) →
-      by_priority s ≡ Some (TurnOf place) → activity_of s (ReleaseAt place) ≡ Some activity →
+  pub release_closes : Reached (code_of forest) plan by_priority Arrived s → (index : ℕ) (activity : Activity) →
+      by_priority s ≡ Some (TurnOf index) → activity_of s (ReleaseAt index) ≡ Some activity →
       CloseInOrder s activity.frames
   unfolding activity_of
-  release_closes reached place activity turn e =
+  release_closes reached index activity turn e =
       in_order s activity.frames
       (record {
         falls = latest.falls;
-        are_open = λ a m. stands.listed a (opened_listed s (code_of forest) (ReleaseAt place) framed activity e a m);
+        are_open = λ a m. stands.listed a (opened_listed s (code_of forest) (ReleaseAt index) framed activity e a m);
         others = λ b here. other b (o.opened.is b here);
       })
     where
-      framed : Framed (code_of forest) s (ReleaseAt place)
-      framed = framed_by_priority forest accepted plan Arrived s reached (ReleaseAt place)
+      framed : Framed (code_of forest) s (ReleaseAt index)
+      framed = framed_by_priority forest accepted plan Arrived s reached (ReleaseAt index)
 
       stands : StandsInOpenAreas s activity
-      stands = stands_open s (code_of forest) (ReleaseAt place) framed activity e
+      stands = stands_open s (code_of forest) (ReleaseAt index) framed activity e
 
       o : IsInOrder s
       o = (ordered (code_of forest) plan reached).order
 
-      k : IsChosen s place
-      k = is_chosen s place (chosen_of s place turn)
+      k : IsChosen s index
+      k = is_chosen s index (chosen_of s index turn)
 
-      latest : IsLatest s place k.release.handler activity.priority activity.frames
+      latest : IsLatest s index k.release.handler activity.priority activity.frames
       latest =
-          latest_started s o place k activity
+          latest_started s o index k activity
           (started_status k.release.status activity
           (sym (ap (λ (x : Option Release). x >>= (λ r. activity_in r.status)) k.is_there) ∙ e))
 
@@ -173,17 +173,17 @@ module _ (forest : Forest) (accepted : IsAcceptedProgram forest) (plan : Plan) (
           (is_among b (opened_by activity.frames) ≡ true)
           ⊎ ((a : ℕ) → is_among a (opened_by activity.frames) ≡ true → b < a)
       other b (inl m) = inr (λ a h. latest.are_inside b a m h)
-      other b (inr r) = by (number_cases place r.place)
+      other b (inr r) = by (number_cases index r.index)
         where
-          by : (place ≡ r.place) ⊎ (place ≡ r.place → ⊥) →
+          by : (index ≡ r.index) ⊎ (index ≡ r.index → ⊥) →
               (is_among b (opened_by activity.frames) ≡ true)
               ⊎ ((a : ℕ) → is_among a (opened_by activity.frames) ≡ true → b < a)
           by (inl same) =
-              let here : started_at s.releases place ≡ Some r.release =
+              let here : started_at s.releases index ≡ Some r.release =
               ap (λ (n : ℕ). started_at s.releases n) same ∙ r.is_there in
               inl (subst (λ (fs : List Frame). is_among b (opened_by fs) ≡ true) (latest.mine r.release here)
               r.is_opened)
-          by (inr n) = inr (λ a h. latest.areas r.place r.release n r.is_there b a r.is_opened h)
+          by (inr n) = inr (λ a h. latest.areas r.index r.release n r.is_there b a r.is_opened h)
 
   -- outside execution what is open is the sequencer's
   outside : (o : IsInOrder s) → is_exec s.phase ≡ false → (b : ℕ) → is_open_area s b ≡ true →
@@ -193,8 +193,8 @@ module _ (forest : Forest) (accepted : IsAcceptedProgram forest) (plan : Plan) (
       go : (is_among b s.activity.areas ≡ true) ⊎ IsOpenedByRelease s b → is_among b s.activity.areas ≡ true
       go (inl m) = m
       go (inr r) =
-          let none : started_at s.releases r.place ≡ None = o.turns.outside phase r.place in
-          let some : started_at s.releases r.place ≡ Some r.release = r.is_there in
+          let none : started_at s.releases r.index ≡ None = o.turns.outside phase r.index in
+          let some : started_at s.releases r.index ≡ Some r.release = r.is_there in
           absurd (cc)
 
   pub sequencer_closes : Reached (code_of forest) plan by_priority Arrived s → is_exec s.phase ≡ false →

@@ -66,7 +66,7 @@ module _ (s : State) (o : IsInOrder s) where
           by (inl m) = among_left i s.activity.areas (opened_of s.releases) m
           by (inr r) =
               among_right i s.activity.areas (opened_of s.releases)
-              (opened_among s.releases r.place r.release i r.is_there r.is_opened)
+              (opened_among s.releases r.index r.release i r.is_there r.is_opened)
 
   pub open_outside : is_exec s.phase ≡ false → open_count s ≤ length s.activity.areas
   open_outside phase = open_few s.areas 0 s.activity.areas (λ i x e t. listed i (o.opened.is i (open_at i x e t)))
@@ -80,8 +80,8 @@ module _ (s : State) (o : IsInOrder s) where
           by : (is_among i s.activity.areas ≡ true) ⊎ IsOpenedByRelease s i → is_among i s.activity.areas ≡ true
           by (inl m) = m
           by (inr r) =
-              let none : started_at s.releases r.place ≡ None = o.turns.outside phase r.place in
-              let some : started_at s.releases r.place ≡ Some r.release = r.is_there in
+              let none : started_at s.releases r.index ≡ None = o.turns.outside phase r.index in
+              let some : started_at s.releases r.index ≡ Some r.release = r.is_there in
               absurd (cc)
 
 module _ (forest : Forest) (accepted : IsAcceptedProgram forest) (plan : Plan) (moment : Moment) (s : State)

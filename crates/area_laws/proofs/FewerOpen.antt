@@ -49,10 +49,10 @@ module _ (s : State) (o : IsInOrder s) (rows : RowsAreFew s.releases) (count : s
       let releases = opened_fewer s.releases p w rows there fewer in
       omega (arith, all, releases, own, depth, count)
 
-started_by : (s : State) (place : ℕ) (activity : Activity) → activity_of s (ReleaseAt place) ≡ Some activity →
-    (handler : ℕ) × (started_at s.releases place ≡ Some (started_as handler activity))
+started_by : (s : State) (index : ℕ) (activity : Activity) → activity_of s (ReleaseAt index) ≡ Some activity →
+    (handler : ℕ) × (started_at s.releases index ≡ Some (started_as handler activity))
 unfolding activity_of started_at started_in
-started_by s place activity e = go (slice_get s.releases place) e
+started_by s index activity e = go (slice_get s.releases index) e
   where
     go : (o : Option Release) → (o >>= (λ r. activity_in r.status)) ≡ Some activity →
         (handler : ℕ) × ((o >>= started_in) ≡ Some (started_as handler activity))
@@ -62,18 +62,18 @@ started_by s place activity e = go (slice_get s.releases place) e
 -- ---- a release that starts: as if it had started without a frame
 
 module _ (code : Code) (s : State) (o : IsInOrder s) (right : PrioritiesAreRight code s) (rows : RowsAreFew s.releases)
-    (own : length s.activity.areas ≤ length s.activity.frames + 2) (exec : is_exec s.phase ≡ true) (place : ℕ)
-    (k : IsChosen s place) (row : HandlerRow) (waits : k.release.status ≡ Waits)
+    (own : length s.activity.areas ≤ length s.activity.frames + 2) (exec : is_exec s.phase ≡ true) (index : ℕ)
+    (k : IsChosen s index) (row : HandlerRow) (waits : k.release.status ≡ Waits)
     (is_row : handler_row s.registry k.release.handler ≡ Some row) where
   abbrev without_frames : Activity
   without_frames = record { frames = []; areas = []; priority = row.priority }
 
   abbrev t : State
-  t = with_activity s (ReleaseAt place) without_frames
+  t = with_activity s (ReleaseAt index) without_frames
 
-  moves : ReleaseMoves code (Unit {0}) s place k.release.handler row.priority [] t
+  moves : ReleaseMoves code (Unit {0}) s index k.release.handler row.priority [] t
   moves =
-      moves_on code (Unit {0}) s place k.release k.is_there row.priority [] s
+      moves_on code (Unit {0}) s index k.release k.is_there row.priority [] s
       (record {
         phase = refl;
         activity = refl;
@@ -87,8 +87,8 @@ module _ (code : Code) (s : State) (o : IsInOrder s) (right : PrioritiesAreRight
 
   order : IsInOrder t
   order =
-      order_kept code (Unit {0}) s t place k.release.handler row.priority [] o exec
-      (latest_waits s o place k row waits is_row) moves
+      order_kept code (Unit {0}) s t index k.release.handler row.priority [] o exec
+      (latest_waits s o index k row waits is_row) moves
 
   right_then : PrioritiesAreRight code t
   unfolding with_activity
@@ -98,14 +98,14 @@ module _ (code : Code) (s : State) (o : IsInOrder s) (right : PrioritiesAreRight
   rows_then : RowsAreFew t.releases
   unfolding with_activity
   rows_then =
-      rows_changed _ place s.releases rows (λ x. row_started x without_frames (omega arith))
+      rows_changed _ index s.releases rows (λ x. row_started x without_frames (omega arith))
 
   fewer_waits : open_count s < 1794
   unfolding with_activity
   fewer_waits =
-      let there : started_at t.releases place ≡ Some (started_as k.release.handler without_frames) =
-      started_now s.releases place k.release without_frames k.is_there in
-      fewer_beside t order rows_then (few_started code t order right_then) own exec place
+      let there : started_at t.releases index ≡ Some (started_as k.release.handler without_frames) =
+      started_now s.releases index k.release without_frames k.is_there in
+      fewer_beside t order rows_then (few_started code t order right_then) own exec index
       (started_as k.release.handler without_frames) there (omega arith)
 
 -- ---- the states of a run
@@ -128,24 +128,24 @@ module _ (forest : Forest) (accepted : IsAcceptedProgram forest) (plan : Plan) (
       let most : length s.activity.areas ≤ length s.activity.frames + 2 = own in
       omega (arith, all, most, depth)
 
-  pub fewer_under_way : (place : ℕ) (activity : Activity) → activity_of s (ReleaseAt place) ≡ Some activity →
+  pub fewer_under_way : (index : ℕ) (activity : Activity) → activity_of s (ReleaseAt index) ≡ Some activity →
       length activity.frames < 64 → open_count s < 1794
-  fewer_under_way place activity e fewer = go (bool_cases (is_exec s.phase))
+  fewer_under_way index activity e fewer = go (bool_cases (is_exec s.phase))
     where
       go : (is_exec s.phase ≡ true) ⊎ (is_exec s.phase ≡ false) → open_count s < 1794
       go (inl phase) =
-          let there = started_by s place activity e in
-          fewer_beside s o few.releases (started_few forest accepted plan moment s reached) own phase place
+          let there = started_by s index activity e in
+          fewer_beside s o few.releases (started_few forest accepted plan moment s reached) own phase index
           (started_as there.0 activity) there.1 fewer
       go (inr phase) = fewer_outside phase
 
-  pub fewer_at_start : (place : ℕ) (r : Release) (row : HandlerRow) → by_priority s ≡ Some (TurnOf place) →
-      slice_get s.releases place ≡ Some r → r.status ≡ Waits → handler_row s.registry r.handler ≡ Some row →
+  pub fewer_at_start : (index : ℕ) (r : Release) (row : HandlerRow) → by_priority s ≡ Some (TurnOf index) →
+      slice_get s.releases index ≡ Some r → r.status ≡ Waits → handler_row s.registry r.handler ≡ Some row →
       open_count s < 1794
-  fewer_at_start place r row turn there waits is_row = go (bool_cases (is_exec s.phase))
+  fewer_at_start index r row turn there waits is_row = go (bool_cases (is_exec s.phase))
     where
-      k : IsChosen s place
-      k = is_chosen s place (chosen_of s place turn)
+      k : IsChosen s index
+      k = is_chosen s index (chosen_of s index turn)
 
       same : r ≡ k.release
       same = some_inj r k.release (sym there ∙ k.is_there)
@@ -155,7 +155,7 @@ module _ (forest : Forest) (accepted : IsAcceptedProgram forest) (plan : Plan) (
           fewer_waits (code_of forest) s o
           (right_priorities (code_of forest) plan
           (calls_by_types (code_of forest) (has_facts forest accepted)).spares reached)
-          few.releases own phase place k row
+          few.releases own phase index k row
           (subst (λ (x : Release). x.status ≡ Waits) same waits)
           (subst (λ (x : Release). handler_row s.registry x.handler ≡ Some row) same is_row)
       go (inr phase) = fewer_outside phase

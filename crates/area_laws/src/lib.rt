@@ -32,8 +32,8 @@ pub fn jobs_stand_in_open_areas(checked: &Checked)
 /// sequencer the memory of a mission that is over.
 pub fn areas_close_as_the_last(checked: &Checked)
     ensures release { (plan : Plan) (s : State) → Reached (code_of checked.now.program) plan by_priority Arrived s →
-        (place : ℕ) (activity : Activity) → by_priority s ≡ Some (TurnOf place) →
-        activity_of s (ReleaseAt place) ≡ Some activity → CloseInOrder s activity.frames }
+        (index : ℕ) (activity : Activity) → by_priority s ≡ Some (TurnOf index) →
+        activity_of s (ReleaseAt index) ≡ Some activity → CloseInOrder s activity.frames }
     ensures sequencer { (plan : Plan) (s : State) → Reached (code_of checked.now.program) plan by_priority Arrived s →
         is_exec s.phase ≡ false → CloseInOrder s s.activity.frames }
     ensures mission { (plan : Plan) (s : State) → Reached (code_of checked.now.program) plan by_priority Operated s →
@@ -52,11 +52,11 @@ pub fn few_areas_are_open(checked: &Checked)
         Reached (code_of checked.now.program) plan by_priority moment s → is_exec s.phase ≡ false →
         open_count s < 1794 }
     ensures under_way { (plan : Plan) (moment : Moment) (s : State) →
-        Reached (code_of checked.now.program) plan by_priority moment s → (place : ℕ) (activity : Activity) →
-        activity_of s (ReleaseAt place) ≡ Some activity → length activity.frames < 64 → open_count s < 1794 }
+        Reached (code_of checked.now.program) plan by_priority moment s → (index : ℕ) (activity : Activity) →
+        activity_of s (ReleaseAt index) ≡ Some activity → length activity.frames < 64 → open_count s < 1794 }
     ensures start { (plan : Plan) (moment : Moment) (s : State) →
-        Reached (code_of checked.now.program) plan by_priority moment s → (place : ℕ) (r : Release) (row : Handler) →
-        by_priority s ≡ Some (TurnOf place) → slice_get s.releases place ≡ Some r → r.status ≡ Waits →
+        Reached (code_of checked.now.program) plan by_priority moment s → (index : ℕ) (r : Release) (row : Handler) →
+        by_priority s ≡ Some (TurnOf index) → slice_get s.releases index ≡ Some r → r.status ≡ Waits →
         handler_row s.registry r.handler ≡ Some row → open_count s < 1794 }
 {
     checked_is_accepted(checked);

@@ -54,7 +54,7 @@ refused_to code rows s r = activity_in r.status >>= (λ a. refused_on code rows 
 
 unfoldable pub refused_to_turn : Code → List ReadingRow → State → Turn → Option Refusal
 refused_to_turn code rows s IdleTurn = None
-refused_to_turn code rows s (TurnOf place) = slice_get s.releases place >>= refused_to code rows s
+refused_to_turn code rows s (TurnOf index) = slice_get s.releases index >>= refused_to code rows s
 
 -- the operation of a unit, in the state after the arrivals
 unfoldable pub refused_at : Code → List ReadingRow → Policy → State → Option Refusal

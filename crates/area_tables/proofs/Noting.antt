@@ -11,25 +11,25 @@ use Rattle.area_tables.specs.Standing.{AreRows}
 
 -- the row of a scope, where the row at a place changes
 abbrev pub row_changed : (NeedRow → NeedRow) → ℕ → (ℕ → NeedRow) → ℕ → NeedRow
-row_changed f place need scope = if scope == place then f (need scope) else need scope
+row_changed f index need scope = if scope == index then f (need scope) else need scope
 
-pub rows_changed : (count : ℕ) (need : ℕ → NeedRow) (rows : List NeedRow) (f : NeedRow → NeedRow) (place : ℕ) →
-    AreRows count need rows → AreRows count (row_changed f place need) (changed f place rows)
-rows_changed count need rows f place r = record {
-  long = changed_long f place rows ∙ r.long;
-  each = λ scope l. go scope l (same_or scope place);
+pub rows_changed : (count : ℕ) (need : ℕ → NeedRow) (rows : List NeedRow) (f : NeedRow → NeedRow) (index : ℕ) →
+    AreRows count need rows → AreRows count (row_changed f index need) (changed f index rows)
+rows_changed count need rows f index r = record {
+  long = changed_long f index rows ∙ r.long;
+  each = λ scope l. go scope l (same_or scope index);
 }
   where
-    go : (scope : ℕ) → scope < count → (scope ≡ place) ⊎ (scope ≡ place → ⊥) →
-        slice_get (changed f place rows) scope ≡ Some (row_changed f place need scope)
+    go : (scope : ℕ) → scope < count → (scope ≡ index) ⊎ (scope ≡ index → ⊥) →
+        slice_get (changed f index rows) scope ≡ Some (row_changed f index need scope)
     go scope l (inl e) =
-        let t : (scope == place) ≡ true = grind (arith, nat_tests) in
-        ap (λ (n : ℕ). slice_get (changed f place rows) n) e
-        ∙ (changed_same f place rows (need scope) (ap (λ (n : ℕ). slice_get rows n) (sym e) ∙ r.each scope l)
+        let t : (scope == index) ≡ true = grind (arith, nat_tests) in
+        ap (λ (n : ℕ). slice_get (changed f index rows) n) e
+        ∙ (changed_same f index rows (need scope) (ap (λ (n : ℕ). slice_get rows n) (sym e) ∙ r.each scope l)
         ∙ ap (λ (b : Bool). Some (if b then f (need scope) else need scope)) (sym t))
     go scope l (inr d) =
-        let t : (scope == place) ≡ false = grind (arith, nat_tests) in
-        changed_other f place scope rows d
+        let t : (scope == index) ≡ false = grind (arith, nat_tests) in
+        changed_other f index scope rows d
         ∙ (r.each scope l ∙ ap (λ (b : Bool). Some (if b then f (need scope) else need scope)) (sym t))
 
 -- rows that are these are also those that are the same

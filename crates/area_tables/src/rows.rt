@@ -20,10 +20,10 @@ pub struct NeedRow {
 pub(crate) fn note_used(rows: &mut Vec<NeedRow>, scope: ScopeId, bytes: u64)
     ensures { rows.new.items ≡ changed (using bytes) scope rows.old.items }
 {
-    let place = scope.number() as usize;
-    if place < rows.len() {
-        let row = rows[place];
-        rows[place] = NeedRow {
+    let index = scope.number() as usize;
+    if index < rows.len() {
+        let row = rows[index];
+        rows[index] = NeedRow {
             opened: row.opened,
             declared: row.declared,
             used: row.used.max(bytes),
@@ -36,10 +36,10 @@ pub(crate) fn note_used(rows: &mut Vec<NeedRow>, scope: ScopeId, bytes: u64)
 pub(crate) fn note_refused(rows: &mut Vec<NeedRow>, scope: ScopeId, bytes: u64)
     ensures { rows.new.items ≡ changed (refusing bytes) scope rows.old.items }
 {
-    let place = scope.number() as usize;
-    if place < rows.len() {
-        let row = rows[place];
-        rows[place] = NeedRow {
+    let index = scope.number() as usize;
+    if index < rows.len() {
+        let row = rows[index];
+        rows[index] = NeedRow {
             opened: row.opened,
             declared: row.declared,
             used: row.used,
@@ -52,13 +52,13 @@ pub(crate) fn note_refused(rows: &mut Vec<NeedRow>, scope: ScopeId, bytes: u64)
 pub(crate) fn note_opened(rows: &mut Vec<NeedRow>, scope: ScopeId, bytes: u64) -> Result<(), Memory>
     ensures { OnOk result (rows.new.items ≡ changed (opening bytes) scope rows.old.items) }
 {
-    let place = scope.number() as usize;
-    if place < rows.len() {
-        let row = rows[place];
+    let index = scope.number() as usize;
+    if index < rows.len() {
+        let row = rows[index];
         let Some(opened) = row.opened.checked_add(1) else {
             return Err(Memory);
         };
-        rows[place] = NeedRow {
+        rows[index] = NeedRow {
             opened,
             declared: row.declared.max(bytes),
             used: row.used,

@@ -42,9 +42,9 @@ unfolding entry_passes entry_told rest_done table_done
 print_tells_none unit label value =
     record { passes = λ plan r u. refl; done = λ r u. refl; is_other = λ e. cc (e) }
 
-pub fault_tells_none : (unit : ℕ) (fault : RunFault) (place : Pos) → TellsOfNone (event.Fault unit fault place)
+pub fault_tells_none : (unit : ℕ) (fault : RunFault) (position : Pos) → TellsOfNone (event.Fault unit fault position)
 unfolding entry_passes entry_told rest_done table_done
-fault_tells_none unit fault place =
+fault_tells_none unit fault position =
     record { passes = λ plan r u. refl; done = λ r u. refl; is_other = λ e. cc (e) }
 
 pub lost_tells_none : (unit handler : ℕ) → TellsOfNone (event.Lost unit handler)

@@ -84,13 +84,13 @@ handler_has_row code s name handler e = go (takes_releases s) (class_number code
     go true (Some class) e =
         numbered (λ (row : HandlerRow). is_aperiodic row.kind && (row.class == class)) s.registry handler e
 
-fired_arrives : (plan : Plan) (code : Code) (origin : Option ℕ) (unit place : ℕ) (s : State) (r : Replay) →
-    (c : Comes plan.fires origin unit place) → executes_since s ≡ origin → s.unit ≡ unit → Live plan s.unit r →
+fired_arrives : (plan : Plan) (code : Code) (origin : Option ℕ) (unit index : ℕ) (s : State) (r : Replay) →
+    (c : Comes plan.fires origin unit index) → executes_since s ≡ origin → s.unit ≡ unit → Live plan s.unit r →
     Executes s r → ArrivesTold plan s r (fired code s c.fire)
 unfolding fired
-fired_arrives plan code origin unit place s r c since at live h = go (fired_handler code s c.fire.handler) refl
+fired_arrives plan code origin unit index s r c since at live h = go (fired_handler code s c.fire.handler) refl
   where
-    here : Comes plan.fires origin s.unit place
+    here : Comes plan.fires origin s.unit index
     here = record { fire = c.fire; there = c.there; comes = ap (λ u. comes_in origin u c.fire) at ∙ c.comes }
 
     go : (o : Option ℕ) → fired_handler code s c.fire.handler ≡ o →
@@ -102,7 +102,7 @@ fired_arrives plan code origin unit place s r c since at live h = go (fired_hand
     go None e =
         record {
           tells = silent_told plan s r (event.Miss s.unit c.fire.handler ∷ []) h
-              (miss_told plan r origin s.unit place (h.since ∙ since) here live);
+              (miss_told plan r origin s.unit index (h.since ∙ since) here live);
           alike = alike_same s;
         }
     go (Some handler) e = taken_arrives plan s r handler live h (handler_has_row code s c.fire.handler handler e)
@@ -167,11 +167,11 @@ silent_same plan unit r live =
       goes_on = live.goes_on;
     }
 
-fired_quiet : (plan : Plan) (code : Code) (s : State) (r : Replay) (place : ℕ) → is_exec s.phase ≡ false →
+fired_quiet : (plan : Plan) (code : Code) (s : State) (r : Replay) (index : ℕ) → is_exec s.phase ≡ false →
     r.executes_since ≡ executes_since s → Live plan s.unit r →
-    (c : Comes plan.fires (executes_since s) s.unit place) → Quiet plan s r (fired code s c.fire)
+    (c : Comes plan.fires (executes_since s) s.unit index) → Quiet plan s r (fired code s c.fire)
 unfolding fired fired_handler
-fired_quiet plan code s r place out since live c =
+fired_quiet plan code s r index out since live c =
     subst (λ (b : Bool). Quiet plan s r
     (elim (if b && not s.is_end_asked
     then class_number code.program.names c.fire.handler >>= aperiodic_of s.registry
@@ -179,7 +179,7 @@ fired_quiet plan code s r place out since live c =
       | Some handler ↦ release_taken s handler
       | None ↦ telling s (event.Miss s.unit c.fire.handler ∷ [])
     ])) (sym out)
-    (record { same = refl; silent = miss_told plan r (executes_since s) s.unit place since c live })
+    (record { same = refl; silent = miss_told plan r (executes_since s) s.unit index since c live })
 
 each_quiet : (plan : Plan) (code : Code) (ns : List ℕ) (s : State) (r : Replay) → is_exec s.phase ≡ false →
     r.executes_since ≡ executes_since s → Live plan s.unit r →

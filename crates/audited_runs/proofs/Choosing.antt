@@ -22,7 +22,7 @@ use Rattle.audited_runs.proofs.Named.{other_test}
 use Rattle.audited_runs.proofs.Executing.{Executes, LastIs}
 
 abbrev pub turn_of : Option ℕ → Turn
-turn_of o = elim o as (λ z. Turn) [ None ↦ IdleTurn | Some place ↦ TurnOf place ]
+turn_of o = elim o as (λ z. Turn) [ None ↦ IdleTurn | Some index ↦ TurnOf index ]
 
 -- ---- what is picked
 

@@ -38,14 +38,14 @@ pub waits_seen : (x : ReleaseNow) (b : Bool) → is_waiting_now x.status ≡ b �
 waits_seen x b e = waits_both x.status b e
 
 -- a release that is no candidate doesn't wait
-pub none_waits : (s : State) (place : ℕ) (r : ReleaseNow) → candidate s place r ≡ None → is_waiting_now r.status ≡ false
+pub none_waits : (s : State) (index : ℕ) (r : ReleaseNow) → candidate s index r ≡ None → is_waiting_now r.status ≡ false
 unfolding candidate is_waiting_now
-none_waits s place r h = go r.status h
+none_waits s index r h = go r.status h
   where
     go : (status : ReleaseStatus) →
         elim status as (λ _. Option Candidate) [
-          | WaitsNow ↦ Some (record { place = place; priority = handler_priority s r.handler; is_started = false })
-          | StartedNow activity ↦ Some (record { place = place; priority = activity.priority; is_started = true })
+          | WaitsNow ↦ Some (record { index = index; priority = handler_priority s r.handler; is_started = false })
+          | StartedNow activity ↦ Some (record { index = index; priority = activity.priority; is_started = true })
           | Ended ↦ None
           | Dropped ↦ None
         ] ≡ None → is_waiting_now status ≡ false
@@ -59,13 +59,13 @@ waiting rs = filter (λ (r : ReleaseNow). is_waiting_now r.status) rs
 
 -- the waiting ones stand behind the first ones, if none of these waits
 pub waiting_behind : (e : ℕ) (rs : List ReleaseNow) →
-    ((place : ℕ) (r : ReleaseNow) → slice_get rs place ≡ Some r → place < e → is_waiting_now r.status ≡ false) →
+    ((index : ℕ) (r : ReleaseNow) → slice_get rs index ≡ Some r → index < e → is_waiting_now r.status ≡ false) →
     waiting rs ≡ waiting (drop e rs)
 waiting_behind zero rs none = refl
 waiting_behind (suc e) [] none = refl
 waiting_behind (suc e) (r ∷ rs) none =
     ap (λ b. if b then r ∷ waiting rs else waiting rs) (none 0 r refl (omega arith))
-    ∙ waiting_behind e rs (λ place x there l. none (suc place) x there (omega (arith, l)))
+    ∙ waiting_behind e rs (λ index x there l. none (suc index) x there (omega (arith, l)))
 
 -- ---- the lines
 

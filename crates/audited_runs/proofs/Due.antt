@@ -60,9 +60,9 @@ due_have_rows s = go (takes_releases s)
     go false = tt
 
 -- the fire at a place of the plan comes
-pub record Comes (fires : List Fire) (origin : Option ℕ) (unit place : ℕ) : Type 0 where
+pub record Comes (fires : List Fire) (origin : Option ℕ) (unit index : ℕ) : Type 0 where
   pub fire : Fire
-  pub there : slice_get fires place ≡ Some fire
+  pub there : slice_get fires index ≡ Some fire
   pub comes : comes_in origin unit fire ≡ true
 
 pub due_come : (fires : List Fire) (origin : Option ℕ) (unit : ℕ) → AllAre (Comes fires origin unit) (fires_due origin unit fires)
@@ -84,11 +84,11 @@ any_at test [] i x there t = absurd (cc (there))
 any_at test (y ∷ xs) zero x there t = ap (λ (b : Bool). b || list_any test xs) (ap test (some_inj y x there) ∙ t)
 any_at test (y ∷ xs) (suc i) x there t = or_right (test y) (list_any test xs) (any_at test xs i x there t)
 
-miss_passes : (plan : Plan) (r : Replay) (origin : Option ℕ) (unit place : ℕ) → r.executes_since ≡ origin →
-    (c : Comes plan.fires origin unit place) → entry_passes plan r unit (Miss c.fire.handler) ≡ true
+miss_passes : (plan : Plan) (r : Replay) (origin : Option ℕ) (unit index : ℕ) → r.executes_since ≡ origin →
+    (c : Comes plan.fires origin unit index) → entry_passes plan r unit (Miss c.fire.handler) ≡ true
 unfolding entry_passes
-miss_passes plan r origin unit place since c =
-    any_at (is_fire r.executes_since unit c.fire.handler) plan.fires place c.fire c.there
+miss_passes plan r origin unit index since c =
+    any_at (is_fire r.executes_since unit c.fire.handler) plan.fires index c.fire c.there
     (ap (λ o. comes_in o unit c.fire && bytes_eq c.fire.handler c.fire.handler) since
     ∙ (ap (λ b. b && bytes_eq c.fire.handler c.fire.handler) c.comes ∙ bytes_same c.fire.handler))
 
@@ -96,11 +96,11 @@ miss_done : (b : Replay) (unit : ℕ) (name : List ℕ) → entry_done b unit (M
 unfolding rest_done table_done
 miss_done b unit name = refl
 
-pub miss_told : (plan : Plan) (r : Replay) (origin : Option ℕ) (unit place : ℕ) → r.executes_since ≡ origin →
-    (c : Comes plan.fires origin unit place) → Live plan unit r →
+pub miss_told : (plan : Plan) (r : Replay) (origin : Option ℕ) (unit index : ℕ) → r.executes_since ≡ origin →
+    (c : Comes plan.fires origin unit index) → Live plan unit r →
     Silent plan unit r (event.Miss unit c.fire.handler ∷ [])
 unfolding entry_told unit_of
-miss_told plan r origin unit place since c live =
+miss_told plan r origin unit index since c live =
     let same : entry_done (begun r unit) unit (Miss c.fire.handler) ≡ begun r unit =
     miss_done (begun r unit) unit c.fire.handler in
     let core : SameCore r (begun r unit) = core_begun r unit in
@@ -108,7 +108,7 @@ miss_told plan r origin unit place since c live =
       after = begun r unit;
       is = told_one plan r (begun r unit) (event.Miss unit c.fire.handler)
           (line_passes plan unit r (event.Miss unit c.fire.handler) live refl (λ e. cc (e))
-          (miss_passes plan r origin unit place since c) ∙ ap (λ x. Some x) same);
+          (miss_passes plan r origin unit index since c) ∙ ap (λ x. Some x) same);
       kept = inr (subst (λ x. Opened unit r x) same (line_opens unit r (Miss c.fire.handler) live.in_order));
       core = core;
       goes_on = core.over ∙ live.goes_on;

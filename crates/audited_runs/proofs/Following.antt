@@ -179,18 +179,18 @@ pub record HaltTold (plan : Plan) (unit : ℕ) (r : Replay) (es : List Event) : 
   pub since : after.executes_since ≡ r.executes_since
   pub over : after.is_over ≡ true
 
-pub halt_told : (plan : Plan) (unit : ℕ) (r : Replay) (place : Pos) (fault : RunFault) → Live plan unit r →
-    HaltTold plan unit r (event.Fault unit fault place ∷ event.Halted unit ∷ [])
+pub halt_told : (plan : Plan) (unit : ℕ) (r : Replay) (position : Pos) (fault : RunFault) → Live plan unit r →
+    HaltTold plan unit r (event.Fault unit fault position ∷ event.Halted unit ∷ [])
 unfolding entry_told unit_of
-halt_told plan unit r place fault live =
-    let one : Silent plan unit r (event.Fault unit fault place ∷ []) =
-    none_told plan unit r (event.Fault unit fault place) (fault_tells_none unit fault place) live refl in
+halt_told plan unit r position fault live =
+    let one : Silent plan unit r (event.Fault unit fault position ∷ []) =
+    none_told plan unit r (event.Fault unit fault position) (fault_tells_none unit fault position) live refl in
     let m : Replay = one.after in
     let live_m : Live plan unit m = live_kept plan unit r m live one.kept one.goes_on in
     let core : SameCore m (begun m unit) = core_begun m unit in
     record {
       after = entry_done (begun m unit) unit Halted;
-      is = told_then plan r m (entry_done (begun m unit) unit Halted) (event.Fault unit fault place ∷ [])
+      is = told_then plan r m (entry_done (begun m unit) unit Halted) (event.Fault unit fault position ∷ [])
           (event.Halted unit ∷ []) one.is
           (told_one plan m (entry_done (begun m unit) unit Halted) (event.Halted unit)
           (line_passes plan unit m (event.Halted unit) live_m refl (λ e. cc (e)) (halted_passes plan m unit)));
@@ -200,14 +200,14 @@ halt_told plan unit r place fault live =
       over = halted_over (begun m unit) unit;
     }
 
-pub faults_told : (plan : Plan) (s : State) (r : Replay) (activity : Activity) (place : Pos) (fault : RunFault) →
+pub faults_told : (plan : Plan) (s : State) (r : Replay) (activity : Activity) (position : Pos) (fault : RunFault) →
     Sequences plan s r →
-    SeqTold plan s.unit r (fault_in s TheSequencer activity place fault).state
-    (fault_in s TheSequencer activity place fault).events
+    SeqTold plan s.unit r (fault_in s TheSequencer activity position fault).state
+    (fault_in s TheSequencer activity position fault).events
 unfolding fault_in is_over is_exec executes_since
-faults_told plan s r activity place fault h =
-    let k : HaltTold plan s.unit r (event.Fault s.unit fault place ∷ event.Halted s.unit ∷ []) =
-    halt_told plan s.unit r place fault h.live in
+faults_told plan s r activity position fault h =
+    let k : HaltTold plan s.unit r (event.Fault s.unit fault position ∷ event.Halted s.unit ∷ []) =
+    halt_told plan s.unit r position fault h.live in
     record {
       after = k.after;
       is = k.is;

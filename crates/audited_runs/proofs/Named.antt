@@ -62,7 +62,7 @@ place_of_name handlers rs named q x there =
 pub release_of_name : (handlers : List HandlerSeen) (rs : List Release) → AreNamed handlers rs → (q : ℕ)
     (x : Release) → slice_get rs q ≡ Some x → release_named rs x.handler x.number ≡ Some x
 release_of_name handlers rs named q x there =
-    ap (λ o. elim o as (λ _. Option Release) [ None ↦ None | Some place ↦ slice_get rs place ])
+    ap (λ o. elim o as (λ _. Option Release) [ None ↦ None | Some index ↦ slice_get rs index ])
     (place_of_name handlers rs named q x there) ∙ there
 
 -- the release of this name stands otherwise
@@ -76,7 +76,7 @@ restanding_is all named change q x there =
     ap (λ o. record all {
       releases = elim o as (λ _. List Release) [
         | None ↦ all.releases
-        | Some place ↦ changed (λ (r : Release). record r { standing = change r.standing }) place all.releases
+        | Some index ↦ changed (λ (r : Release). record r { standing = change r.standing }) index all.releases
       ];
     }) (place_of_name all.handlers all.releases named q x there)
 

@@ -99,55 +99,55 @@ module _ (plan : Plan) (code : Code) (s : State) (p : ℕ) (r : Replay) (live : 
       (with_frame_executes f below)
       (none_told plan s.unit r (event.Print s.unit label value) (print_tells_none s.unit label value) live refl)
 
-  registered_told : (place : Pos) (object : ℕ) (o : Object) (after : State) →
-      TellsOf plan s r (registered code s (ReleaseAt p) activity place object o after)
+  registered_told : (position : Pos) (object : ℕ) (o : Object) (after : State) →
+      TellsOf plan s r (registered code s (ReleaseAt p) activity position object o after)
   unfolding registered
-  registered_told place object o after =
+  registered_told position object o after =
       subst (λ (b : Bool). TellsOf plan s r
-      (if not b then fault_in s (ReleaseAt p) activity place NotInitializing
+      (if not b then fault_in s (ReleaseAt p) activity position NotInitializing
       else (if is_some (handler_number s.registry object) then silently after
-      else (if not (nat_lt (length s.registry) most_handlers) then fault_in s (ReleaseAt p) activity place TooManyHandlers
+      else (if not (nat_lt (length s.registry) most_handlers) then fault_in s (ReleaseAt p) activity position TooManyHandlers
       else (let row = new_row code.program object o in
       telling (record after { registry = after.registry ++ row ∷ [] })
       (event.Register s.unit (length s.registry + 1) (class_name code o.class) row.priority ∷ []))))))
-      (sym (init_not_exec s.phase h.exec)) (fault_told plan s p activity.priority r live h activity place _)
+      (sym (init_not_exec s.phase h.exec)) (fault_told plan s p activity.priority r live h activity position _)
 
-  applied_told : (below : List Frame) (place : Pos) (effect : Effect) →
-      TellsIf plan s r (applied code s (ReleaseAt p) activity below place effect)
+  applied_told : (below : List Frame) (position : Pos) (effect : Effect) →
+      TellsIf plan s r (applied code s (ReleaseAt p) activity below position effect)
   unfolding applied with_activity
-  applied_told below place (Goes f) =
+  applied_told below position (Goes f) =
       tells_some plan s r _ (gets plan s p activity.priority r live h s _ (beside_same s) refl)
-  applied_told below place (Prints f label value) = tells_some plan s r _ (prints_told f below label value)
-  applied_told below place (Makes f class slots) =
-      tells_some plan s r _ (allocating_told plan s p activity.priority r live h activity place class f.area slots _
+  applied_told below position (Prints f label value) = tells_some plan s r _ (prints_told f below label value)
+  applied_told below position (Makes f class slots) =
+      tells_some plan s r _ (allocating_told plan s p activity.priority r live h activity position class f.area slots _
       (λ t a b. gets plan s p activity.priority r live h t _ b refl))
-  applied_told below place (Stores f object slot value) =
+  applied_told below position (Stores f object slot value) =
       tells_some plan s r _ (gets plan s p activity.priority r live h (record s { objects = _ }) _ (beside_objects _) refl)
-  applied_told below place (StoresStatic f k value) =
+  applied_told below position (StoresStatic f k value) =
       tells_some plan s r _ (gets plan s p activity.priority r live h (record s { statics = _ }) _ (beside_statics _) refl)
-  applied_told below place (SetsHidden f object values) =
+  applied_told below position (SetsHidden f object values) =
       tells_some plan s r _ (gets plan s p activity.priority r live h (record s { objects = _ }) _ (beside_objects _) refl)
-  applied_told below place (SetsCeiling f object ceiling) =
-      tells_some plan s r _ (fault_told plan s p activity.priority r live h activity place _)
-  applied_told below place (Calls f g) =
-      tells_some plan s r _ (called_told plan s p activity.priority r live h code activity (f ∷ below) place g refl)
-  applied_told below place (Opens f g scope bytes) =
+  applied_told below position (SetsCeiling f object ceiling) =
+      tells_some plan s r _ (fault_told plan s p activity.priority r live h activity position _)
+  applied_told below position (Calls f g) =
+      tells_some plan s r _ (called_told plan s p activity.priority r live h code activity (f ∷ below) position g refl)
+  applied_told below position (Opens f g scope bytes) =
       tells_some plan s r _
-      (opened_told plan s p activity.priority r live h activity (f ∷ below) place g scope bytes refl)
-  applied_told below place (Leaves f value) =
+      (opened_told plan s p activity.priority r live h activity (f ∷ below) position g scope bytes refl)
+  applied_told below position (Leaves f value) =
       tells_some plan s r _ (left_told plan s p r activity f below value live h)
-  applied_told below place (AsksRegistration f object) =
+  applied_told below position (AsksRegistration f object) =
       tells_mapped plan s r (object_at s object) _
-      (λ o. registered_told place object o (with_frame s (ReleaseAt p) activity f below))
-  applied_told below place (AsksRelease f object) =
+      (λ o. registered_told position object o (with_frame s (ReleaseAt p) activity f below))
+  applied_told below position (AsksRelease f object) =
       tells_some plan s r _
       (released_told plan (with_frame s (ReleaseAt p) activity f below) r object live (with_frame_executes f below))
-  applied_told below place (AsksTermination f object) =
+  applied_told below position (AsksTermination f object) =
       tells_some plan s r _
       (asked_told plan (with_frame s (ReleaseAt p) activity f below) r object live (with_frame_executes f below))
-  applied_told below place (Faults fault) =
-      tells_some plan s r _ (fault_told plan s p activity.priority r live h activity place fault)
-  applied_told below place Stuck = tells_nothing plan s r
+  applied_told below position (Faults fault) =
+      tells_some plan s r _ (fault_told plan s p activity.priority r live h activity position fault)
+  applied_told below position Stuck = tells_nothing plan s r
 
   frame_told : (rows : List ReadingRow) → TellsIf plan s r (frame_op code rows s (ReleaseAt p) activity)
   unfolding frame_op

@@ -47,13 +47,13 @@ tells_option plan s r (Some a) x f h k = k a refl
 -- ---- a fault ends the release
 
 module _ (plan : Plan) (s : State) (p active : ℕ) (r : Replay) (live : Live plan s.unit r) (h : Acts s p active r) where
-  pub fault_told : (activity : Activity) (place : Pos) (fault : RunFault) →
-      TellsOf plan s r (fault_in s (ReleaseAt p) activity place fault)
+  pub fault_told : (activity : Activity) (position : Pos) (fault : RunFault) →
+      TellsOf plan s r (fault_in s (ReleaseAt p) activity position fault)
   unfolding fault_in unit_of
-  fault_told activity place fault =
+  fault_told activity position fault =
       let t : State = with_status (closed_all s activity.frames) p Ended in
-      let one : Silent plan s.unit r (event.Fault s.unit fault place ∷ []) =
-      none_told plan s.unit r (event.Fault s.unit fault place) (fault_tells_none s.unit fault place) live refl in
+      let one : Silent plan s.unit r (event.Fault s.unit fault position ∷ []) =
+      none_told plan s.unit r (event.Fault s.unit fault position) (fault_tells_none s.unit fault position) live refl in
       let rest : Tells plan s.unit one.after t
       (of_release s (ReleaseAt p) (λ (x : Release). event.End s.unit x.handler x.number ∷ [])) =
       end_told plan one.after s t p active (live_kept plan s.unit r one.after live one.kept one.goes_on)
@@ -61,7 +61,7 @@ module _ (plan : Plan) (s : State) (p active : ℕ) (r : Replay) (live : Live pl
       (becomes_from s (closed_all s activity.frames) p Ended (closed_all_beside s activity.frames)) in
       record {
         after = rest.after;
-        is = told_then plan r one.after rest.after (event.Fault s.unit fault place ∷ []) _ one.is rest.is;
+        is = told_then plan r one.after rest.after (event.Fault s.unit fault position ∷ []) _ one.is rest.is;
         kept = kept_then s.unit r one.after rest.after one.kept rest.kept;
         executes = rest.executes;
         goes_on = rest.goes_on;
@@ -91,13 +91,13 @@ module _ (plan : Plan) (s : State) (p active : ℕ) (r : Replay) (live : Live pl
 
   -- ---- calls, areas and objects
 
-  pub called_told : (code : Code) (activity : Activity) (frames : List Frame) (place : Pos) (g : Frame) →
-      activity.priority ≡ active → TellsOf plan s r (called code s (ReleaseAt p) activity frames place g)
+  pub called_told : (code : Code) (activity : Activity) (frames : List Frame) (position : Pos) (g : Frame) →
+      activity.priority ≡ active → TellsOf plan s r (called code s (ReleaseAt p) activity frames position g)
   unfolding called with_activity
-  called_told code activity frames place g same =
-      tells_if plan s r (is_full frames) _ _ (fault_told activity place _)
+  called_told code activity frames position g same =
+      tells_if plan s r (is_full frames) _ _ (fault_told activity position _)
       (tells_option plan s r (ceiling_entered code s g) _ _ (gets s _ (beside_same s) same)
-      (λ ceiling e. tells_if plan s r (nat_lt ceiling activity.priority) _ _ (fault_told activity place _)
+      (λ ceiling e. tells_if plan s r (nat_lt ceiling activity.priority) _ _ (fault_told activity position _)
       (subst (λ n. TellsOf plan s r
       (telling
       (with_status s p (Started (record activity {
@@ -110,40 +110,40 @@ module _ (plan : Plan) (s : State) (p active : ℕ) (r : Replay) (live : Live pl
         priority = ceiling;
       }) refl))))
 
-  pub opening_told : (activity : Activity) (place : Pos) (scope : ℕ) (parent : Option ℕ) (bytes : ℕ)
+  pub opening_told : (activity : Activity) (position : Pos) (scope : ℕ) (parent : Option ℕ) (bytes : ℕ)
       (next : State → ℕ → Step) → ((t : State) (a : ℕ) → Beside s t → TellsOf plan s r (next t a)) →
-      TellsOf plan s r (opening s (ReleaseAt p) activity place scope parent bytes next)
+      TellsOf plan s r (opening s (ReleaseAt p) activity position scope parent bytes next)
   unfolding opening
-  opening_told activity place scope parent bytes next k =
+  opening_told activity position scope parent bytes next k =
       tells_if plan s r (has_store_for s bytes) _ _
       (k (with_area s scope parent bytes) (length s.areas)
       (record {
         alike = record { registry = refl; earlier = refl; last = refl; phase = refl; unit = refl; origin = refl };
         releases = refl;
       }))
-      (fault_told activity place _)
+      (fault_told activity position _)
 
-  pub allocating_told : (activity : Activity) (place : Pos) (class area : ℕ) (slots : List Value)
+  pub allocating_told : (activity : Activity) (position : Pos) (class area : ℕ) (slots : List Value)
       (next : State → ℕ → Step) → ((t : State) (a : ℕ) → Beside s t → TellsOf plan s r (next t a)) →
-      TellsOf plan s r (allocating s (ReleaseAt p) activity place class area slots next)
+      TellsOf plan s r (allocating s (ReleaseAt p) activity position class area slots next)
   unfolding allocating
-  allocating_told activity place class area slots next k =
+  allocating_told activity position class area slots next k =
       tells_if plan s r (has_room s area (length slots)) _ _
       (k (with_object s class area slots) (length s.objects)
       (record {
         alike = record { registry = refl; earlier = refl; last = refl; phase = refl; unit = refl; origin = refl };
         releases = refl;
       }))
-      (fault_told activity place _)
+      (fault_told activity position _)
 
-  pub opened_told : (activity : Activity) (frames : List Frame) (place : Pos) (g : Frame) (scope bytes : ℕ) →
+  pub opened_told : (activity : Activity) (frames : List Frame) (position : Pos) (g : Frame) (scope bytes : ℕ) →
       activity.priority ≡ active →
-      TellsOf plan s r (opened_in s (ReleaseAt p) activity frames place g scope bytes)
+      TellsOf plan s r (opened_in s (ReleaseAt p) activity frames position g scope bytes)
   unfolding opened_in with_activity
-  opened_told activity frames place g scope bytes same =
-      tells_if plan s r (is_some (area_with_scope s scope activity.areas)) _ _ (fault_told activity place _)
-      (tells_if plan s r (is_full frames) _ _ (fault_told activity place _)
-      (opening_told activity place scope (Some g.area) bytes _ (λ t a b. gets t _ b same)))
+  opened_told activity frames position g scope bytes same =
+      tells_if plan s r (is_some (area_with_scope s scope activity.areas)) _ _ (fault_told activity position _)
+      (tells_if plan s r (is_full frames) _ _ (fault_told activity position _)
+      (opening_told activity position scope (Some g.area) bytes _ (λ t a b. gets t _ b same)))
 
 -- ---- a frame leaves
 

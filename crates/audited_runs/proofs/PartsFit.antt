@@ -23,8 +23,8 @@ PartsFit nodes files (event.Lost unit handler) = IsHandlerNumber handler
 PartsFit nodes files (event.Prio unit handler priority) = IsPriorityNumber priority
 PartsFit nodes files (event.Print unit text value) =
     (list_all is_text_byte (label nodes text) ≡ true) × Has32Bits value
-PartsFit nodes files (event.Fault unit fault place) =
-    (is_file_name (file_name files place.file) ≡ true) × (1 ≤ place.line) × Has64Bits place.line
+PartsFit nodes files (event.Fault unit fault position) =
+    (is_file_name (file_name files position.file) ≡ true) × (1 ≤ position.line) × Has64Bits position.line
 PartsFit nodes files e = Unit {0}
 
 -- the name of a file that is there
@@ -49,10 +49,10 @@ parts_fit nodes names files longest many named short (event.Register unit handle
 parts_fit nodes names files longest many named short (event.Lost unit handler) h k = h
 parts_fit nodes names files longest many named short (event.Prio unit handler priority) h k = h
 parts_fit nodes names files longest many named short (event.Print unit text value) h k = (h, bits_fit value k)
-parts_fit nodes names files longest many named short (event.Fault unit fault place) h k = (
-  named_file names place.file (subst (λ n. place.file < n) (sym many) h.file) named,
+parts_fit nodes names files longest many named short (event.Fault unit fault position) h k = (
+  named_file names position.file (subst (λ n. position.file < n) (sym many) h.file) named,
   h.first,
-  small place.line h.last,
+  small position.line h.last,
 )
   where
     small : (line : ℕ) → line ≤ longest + 1 → line < 2 ^ 64

@@ -70,24 +70,24 @@ done_told plan unit m t live since op over =
 
 -- ---- `mission`
 
-pub none_at : (test : Release → Bool) (rs : List Release) (place : ℕ) (r : Release) → list_any test rs ≡ false →
-    slice_get rs place ≡ Some r → test r ≡ false
-none_at test [] place r h there = absurd (cc (there))
+pub none_at : (test : Release → Bool) (rs : List Release) (index : ℕ) (r : Release) → list_any test rs ≡ false →
+    slice_get rs index ≡ Some r → test r ≡ false
+none_at test [] index r h there = absurd (cc (there))
 none_at test (x ∷ rs) zero r h there =
     subst (λ y. test y ≡ false) (some_inj x r there) (or_parts (test x) (list_any test rs) h).0
-none_at test (x ∷ rs) (suc place) r h there =
-    none_at test rs place r (or_parts (test x) (list_any test rs) h).1 there
+none_at test (x ∷ rs) (suc index) r h there =
+    none_at test rs index r (or_parts (test x) (list_any test rs) h).1 there
 
 -- who neither waits nor is started is no candidate
-pub no_candidate : (s : State) (place : ℕ) (r : Release) → is_waiting r.status ≡ false → is_started r.status ≡ false →
-    candidate s place r ≡ None
+pub no_candidate : (s : State) (index : ℕ) (r : Release) → is_waiting r.status ≡ false → is_started r.status ≡ false →
+    candidate s index r ≡ None
 unfolding candidate is_waiting is_started
-no_candidate s place r w st = go r.status w st
+no_candidate s index r w st = go r.status w st
   where
     go : (status : ReleaseStatus) → is_waiting status ≡ false → is_started status ≡ false →
         elim status as (λ _. Option Candidate) [
-          | Waits ↦ Some (record { place = place; priority = handler_priority s r.handler; is_started = false })
-          | Started activity ↦ Some (record { place = place; priority = activity.priority; is_started = true })
+          | Waits ↦ Some (record { index = index; priority = handler_priority s r.handler; is_started = false })
+          | Started activity ↦ Some (record { index = index; priority = activity.priority; is_started = true })
           | Ended ↦ None
           | Dropped ↦ None
         ] ≡ None
@@ -103,9 +103,9 @@ unfolding rest_done table_done
 mission_begins t b unit opens w st =
     record {
       stands = stands_first t opens.registry opens.earlier
-          (λ place r there. no_candidate t place r
-          (none_at (λ (x : Release). is_waiting x.status) t.releases place r w there)
-          (none_at (λ (x : Release). is_started x.status) t.releases place r st there));
+          (λ index r there. no_candidate t index r
+          (none_at (λ (x : Release). is_waiting x.status) t.releases index r w there)
+          (none_at (λ (x : Release). is_started x.status) t.releases index r st there));
       named = named_nothing;
       none = refl;
     }
@@ -216,7 +216,7 @@ cleanup_told plan unit m t object live none since op over =
 none_picked : (all : Releases) → all.releases ≡ [] → picked_place all ≡ None
 unfolding picked_place candidates_from most_urgent
 none_picked all e =
-    ap (λ rs. option_map (λ (c : Candidate). c.place) (most_urgent (candidates_from all.handlers 0 rs))) e
+    ap (λ rs. option_map (λ (c : Candidate). c.index) (most_urgent (candidates_from all.handlers 0 rs))) e
 
 pub skipped_told : (plan : Plan) (unit : ℕ) (m : Replay) (t : State) (object : ℕ) → Live plan unit m →
     m.all.releases ≡ [] → executes_since t ≡ None → t.operation ≡ CleanUp object → is_over t.phase ≡ false →

@@ -50,40 +50,40 @@ module _ (plan : Plan) (s : State) (r : Replay) (h : Sequences plan s r) where
 
   -- ---- operations of a body
 
-  seq_applied : (code : Code) (activity : Activity) (below : List Frame) (place : Pos) (effect : Effect) →
-      SeqIf plan s r (applied code s TheSequencer activity below place effect)
+  seq_applied : (code : Code) (activity : Activity) (below : List Frame) (position : Pos) (effect : Effect) →
+      SeqIf plan s r (applied code s TheSequencer activity below position effect)
   unfolding applied with_activity
-  seq_applied code activity below place (Goes f) = some _ (quiet plan s r h _ (gets plan s r h s _ (around_same s)))
-  seq_applied code activity below place (Prints f label value) =
+  seq_applied code activity below position (Goes f) = some _ (quiet plan s r h _ (gets plan s r h s _ (around_same s)))
+  seq_applied code activity below position (Prints f label value) =
       some _ (seq_print plan s r h _ label value (gets plan s r h s _ (around_same s)))
-  seq_applied code activity below place (Makes f class slots) =
-      some _ (seq_allocating plan s r h activity place class f.area slots _
+  seq_applied code activity below position (Makes f class slots) =
+      some _ (seq_allocating plan s r h activity position class f.area slots _
       (λ t object k. quiet plan s r h _ (gets plan s r h t _ k)))
-  seq_applied code activity below place (Stores f object slot value) =
+  seq_applied code activity below position (Stores f object slot value) =
       some _ (quiet plan s r h _ (around_parts s _ s.areas s.statics _ s.outcome))
-  seq_applied code activity below place (StoresStatic f k value) =
+  seq_applied code activity below position (StoresStatic f k value) =
       some _ (quiet plan s r h _ (around_parts s s.objects s.areas _ _ s.outcome))
-  seq_applied code activity below place (SetsHidden f object values) =
+  seq_applied code activity below position (SetsHidden f object values) =
       some _ (quiet plan s r h _ (around_parts s _ s.areas s.statics _ s.outcome))
-  seq_applied code activity below place (SetsCeiling f object ceiling) =
+  seq_applied code activity below position (SetsCeiling f object ceiling) =
       some _ (quiet plan s r h _ (around_parts s _ s.areas s.statics _ s.outcome))
-  seq_applied code activity below place (Calls f g) =
-      some _ (seq_called plan s r h code activity (f ∷ below) place g)
-  seq_applied code activity below place (Opens f g scope bytes) =
-      some _ (seq_opened plan s r h activity (f ∷ below) place g scope bytes)
-  seq_applied code activity below place (Leaves f value) = some _ (seq_left plan s r h activity f below value)
-  seq_applied code activity below place (AsksRegistration f object) =
+  seq_applied code activity below position (Calls f g) =
+      some _ (seq_called plan s r h code activity (f ∷ below) position g)
+  seq_applied code activity below position (Opens f g scope bytes) =
+      some _ (seq_opened plan s r h activity (f ∷ below) position g scope bytes)
+  seq_applied code activity below position (Leaves f value) = some _ (seq_left plan s r h activity f below value)
+  seq_applied code activity below position (AsksRegistration f object) =
       mapped (object_at s object) _
-      (λ o. seq_registered plan s r h code activity place object o (with_frame s TheSequencer activity f below)
+      (λ o. seq_registered plan s r h code activity position object o (with_frame s TheSequencer activity f below)
       (gets plan s r h s _ (around_same s)))
-  seq_applied code activity below place (AsksRelease f object) =
+  seq_applied code activity below position (AsksRelease f object) =
       some _ (seq_released plan s r h (with_frame s TheSequencer activity f below) (gets plan s r h s _ (around_same s))
       object)
-  seq_applied code activity below place (AsksTermination f object) =
+  seq_applied code activity below position (AsksTermination f object) =
       some _ (seq_asked plan s r h (with_frame s TheSequencer activity f below) (gets plan s r h s _ (around_same s))
       object)
-  seq_applied code activity below place (Faults fault) = some _ (seq_fault plan s r h activity place fault)
-  seq_applied code activity below place Stuck = nothing
+  seq_applied code activity below position (Faults fault) = some _ (seq_fault plan s r h activity position fault)
+  seq_applied code activity below position Stuck = nothing
 
   seq_frame : (code : Code) (rows : List ReadingRow) (activity : Activity) →
       SeqIf plan s r (frame_op code rows s TheSequencer activity)
@@ -100,16 +100,16 @@ module _ (plan : Plan) (s : State) (r : Replay) (h : Sequences plan s r) where
 
   -- ---- the sequencer's own operations
 
-  seq_area : (place : Pos) (scope bytes : ℕ) → SeqOf plan s r (area_opened s place scope bytes)
+  seq_area : (position : Pos) (scope bytes : ℕ) → SeqOf plan s r (area_opened s position scope bytes)
   unfolding area_opened
-  seq_area place scope bytes =
-      seq_opening plan s r h s.activity place scope (innermost s.activity.areas) bytes _
+  seq_area position scope bytes =
+      seq_opening plan s r h s.activity position scope (innermost s.activity.areas) bytes _
       (λ t a k. quiet plan s r h _ (gets_done plan s r h t _ _ k))
 
-  seq_safelet : (code : Code) (place : Pos) (class area : ℕ) → SeqOf plan s r (safelet_made code s place class area)
+  seq_safelet : (code : Code) (position : Pos) (class area : ℕ) → SeqOf plan s r (safelet_made code s position class area)
   unfolding safelet_made
-  seq_safelet code place class area =
-      seq_allocating plan s r h s.activity place class area (new_slots code.program class) _
+  seq_safelet code position class area =
+      seq_allocating plan s r h s.activity position class area (new_slots code.program class) _
       (λ t object k. quiet plan s r h _ (gets_done plan s r h t t.activity _ k))
 
   seq_body : (code : Code) (object : ℕ) (body : Body) → SeqIf plan s r (body_called code s object body)

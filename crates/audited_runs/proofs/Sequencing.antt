@@ -70,9 +70,9 @@ module _ (plan : Plan) (s : State) (r : Replay) (h : Sequences plan s r) where
   seq_option None x f k l = k
   seq_option (Some a) x f k l = l a
 
-  pub seq_fault : (activity : Activity) (place : Pos) (fault : RunFault) →
-      SeqOf plan s r (fault_in s TheSequencer activity place fault)
-  seq_fault activity place fault = faults_told plan s r activity place fault h
+  pub seq_fault : (activity : Activity) (position : Pos) (fault : RunFault) →
+      SeqOf plan s r (fault_in s TheSequencer activity position fault)
+  seq_fault activity position fault = faults_told plan s r activity position fault h
 
   pub quiet : (t : State) → Around s t → SeqOf plan s r (silently t)
   quiet t a = quiet_told plan s t r h a
@@ -96,13 +96,13 @@ module _ (plan : Plan) (s : State) (r : Replay) (h : Sequences plan s r) where
       go true = refl
       go false = refl
 
-  pub seq_called : (code : Code) (activity : Activity) (frames : List Frame) (place : Pos) (g : Frame) →
-      SeqOf plan s r (called code s TheSequencer activity frames place g)
+  pub seq_called : (code : Code) (activity : Activity) (frames : List Frame) (position : Pos) (g : Frame) →
+      SeqOf plan s r (called code s TheSequencer activity frames position g)
   unfolding called with_activity
-  seq_called code activity frames place g =
-      seq_if (is_full frames) _ _ (seq_fault activity place _)
+  seq_called code activity frames position g =
+      seq_if (is_full frames) _ _ (seq_fault activity position _)
       (seq_option (ceiling_entered code s g) _ _ (quiet _ (gets s _ (around_same s)))
-      (λ ceiling. seq_if (nat_lt ceiling activity.priority) _ _ (seq_fault activity place _)
+      (λ ceiling. seq_if (nat_lt ceiling activity.priority) _ _ (seq_fault activity position _)
       (subst (λ es. SeqTold plan s.unit r
       (record s {
         activity = record activity {
@@ -111,32 +111,32 @@ module _ (plan : Plan) (s : State) (r : Replay) (h : Sequences plan s r) where
         };
       }) es) (sym (no_priority activity.priority ceiling)) (quiet _ (gets s _ (around_same s))))))
 
-  pub seq_opening : (activity : Activity) (place : Pos) (scope : ℕ) (parent : Option ℕ) (bytes : ℕ)
+  pub seq_opening : (activity : Activity) (position : Pos) (scope : ℕ) (parent : Option ℕ) (bytes : ℕ)
       (next : State → ℕ → Step) → ((t : State) (a : ℕ) → Around s t → SeqOf plan s r (next t a)) →
-      SeqOf plan s r (opening s TheSequencer activity place scope parent bytes next)
+      SeqOf plan s r (opening s TheSequencer activity position scope parent bytes next)
   unfolding opening
-  seq_opening activity place scope parent bytes next k =
+  seq_opening activity position scope parent bytes next k =
       seq_if (has_store_for s bytes) _ _
       (k (with_area s scope parent bytes) (length s.areas) (around_parts s s.objects _ s.statics s.activity s.outcome))
-      (seq_fault activity place _)
+      (seq_fault activity position _)
 
-  pub seq_allocating : (activity : Activity) (place : Pos) (class area : ℕ) (slots : List Value)
+  pub seq_allocating : (activity : Activity) (position : Pos) (class area : ℕ) (slots : List Value)
       (next : State → ℕ → Step) → ((t : State) (a : ℕ) → Around s t → SeqOf plan s r (next t a)) →
-      SeqOf plan s r (allocating s TheSequencer activity place class area slots next)
+      SeqOf plan s r (allocating s TheSequencer activity position class area slots next)
   unfolding allocating
-  seq_allocating activity place class area slots next k =
+  seq_allocating activity position class area slots next k =
       seq_if (has_room s area (length slots)) _ _
       (k (with_object s class area slots) (length s.objects)
       (around_parts s _ s.areas s.statics s.activity s.outcome))
-      (seq_fault activity place _)
+      (seq_fault activity position _)
 
-  pub seq_opened : (activity : Activity) (frames : List Frame) (place : Pos) (g : Frame) (scope bytes : ℕ) →
-      SeqOf plan s r (opened_in s TheSequencer activity frames place g scope bytes)
+  pub seq_opened : (activity : Activity) (frames : List Frame) (position : Pos) (g : Frame) (scope bytes : ℕ) →
+      SeqOf plan s r (opened_in s TheSequencer activity frames position g scope bytes)
   unfolding opened_in with_activity
-  seq_opened activity frames place g scope bytes =
-      seq_if (is_some (area_with_scope s scope activity.areas)) _ _ (seq_fault activity place _)
-      (seq_if (is_full frames) _ _ (seq_fault activity place _)
-      (seq_opening activity place scope (Some g.area) bytes _ (λ t a k. quiet _ (gets t _ k))))
+  seq_opened activity frames position g scope bytes =
+      seq_if (is_some (area_with_scope s scope activity.areas)) _ _ (seq_fault activity position _)
+      (seq_if (is_full frames) _ _ (seq_fault activity position _)
+      (seq_opening activity position scope (Some g.area) bytes _ (λ t a k. quiet _ (gets t _ k))))
 
   pub seq_left : (activity : Activity) (f : Frame) (below : List Frame) (value : Option Value) →
       SeqOf plan s r (frame_left s TheSequencer activity f below value)
@@ -198,23 +198,23 @@ module _ (plan : Plan) (s : State) (r : Replay) (h : Sequences plan s r) where
       else silently t))
       (sym (ap (λ b. b && not t.is_end_asked) (ap is_exec a.beside.alike.phase ∙ h.out))) (quiet t a)
 
-  pub seq_registered : (code : Code) (activity : Activity) (place : Pos) (object : ℕ) (o : Object) (after : State) →
-      Around s after → SeqOf plan s r (registered code s TheSequencer activity place object o after)
+  pub seq_registered : (code : Code) (activity : Activity) (position : Pos) (object : ℕ) (o : Object) (after : State) →
+      Around s after → SeqOf plan s r (registered code s TheSequencer activity position object o after)
   unfolding registered
-  seq_registered code activity place object o after a = go (is_init s.phase) refl
+  seq_registered code activity position object o after a = go (is_init s.phase) refl
     where
       go : (b : Bool) → is_init s.phase ≡ b → SeqOf plan s r
-          (if not b then fault_in s TheSequencer activity place NotInitializing
+          (if not b then fault_in s TheSequencer activity position NotInitializing
           else (if is_some (handler_number s.registry object) then silently after
           else (if not (nat_lt (length s.registry) most_handlers)
-          then fault_in s TheSequencer activity place TooManyHandlers
+          then fault_in s TheSequencer activity position TooManyHandlers
           else (let row = new_row code.program object o in
           telling (record after { registry = after.registry ++ row ∷ [] })
           (event.Register s.unit (length s.registry + 1) (class_name code o.class) row.priority ∷ [])))))
-      go false e = seq_fault activity place _
+      go false e = seq_fault activity position _
       go true e =
           seq_if (is_some (handler_number s.registry object)) _ _ (quiet after a)
-          (seq_if (not (nat_lt (length s.registry) most_handlers)) _ _ (seq_fault activity place _)
+          (seq_if (not (nat_lt (length s.registry) most_handlers)) _ _ (seq_fault activity position _)
           (register_told plan s after r (new_row code.program object o) (class_name code o.class) h a e))
 
   pub seq_print : (t : State) (label : ℕ) (value : ℤ) → Around s t →

@@ -56,22 +56,22 @@ restood_small : (most : ℕ) (all : Releases) (last : Option Choice) (change : S
     (record all {
       releases = elim o as (λ _. List Release) [
         | None ↦ all.releases
-        | Some place ↦ changed (λ (r : Release). record r { standing = change r.standing }) place all.releases
+        | Some index ↦ changed (λ (r : Release). record r { standing = change r.standing }) index all.releases
       ];
     }) last
 restood_small most all last change None h =
     record { few = h.few; arrivals = h.arrivals; releases = h.releases; last_one = h.last_one }
-restood_small most all last change (Some place) h =
+restood_small most all last change (Some index) h =
     record {
       few = h.few;
       arrivals = h.arrivals;
       releases = λ p x e.
-          by p x (at_changed (λ (r : Release). record r { standing = change r.standing }) place all.releases p x e);
+          by p x (at_changed (λ (r : Release). record r { standing = change r.standing }) index all.releases p x e);
       last_one = h.last_one;
     }
   where
     by : (p : ℕ) (x : Release) →
-        AtChanged (λ (r : Release). record r { standing = change r.standing }) place all.releases p x →
+        AtChanged (λ (r : Release). record r { standing = change r.standing }) index all.releases p x →
         InRange most x.handler x.number
     by p x (is_changed y there same is) =
         subst (λ (z : Release). InRange most z.handler z.number) (sym is) (h.releases p y there)
@@ -221,19 +221,19 @@ named_range most all last handler number h e = go (place_of all.releases handler
     go : (o : Option ℕ) → place_of all.releases handler number ≡ o →
         holds (elim (place_of all.releases handler number) as (λ _. Option Release) [
           | None ↦ None
-          | Some place ↦ slice_get all.releases place
+          | Some index ↦ slice_get all.releases index
         ]) is_waiting ≡ true → InRange most handler number
     go None f g =
         absurd (cc (
           g,
           ap (λ o. holds (elim o as (λ _. Option Release) [
             | None ↦ None
-            | Some place ↦ slice_get all.releases place
+            | Some index ↦ slice_get all.releases index
           ]) is_waiting) f,
         ))
     go (Some p) f g =
         at p f (slice_get all.releases p) refl
         (sym (ap (λ o. holds (elim o as (λ _. Option Release) [
           | None ↦ None
-          | Some place ↦ slice_get all.releases place
+          | Some index ↦ slice_get all.releases index
         ]) is_waiting) f) ∙ g)

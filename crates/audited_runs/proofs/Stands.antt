@@ -18,47 +18,47 @@ use Rattle.audited_runs.proofs.Named.{fresh, restood}
 -- ---- candidates
 
 -- whether a release is a candidate is said by its status
-by_status : (s t : State) (place : ℕ) (r : ReleaseNow) (status : ReleaseStatus) → r.status ≡ status →
-    candidate s place r ≡ None → candidate t place r ≡ None
+by_status : (s t : State) (index : ℕ) (r : ReleaseNow) (status : ReleaseStatus) → r.status ≡ status →
+    candidate s index r ≡ None → candidate t index r ≡ None
 unfolding candidate
-by_status s t place r WaitsNow e h = absurd (cc (h, ap (of s) e))
+by_status s t index r WaitsNow e h = absurd (cc (h, ap (of s) e))
   where
     of : State → ReleaseStatus → Option Candidate
     of s status =
         elim status [
-          | WaitsNow ↦ Some (record { place = place; priority = handler_priority s r.handler; is_started = false })
-          | StartedNow activity ↦ Some (record { place = place; priority = activity.priority; is_started = true })
+          | WaitsNow ↦ Some (record { index = index; priority = handler_priority s r.handler; is_started = false })
+          | StartedNow activity ↦ Some (record { index = index; priority = activity.priority; is_started = true })
           | Ended ↦ None
           | Dropped ↦ None
         ]
-by_status s t place r (StartedNow a) e h = absurd (cc (h, ap (of s) e))
+by_status s t index r (StartedNow a) e h = absurd (cc (h, ap (of s) e))
   where
     of : State → ReleaseStatus → Option Candidate
     of s status =
         elim status [
-          | WaitsNow ↦ Some (record { place = place; priority = handler_priority s r.handler; is_started = false })
-          | StartedNow activity ↦ Some (record { place = place; priority = activity.priority; is_started = true })
+          | WaitsNow ↦ Some (record { index = index; priority = handler_priority s r.handler; is_started = false })
+          | StartedNow activity ↦ Some (record { index = index; priority = activity.priority; is_started = true })
           | Ended ↦ None
           | Dropped ↦ None
         ]
-by_status s t place r Ended e h =
+by_status s t index r Ended e h =
     ap (λ status. elim status as (λ _. Option Candidate) [
-      | WaitsNow ↦ Some (record { place = place; priority = handler_priority t r.handler; is_started = false })
-      | StartedNow activity ↦ Some (record { place = place; priority = activity.priority; is_started = true })
+      | WaitsNow ↦ Some (record { index = index; priority = handler_priority t r.handler; is_started = false })
+      | StartedNow activity ↦ Some (record { index = index; priority = activity.priority; is_started = true })
       | Ended ↦ None
       | Dropped ↦ None
     ]) e
-by_status s t place r Dropped e h =
+by_status s t index r Dropped e h =
     ap (λ status. elim status as (λ _. Option Candidate) [
-      | WaitsNow ↦ Some (record { place = place; priority = handler_priority t r.handler; is_started = false })
-      | StartedNow activity ↦ Some (record { place = place; priority = activity.priority; is_started = true })
+      | WaitsNow ↦ Some (record { index = index; priority = handler_priority t r.handler; is_started = false })
+      | StartedNow activity ↦ Some (record { index = index; priority = activity.priority; is_started = true })
       | Ended ↦ None
       | Dropped ↦ None
     ]) e
 
-pub candidate_none : (s t : State) (place : ℕ) (r : ReleaseNow) → candidate s place r ≡ None →
-    candidate t place r ≡ None
-candidate_none s t place r h = by_status s t place r r.status refl h
+pub candidate_none : (s t : State) (index : ℕ) (r : ReleaseNow) → candidate s index r ≡ None →
+    candidate t index r ≡ None
+candidate_none s t index r h = by_status s t index r r.status refl h
 
 -- ---- nothing changes
 
@@ -71,10 +71,10 @@ stands_same s t all registry first releases stands =
           ∙ (ap (λ rs. map release_seen (drop s.earlier_releases rs)) releases ∙ stands.releases);
       within = subst (λ e. e ≤ length t.releases) (sym first)
           (subst (λ rs. s.earlier_releases ≤ length rs) (sym releases) stands.within);
-      earlier = λ place r there l.
-          candidate_none s t place r
-          (stands.earlier place r (sym (ap (λ rs. slice_get rs place) releases) ∙ there)
-          (subst (λ e. place < e) first l));
+      earlier = λ index r there l.
+          candidate_none s t index r
+          (stands.earlier index r (sym (ap (λ rs. slice_get rs index) releases) ∙ there)
+          (subst (λ e. index < e) first l));
     }
 
 -- ---- one release has another status
@@ -105,17 +105,17 @@ stands_restood s t all p q status stands at registry first releases =
           (subst (λ n. s.earlier_releases ≤ n)
           (sym (ap length releases
           ∙ length_changed (λ (r : ReleaseNow). record r { status = status }) p s.releases)) stands.within);
-      earlier = λ place r there l. earlier place r there (subst (λ e. place < e) first l);
+      earlier = λ index r there l. earlier index r there (subst (λ e. index < e) first l);
     }
   where
-    earlier : (place : ℕ) (r : ReleaseNow) → slice_get t.releases place ≡ Some r → place < s.earlier_releases →
-        candidate t place r ≡ None
-    earlier place r there l =
-        candidate_none s t place r
-        (stands.earlier place r
-        (sym (get_changed_other (λ (r : ReleaseNow). record r { status = status }) p place s.releases
+    earlier : (index : ℕ) (r : ReleaseNow) → slice_get t.releases index ≡ Some r → index < s.earlier_releases →
+        candidate t index r ≡ None
+    earlier index r there l =
+        candidate_none s t index r
+        (stands.earlier index r
+        (sym (get_changed_other (λ (r : ReleaseNow). record r { status = status }) p index s.releases
         (λ e. omega (arith, e, l, at)))
-        ∙ (sym (ap (λ rs. slice_get rs place) releases) ∙ there)) l)
+        ∙ (sym (ap (λ rs. slice_get rs index) releases) ∙ there)) l)
 
 -- ---- one more release waits
 
@@ -132,11 +132,11 @@ length_more : (rs : List ReleaseNow) (x : ReleaseNow) → length rs ≤ length (
 length_more [] x = omega arith
 length_more (r ∷ rs) x = let l : length rs ≤ length (rs ++ x ∷ []) = length_more rs x in omega (arith, l)
 
-get_before : (rs : List ReleaseNow) (x : ReleaseNow) (place : ℕ) → place < length rs →
-    slice_get (rs ++ x ∷ []) place ≡ slice_get rs place
-get_before [] x place l = absurd (omega (arith, l))
+get_before : (rs : List ReleaseNow) (x : ReleaseNow) (index : ℕ) → index < length rs →
+    slice_get (rs ++ x ∷ []) index ≡ slice_get rs index
+get_before [] x index l = absurd (omega (arith, l))
 get_before (r ∷ rs) x zero l = refl
-get_before (r ∷ rs) x (suc place) l = get_before rs x place (omega (arith, l))
+get_before (r ∷ rs) x (suc index) l = get_before rs x index (omega (arith, l))
 
 abbrev pub waiting_now : ℕ → ℕ → ReleaseNow
 waiting_now handler number = record { handler = handler; number = number; status = WaitsNow }
@@ -160,17 +160,17 @@ stands_more s t all k number stands registry first releases =
           (let a = stands.within in
           let b = length_more s.releases (waiting_now (suc k) number) in
           omega (arith, a, b)));
-      earlier = λ place r there l. earlier place r there (subst (λ e. place < e) first l);
+      earlier = λ index r there l. earlier index r there (subst (λ e. index < e) first l);
     }
   where
-    earlier : (place : ℕ) (r : ReleaseNow) → slice_get t.releases place ≡ Some r → place < s.earlier_releases →
-        candidate t place r ≡ None
-    earlier place r there l =
+    earlier : (index : ℕ) (r : ReleaseNow) → slice_get t.releases index ≡ Some r → index < s.earlier_releases →
+        candidate t index r ≡ None
+    earlier index r there l =
         let w = stands.within in
-        candidate_none s t place r
-        (stands.earlier place r
-        (sym (get_before s.releases (waiting_now (suc k) number) place (omega (arith, l, w)))
-        ∙ (sym (ap (λ rs. slice_get rs place) releases) ∙ there)) l)
+        candidate_none s t index r
+        (stands.earlier index r
+        (sym (get_before s.releases (waiting_now (suc k) number) index (omega (arith, l, w)))
+        ∙ (sym (ap (λ rs. slice_get rs index) releases) ∙ there)) l)
 
 -- ---- all that wait are dropped
 
@@ -179,38 +179,38 @@ pub dropped_not : (r : ReleaseNow) → is_waiting_now r.status ≡ false → dro
 unfolding dropped_release
 dropped_not r e = ap (λ (b : Bool). if b then record r { status = Dropped } else r) e
 
-drop_none : (s t : State) (place : ℕ) (r : ReleaseNow) (status : ReleaseStatus) → r.status ≡ status →
-    candidate s place r ≡ None → candidate t place (dropped_release r) ≡ None
+drop_none : (s t : State) (index : ℕ) (r : ReleaseNow) (status : ReleaseStatus) → r.status ≡ status →
+    candidate s index r ≡ None → candidate t index (dropped_release r) ≡ None
 unfolding is_waiting_now candidate
-drop_none s t place r WaitsNow e h =
+drop_none s t index r WaitsNow e h =
     absurd (cc (
       h,
       ap (λ status. elim status as (λ _. Option Candidate) [
-        | WaitsNow ↦ Some (record { place = place; priority = handler_priority s r.handler; is_started = false })
-        | StartedNow activity ↦ Some (record { place = place; priority = activity.priority; is_started = true })
+        | WaitsNow ↦ Some (record { index = index; priority = handler_priority s r.handler; is_started = false })
+        | StartedNow activity ↦ Some (record { index = index; priority = activity.priority; is_started = true })
         | Ended ↦ None
         | Dropped ↦ None
       ]) e,
     ))
-drop_none s t place r (StartedNow a) e h =
-    subst (λ y. candidate t place y ≡ None) (sym (dropped_not r (ap is_waiting_now e))) (candidate_none s t place r h)
-drop_none s t place r Ended e h =
-    subst (λ y. candidate t place y ≡ None) (sym (dropped_not r (ap is_waiting_now e))) (candidate_none s t place r h)
-drop_none s t place r Dropped e h =
-    subst (λ y. candidate t place y ≡ None) (sym (dropped_not r (ap is_waiting_now e))) (candidate_none s t place r h)
+drop_none s t index r (StartedNow a) e h =
+    subst (λ y. candidate t index y ≡ None) (sym (dropped_not r (ap is_waiting_now e))) (candidate_none s t index r h)
+drop_none s t index r Ended e h =
+    subst (λ y. candidate t index y ≡ None) (sym (dropped_not r (ap is_waiting_now e))) (candidate_none s t index r h)
+drop_none s t index r Dropped e h =
+    subst (λ y. candidate t index y ≡ None) (sym (dropped_not r (ap is_waiting_now e))) (candidate_none s t index r h)
 
 -- where a list of what a release becomes has a release, the list has one
-record Mapped (f : ReleaseNow → ReleaseNow) (rs : List ReleaseNow) (place : ℕ) (y : ReleaseNow) : Type 0 where
+record Mapped (f : ReleaseNow → ReleaseNow) (rs : List ReleaseNow) (index : ℕ) (y : ReleaseNow) : Type 0 where
   release : ReleaseNow
-  there : slice_get rs place ≡ Some release
+  there : slice_get rs index ≡ Some release
   is : y ≡ f release
 
-mapped_at : (f : ReleaseNow → ReleaseNow) (rs : List ReleaseNow) (place : ℕ) (y : ReleaseNow) →
-    slice_get (map f rs) place ≡ Some y → Mapped f rs place y
-mapped_at f [] place y e = absurd (cc (e))
+mapped_at : (f : ReleaseNow → ReleaseNow) (rs : List ReleaseNow) (index : ℕ) (y : ReleaseNow) →
+    slice_get (map f rs) index ≡ Some y → Mapped f rs index y
+mapped_at f [] index y e = absurd (cc (e))
 mapped_at f (x ∷ rs) zero y e = record { release = x; there = refl; is = sym (some_inj (f x) y e) }
-mapped_at f (x ∷ rs) (suc place) y e =
-    let m : Mapped f rs place y = mapped_at f rs place y e in
+mapped_at f (x ∷ rs) (suc index) y e =
+    let m : Mapped f rs index y = mapped_at f rs index y e in
     record { release = m.release; there = m.there; is = m.is }
 
 pub stands_dropped : (s t : State) (all : Releases) (rs : List Release) → StandsFor s all → t.registry ≡ s.registry →
@@ -226,21 +226,21 @@ stands_dropped s t all rs stands registry first releases seen =
       within = subst (λ e. e ≤ length t.releases) (sym first)
           (subst (λ n. s.earlier_releases ≤ n) (sym (ap length releases ∙ length_map dropped_release s.releases))
           stands.within);
-      earlier = λ place r there l. earlier place r there (subst (λ e. place < e) first l);
+      earlier = λ index r there l. earlier index r there (subst (λ e. index < e) first l);
     }
   where
-    earlier : (place : ℕ) (r : ReleaseNow) → slice_get t.releases place ≡ Some r → place < s.earlier_releases →
-        candidate t place r ≡ None
-    earlier place r there l =
-        let m : Mapped dropped_release s.releases place r =
-        mapped_at dropped_release s.releases place r (sym (ap (λ xs. slice_get xs place) releases) ∙ there) in
-        subst (λ y. candidate t place y ≡ None) (sym m.is)
-        (drop_none s t place m.release m.release.status refl (stands.earlier place m.release m.there l))
+    earlier : (index : ℕ) (r : ReleaseNow) → slice_get t.releases index ≡ Some r → index < s.earlier_releases →
+        candidate t index r ≡ None
+    earlier index r there l =
+        let m : Mapped dropped_release s.releases index r =
+        mapped_at dropped_release s.releases index r (sym (ap (λ xs. slice_get xs index) releases) ∙ there) in
+        subst (λ y. candidate t index y ≡ None) (sym m.is)
+        (drop_none s t index m.release m.release.status refl (stands.earlier index m.release m.there l))
 
 -- ---- a mission begins, and a handler is registered
 
 pub stands_first : (s : State) → s.registry ≡ [] → s.earlier_releases ≡ length s.releases →
-    ((place : ℕ) (r : ReleaseNow) → slice_get s.releases place ≡ Some r → candidate s place r ≡ None) →
+    ((index : ℕ) (r : ReleaseNow) → slice_get s.releases index ≡ Some r → candidate s index r ≡ None) →
     StandsFor s no_releases
 stands_first s registry first none =
     record {
@@ -248,7 +248,7 @@ stands_first s registry first none =
       releases = ap (λ e. map release_seen (drop e s.releases)) first
           ∙ ap (map release_seen) (drop_all_of s.releases);
       within = omega (arith, first);
-      earlier = λ place r there l. none place r there;
+      earlier = λ index r there l. none index r there;
     }
 
 pub stands_registered : (s t : State) (all : Releases) (row : HandlerRow) → StandsFor s all →
@@ -266,6 +266,6 @@ stands_registered s t all row stands registry first releases =
           (record { priority = row.priority; arrived = 0 } ∷ []))));
       releases = same.releases;
       within = same.within;
-      earlier = λ place r there l.
-          candidate_none (record t { registry = s.registry }) t place r (same.earlier place r there l);
+      earlier = λ index r there l.
+          candidate_none (record t { registry = s.registry }) t index r (same.earlier index r there l);
     }

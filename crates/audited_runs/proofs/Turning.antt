@@ -63,8 +63,8 @@ may_act s p x c e = go x.status refl
     of : ReleaseStatus → Option Candidate
     of status =
         elim status [
-          | WaitsNow ↦ Some (record { place = p; priority = handler_priority s x.handler; is_started = false })
-          | StartedNow activity ↦ Some (record { place = p; priority = activity.priority; is_started = true })
+          | WaitsNow ↦ Some (record { index = p; priority = handler_priority s x.handler; is_started = false })
+          | StartedNow activity ↦ Some (record { index = p; priority = activity.priority; is_started = true })
           | Ended ↦ None
           | Dropped ↦ None
         ]

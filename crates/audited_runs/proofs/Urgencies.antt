@@ -131,11 +131,11 @@ urgent_by l m x e h =
     go f = grind (arith, nat_tests, f, h)
 
 pub was_most_urgent : (n : ℕ) (cs ds : List Candidate) →
-    ((i : ℕ) (d : Candidate) → slice_get ds i ≡ Some d → n ≤ d.place) → (best : Candidate) →
-    most_urgent (cs ++ ds) ≡ Some best → best.place < n → most_urgent cs ≡ Some best
+    ((i : ℕ) (d : Candidate) → slice_get ds i ≡ Some d → n ≤ d.index) → (best : Candidate) →
+    most_urgent (cs ++ ds) ≡ Some best → best.index < n → most_urgent cs ≡ Some best
 was_most_urgent n [] ds late best e l =
     let k : IsOne ds best = is_one_of ds best e in
-    let a : n ≤ best.place = late k.i best k.there in
+    let a : n ≤ best.index = late k.i best k.there in
     absurd (omega (arith, a, l))
 was_most_urgent n (x ∷ cs) ds late best e l =
     most_more x cs
@@ -143,7 +143,7 @@ was_most_urgent n (x ∷ cs) ds late best e l =
     (λ b f k. was_most_urgent n cs ds late b f k)
   where
     go : (o : Option Candidate) → most_urgent (cs ++ ds) ≡ o → of_two o x ≡ Some best →
-        ((b : Candidate) → most_urgent (cs ++ ds) ≡ Some b → b.place < n → most_urgent cs ≡ Some b) →
+        ((b : Candidate) → most_urgent (cs ++ ds) ≡ Some b → b.index < n → most_urgent cs ≡ Some b) →
         of_two (most_urgent cs) x ≡ Some best
     go None f h more =
         let none : most_urgent cs ≡ None =
@@ -155,7 +155,7 @@ was_most_urgent n (x ∷ cs) ds late best e l =
         by true t =
             let same : later ≡ best =
             some_inj later best (sym (ap (λ b. Some (if b then later else x)) t) ∙ h) in
-            ap (λ o. of_two o x) (more later f (subst (λ (y : Candidate). y.place < n) (sym same) l)) ∙ h
+            ap (λ o. of_two o x) (more later f (subst (λ (y : Candidate). y.index < n) (sym same) l)) ∙ h
         by false t = old (most_urgent cs) refl
           where
             same : x ≡ best
@@ -183,28 +183,28 @@ candidates_more s first (r ∷ rs) more =
     ∙ (let e : first + 1 + length rs ≡ first + suc (length rs) = omega arith in
     ap (λ n. (option_to_list (candidate s first r) ++ candidates_from s (first + 1) rs) ++ candidates_from s n more) e))
 
-same_candidate : (s t : State) → t.registry ≡ s.registry → (place : ℕ) (r : Release) →
-    candidate t place r ≡ candidate s place r
+same_candidate : (s t : State) → t.registry ≡ s.registry → (index : ℕ) (r : Release) →
+    candidate t index r ≡ candidate s index r
 unfolding candidate
-same_candidate s t same place r = go r.status
+same_candidate s t same index r = go r.status
   where
     priority : handler_priority t r.handler ≡ handler_priority s r.handler
     priority = ap (λ (rows : List HandlerRow). elim (handler_row rows r.handler) as (λ _. ℕ) [ None ↦ 0 | Some row ↦ row.priority ]) same
 
     go : (status : ReleaseStatus) →
         elim status as (λ _. Option Candidate) [
-          | Waits ↦ Some (record { place = place; priority = handler_priority t r.handler; is_started = false })
-          | Started activity ↦ Some (record { place = place; priority = activity.priority; is_started = true })
+          | Waits ↦ Some (record { index = index; priority = handler_priority t r.handler; is_started = false })
+          | Started activity ↦ Some (record { index = index; priority = activity.priority; is_started = true })
           | Ended ↦ None
           | Dropped ↦ None
         ]
         ≡ elim status as (λ _. Option Candidate) [
-          | Waits ↦ Some (record { place = place; priority = handler_priority s r.handler; is_started = false })
-          | Started activity ↦ Some (record { place = place; priority = activity.priority; is_started = true })
+          | Waits ↦ Some (record { index = index; priority = handler_priority s r.handler; is_started = false })
+          | Started activity ↦ Some (record { index = index; priority = activity.priority; is_started = true })
           | Ended ↦ None
           | Dropped ↦ None
         ]
-    go Waits = ap (λ p. Some (record { place = place; priority = p; is_started = false })) priority
+    go Waits = ap (λ p. Some (record { index = index; priority = p; is_started = false })) priority
     go (Started a) = refl
     go Ended = refl
     go Dropped = refl
@@ -217,38 +217,38 @@ same_candidates s t same first (r ∷ rs) =
     ap (λ o. option_to_list o ++ candidates_from t (first + 1) rs) (same_candidate s t same first r)
     ∙ ap (λ cs. option_to_list (candidate s first r) ++ cs) (same_candidates s t same (first + 1) rs)
 
-placed : (s : State) (q : ℕ) (r : Release) (c : Candidate) → candidate s q r ≡ Some c → c.place ≡ q
+placed : (s : State) (q : ℕ) (r : Release) (c : Candidate) → candidate s q r ≡ Some c → c.index ≡ q
 unfolding candidate
 placed s q r c e = go r.status e
   where
     go : (status : ReleaseStatus) →
         elim status as (λ _. Option Candidate) [
-          | Waits ↦ Some (record { place = q; priority = handler_priority s r.handler; is_started = false })
-          | Started activity ↦ Some (record { place = q; priority = activity.priority; is_started = true })
+          | Waits ↦ Some (record { index = q; priority = handler_priority s r.handler; is_started = false })
+          | Started activity ↦ Some (record { index = q; priority = activity.priority; is_started = true })
           | Ended ↦ None
           | Dropped ↦ None
-        ] ≡ Some c → c.place ≡ q
-    go Waits f = ap (λ (x : Candidate). x.place) (sym (some_inj _ c f))
-    go (Started a) f = ap (λ (x : Candidate). x.place) (sym (some_inj _ c f))
+        ] ≡ Some c → c.position ≡ q
+    go Waits f = ap (λ (x : Candidate). x.index) (sym (some_inj _ c f))
+    go (Started a) f = ap (λ (x : Candidate). x.index) (sym (some_inj _ c f))
     go Ended f = absurd (cc (f))
     go Dropped f = absurd (cc (f))
 
 are_late : (s : State) (first : ℕ) (rs : List Release) (i : ℕ) (d : Candidate) →
-    slice_get (candidates_from s first rs) i ≡ Some d → first ≤ d.place
+    slice_get (candidates_from s first rs) i ≡ Some d → first ≤ d.index
 unfolding candidates_from
 are_late s first [] i d e = absurd (cc (e))
 are_late s first (r ∷ rs) i d e = go (candidate s first r) refl i e (λ j f. are_late s (first + 1) rs j d f)
   where
     go : (o : Option Candidate) → candidate s first r ≡ o → (i : ℕ) →
         slice_get (option_to_list o ++ candidates_from s (first + 1) rs) i ≡ Some d →
-        ((j : ℕ) → slice_get (candidates_from s (first + 1) rs) j ≡ Some d → first + 1 ≤ d.place) → first ≤ d.place
-    go None f i e more = let a : first + 1 ≤ d.place = more i e in omega (arith, a)
+        ((j : ℕ) → slice_get (candidates_from s (first + 1) rs) j ≡ Some d → first + 1 ≤ d.index) → first ≤ d.index
+    go None f i e more = let a : first + 1 ≤ d.index = more i e in omega (arith, a)
     go (Some c) f zero e more =
-        let a : c.place ≡ first = placed s first r c f in
+        let a : c.position ≡ first = placed s first r c f in
         let b : c ≡ d = some_inj c d e in
-        let same : c.place ≡ d.place = ap (λ (x : Candidate). x.place) b in
+        let same : c.position ≡ d.index = ap (λ (x : Candidate). x.index) b in
         omega (arith, a, same)
-    go (Some c) f (suc i) e more = let a : first + 1 ≤ d.place = more i e in omega (arith, a)
+    go (Some c) f (suc i) e more = let a : first + 1 ≤ d.index = more i e in omega (arith, a)
 
 -- ---- the choice before arrivals
 
@@ -269,26 +269,26 @@ module _ (s t : State) (more : List Release) (registry : t.registry ≡ s.regist
   none_was_chosen e = by (most_urgent (candidates t)) refl
     where
       by : (o : Option Candidate) → most_urgent (candidates t) ≡ o →
-          option_map (λ (c : Candidate). c.place) (most_urgent (candidates s)) ≡ None
+          option_map (λ (c : Candidate). c.index) (most_urgent (candidates s)) ≡ None
       by None f =
           let none : candidates s ++ candidates_from t (length s.releases) more ≡ [] =
           sym both ∙ none_there (candidates t) f in
-          ap (λ cs. option_map (λ (c : Candidate). c.place) (most_urgent cs))
+          ap (λ cs. option_map (λ (c : Candidate). c.index) (most_urgent cs))
           (append_nothing (candidates s) (candidates_from t (length s.releases) more) none)
-          ∙ ap (option_map (λ (c : Candidate). c.place)) most_nothing
-      by (Some c) f = absurd (cc (e, ap (option_map (λ (c : Candidate). c.place)) f))
+          ∙ ap (option_map (λ (c : Candidate). c.index)) most_nothing
+      by (Some c) f = absurd (cc (e, ap (option_map (λ (c : Candidate). c.index)) f))
 
-  pub was_chosen : (place : ℕ) → place < length s.releases → chosen t ≡ Some place → chosen s ≡ Some place
+  pub was_chosen : (index : ℕ) → index < length s.releases → chosen t ≡ Some index → chosen s ≡ Some index
   unfolding chosen
-  was_chosen place l e = by (most_urgent (candidates t)) refl
+  was_chosen index l e = by (most_urgent (candidates t)) refl
     where
       by : (o : Option Candidate) → most_urgent (candidates t) ≡ o →
-          option_map (λ (c : Candidate). c.place) (most_urgent (candidates s)) ≡ Some place
-      by None f = absurd (cc (e, ap (option_map (λ (c : Candidate). c.place)) f))
+          option_map (λ (c : Candidate). c.index) (most_urgent (candidates s)) ≡ Some index
+      by None f = absurd (cc (e, ap (option_map (λ (c : Candidate). c.index)) f))
       by (Some c) f =
-          let at : c.place ≡ place =
-          some_inj c.place place (sym (ap (option_map (λ (c : Candidate). c.place)) f) ∙ e) in
-          ap (option_map (λ (c : Candidate). c.place))
+          let at : c.index ≡ index =
+          some_inj c.index index (sym (ap (option_map (λ (c : Candidate). c.index)) f) ∙ e) in
+          ap (option_map (λ (c : Candidate). c.index))
           (was_most_urgent (length s.releases) (candidates s) (candidates_from t (length s.releases) more)
           (are_late t (length s.releases) more) c (sym (ap most_urgent both) ∙ f)
           (subst (λ n. n < length s.releases) (sym at) l))

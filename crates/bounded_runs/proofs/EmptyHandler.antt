@@ -296,7 +296,7 @@ one_release_meets_its_bound =
       i = 0;
       x = 1;
       t = 44;
-      place = 0;
+      index = 0;
       release = record { handler = 1; number = 1; status = Waits };
       bound = bound;
       ready = ready;

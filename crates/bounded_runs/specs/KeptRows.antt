@@ -21,8 +21,8 @@ pub record StaysWithinItsRows : Type 0 where
   pub three : length (at_choice (code_of program) plan n).registry ≡ 3
   -- in unit t a release of the mission of unit n acts above its own priority
   pub t : ℕ
-  pub place : ℕ
+  pub index : ℕ
   pub before : t < n
-  pub acting : acts (mission_schedule (code_of program) plan n) t place ≡ true
-  pub above : own rows (mission_schedule (code_of program) plan n) place
-      < (mission_schedule (code_of program) plan n).active t place
+  pub acting : acts (mission_schedule (code_of program) plan n) t index ≡ true
+  pub above : own rows (mission_schedule (code_of program) plan n) index
+      < (mission_schedule (code_of program) plan n).active t index

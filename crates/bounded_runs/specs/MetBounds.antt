@@ -24,13 +24,13 @@ pub record MeetsItsBound : Type 0 where
   pub i : ℕ
   pub x : ℕ
   pub t : ℕ
-  pub place : ℕ
+  pub index : ℕ
   pub release : Release
   pub bound : IsBound rows i (x + 1)
-  pub ready : IsReadyIn (code_of program) plan t place
-  pub is_there : slice_get (at_choice (code_of program) plan t).releases place ≡ Some release
+  pub ready : IsReadyIn (code_of program) plan t index
+  pub is_there : slice_get (at_choice (code_of program) plan t).releases index ≡ Some release
   pub handler : release.handler ≡ i + 1
   pub in_time : t + (x + 1) ≤ n
   -- it is left x units later, and one unit further it isn't
-  pub left_before : may_act (at_choice (code_of program) plan (t + x)) place ≡ true
-  pub ended : may_act (at_choice (code_of program) plan (t + (x + 1))) place ≡ false
+  pub left_before : may_act (at_choice (code_of program) plan (t + x)) index ≡ true
+  pub ended : may_act (at_choice (code_of program) plan (t + (x + 1))) index ≡ false

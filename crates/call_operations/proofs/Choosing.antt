@@ -149,21 +149,21 @@ chosen_is code (PARAMS id) other h =
     nothing code (PARAMS id) other (asked (bound_class (binding code id)) instruction.Params) id
     (never id (bound_class (binding code id)) instruction.Params (λ a. refl)) h
 
-pub chooses : (code : Listing) (row : Row) (id place : ℕ) → id ≡ node_number row.op →
+pub chooses : (code : Listing) (row : Row) (id index : ℕ) → id ≡ node_number row.op →
     row.instruction ≡ instruction_of (code_of code.program) row.op →
-    GoesBy (code_of code.program) code.rows row place → ChoosesIfAny code row id place
+    GoesBy (code_of code.program) code.rows row index → ChoosesIfAny code row id index
 unfolding ChoosesIfAny GoesBy
-chooses code row id place of_node asks goes = go (choosing id row.instruction) refl
+chooses code row id index of_node asks goes = go (choosing id row.instruction) refl
   where
     go : (o : Option Op) → choosing id row.instruction ≡ o →
-        elim o as (λ z. Type 0) [ None ↦ Unit {0} | Some op ↦ Chooses code row op place ]
+        elim o as (λ z. Type 0) [ None ↦ Unit {0} | Some op ↦ Chooses code row op index ]
     go None e = tt
     go (Some op) e =
         let is : IsChosen (code_of code.program) row.op op =
         chosen_is (code_of code.program) row.op op
         (ap (λ n. choosing n (instruction_of (code_of code.program) row.op)) (sym of_node)
         ∙ ap (choosing id) (sym asks) ∙ e) in
-        let found : Chooses code row op place = record {
+        let found : Chooses code row op index = record {
           front = is.front;
           puts = λ condition.
               ap (λ (o : Op). put_in_front (code_of code.program) o condition) (sym is.same) ∙ is.puts condition;

@@ -18,5 +18,5 @@ choosing id _ = None
 
 -- a row whose instruction chooses goes on as the operation decides
 unfoldable pub ChoosesIfAny : Listing → Row → ℕ → ℕ → Type 0
-ChoosesIfAny code row id place =
-    elim (choosing id row.instruction) [ None ↦ Unit {0} | Some op ↦ Chooses code row op place ]
+ChoosesIfAny code row id index =
+    elim (choosing id row.instruction) [ None ↦ Unit {0} | Some op ↦ Chooses code row op index ]

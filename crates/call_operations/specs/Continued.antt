@@ -41,8 +41,8 @@ entering code world id r bytes f =
     Opens f (new_frame code body (Some id) (Some r) f.area []) scope bytes))
 
 abbrev pub running : Code → Environment → ℕ → ℕ → ℕ → Frame → Effect
-running code world id place r f =
-    given (world.object_at place) (λ there. with_run code world r (λ o body.
+running code world id index r f =
+    given (world.object_at index) (λ there. with_run code world r (λ o body.
     Calls f (new_frame code body (Some id) (Some r) there.area [])))
 
 -- the priority and the storage of an aperiodic handler are kept, those of a sequencer are not

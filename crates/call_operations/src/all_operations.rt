@@ -41,7 +41,7 @@ fn follow(
     row: &Row,
     id: NodeId,
 ) -> Result<Effect, Memory>
-    requires { ChoosesIfAny code.now row.now id frame.old.place }
+    requires { ChoosesIfAny code.now row.now id frame.old.position }
     ensures does { IfOk result (λ effect. Does code.now
         (effect_by (code_of code.now.program)
         (environment world.entry.memory.now world.entry.plan.now.readings world.entry.unit)
@@ -113,7 +113,7 @@ pub fn operate(
     row: &Row,
 ) -> Result<Effect, Memory>
     requires asks { row.now.instruction ≡ instruction_of (code_of code.now.program) row.now.op }
-    requires goes { GoesBy (code_of code.now.program) code.now.rows row.now frame.old.place }
+    requires goes { GoesBy (code_of code.now.program) code.now.rows row.now frame.old.position }
     ensures does { IfOk result (λ effect. Does code.now
         (effect_of (code_of code.now.program)
         (environment world.entry.memory.now world.entry.plan.now.readings world.entry.unit)

@@ -289,29 +289,29 @@ module _ (code : Code) (behind : BehindChildren code.program) (world : Environme
     node_ends : (node : Node) → slice_get code.program.nodes id ≡ Some node →
         fault_at_node code id node ≡ Some fault → (op : Op) → operation_of code id node ≡ Some op → Result op
     unfolding fault_at_node operation_of children AllBelow asked right_operand array_length arguments_of operator_of
-    node_ends (Binary place operator l r) there e op is =
+    node_ends (Binary position operator l r) there e op is =
         subst Result (some_op (BIN id) op is) (λ less.
         bin_ends fault code world f id operator (left_by code r) (ap (λ (o : Option Node). o >>= operator_of) there) e
         (subst (λ (t : Stack). Operands t f.operands)
         (ap (λ (o : Option ℕ). with_left (part_left code id o) nothing)
         (ap (λ (o : Option Node). o >>= right_operand) there)
-        ∙ ap (λ (l : Left). with_left l nothing) (below_is code id r (behind id (Binary place operator l r) there).1.0))
+        ∙ ap (λ (l : Left). with_left l nothing) (below_is code id r (behind id (Binary position operator l r) there).1.0))
         (operands_are (asked code (BIN id)) s f.operands less shadows)))
-    node_ends (NewArray place element size) there e op is =
+    node_ends (NewArray position element size) there e op is =
         subst Result (some_op (ALLOCARRAY id) op is) (λ less.
         array_ends fault code world f id (left_by code size) e
         (subst (λ (t : Stack). Operands t f.operands)
         (ap (λ (o : Option ℕ). with_left (part_left code id o) nothing)
         (ap (λ (o : Option Node). o >>= array_length) there)
         ∙ ap (λ (l : Left). with_left l nothing)
-        (below_is code id size (behind id (NewArray place element size) there).1.0))
+        (below_is code id size (behind id (NewArray position element size) there).1.0))
         (operands_are (asked code (ALLOCARRAY id)) s f.operands less shadows)))
-    node_ends (Call place name object xs) there e op is =
+    node_ends (Call position name object xs) there e op is =
         call_ends xs (ap (λ (o : Option Node). o >>= arguments_of) there)
-        (below-right id (optional object) xs (behind id (Call place name object xs) there)) (binding code id) refl e op is
-    node_ends (SuperCall place xs) there e op is =
+        (below-right id (optional object) xs (behind id (Call position name object xs) there)) (binding code id) refl e op is
+    node_ends (SuperCall position xs) there e op is =
         subst Result (some_op (PARAMS id) op is)
-        (super_ends xs (ap (λ (o : Option Node). o >>= arguments_of) there) (behind id (SuperCall place xs) there)
+        (super_ends xs (ap (λ (o : Option Node). o >>= arguments_of) there) (behind id (SuperCall position xs) there)
         (binding code id) refl e)
     node_ends _ there e op is = absurd (none_some fault e)
 

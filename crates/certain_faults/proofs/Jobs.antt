@@ -36,9 +36,9 @@ module _ (J : List Frame → Type 0) where
     where
       go : (job : Job) (a : Activity) → activity_of t job ≡ Some a → J a.frames
       go TheSequencer a e = subst (λ (x : Activity). J x.frames) (some_inj t.activity a e) now
-      go (ReleaseAt place) a e =
-          h.are (ReleaseAt place) a
-          (sym (ap (λ (rs : List Release). slice_get rs place >>= (λ r. activity_in r.status)) same) ∙ e)
+      go (ReleaseAt index) a e =
+          h.are (ReleaseAt index) a
+          (sym (ap (λ (rs : List Release). slice_get rs index >>= (λ r. activity_in r.status)) same) ∙ e)
 
   pub sequencer_has : (s : State) → Jobs s → J s.activity.frames
   unfolding activity_of
@@ -58,12 +58,12 @@ module _ (J : List Frame → Type 0) where
       go j left (inl none) = absurd (none_ended left none)
       go j left (inr was) = h.are j left was
 
-  pub jobs_faulted : (s : State) (job : Job) (activity : Activity) (place : Pos) (fault : RunFault) → Jobs s →
-      Jobs (fault_in s job activity place fault).state
+  pub jobs_faulted : (s : State) (job : Job) (activity : Activity) (position : Pos) (fault : RunFault) → Jobs s →
+      Jobs (fault_in s job activity position fault).state
   unfolding fault_in
-  jobs_faulted s TheSequencer activity place fault h =
-      jobs_still s (fault_in s TheSequencer activity place fault).state refl refl h
-  jobs_faulted s (ReleaseAt n) activity place fault h =
+  jobs_faulted s TheSequencer activity position fault h =
+      jobs_still s (fault_in s TheSequencer activity position fault).state refl refl h
+  jobs_faulted s (ReleaseAt n) activity position fault h =
       let c = all_close activity.frames s in
       jobs_ended (closed_all s activity.frames) n (jobs_still s (closed_all s activity.frames) c.releases c.activity h)
 

@@ -174,40 +174,40 @@ module _ (code : Code) (facts : Facts code) (b c : ℕ) (sig : Signature) (body 
     node_leaves : (node : Node) (k : Kind) → slice_get code.program.nodes id ≡ Some node →
         ExpressionFact code b c sig id node (Some k) → leaves_one (left_by_node code (left_below code id) id node) ≡ true
     unfolding ExpressionFact left_by_node literal_value left_by_name left_by_access leaves_one
-    node_leaves (Number place value negative) k there r = literal (Number place value negative) _ there refl
-    node_leaves (True place) k there r = literal (True place) _ there refl
-    node_leaves (False place) k there r = literal (False place) _ there refl
-    node_leaves (Null place) k there r = literal (Null place) _ there refl
-    node_leaves (This place) k there r = refl
-    node_leaves (SimpleName place name) k there (inl r) = name_leaves (Local r.local) r.is refl
-    node_leaves (SimpleName place name) k there (inr (inl r)) = name_leaves (Field r.field) r.is refl
-    node_leaves (SimpleName place name) k there (inr (inr r)) = name_leaves (Static r.field) r.is refl
-    node_leaves (Parenthesized place inner) k there r = child inner k r
-    node_leaves (FieldAccess place name object) k there (inl r) =
+    node_leaves (Number position value negative) k there r = literal (Number position value negative) _ there refl
+    node_leaves (True position) k there r = literal (True position) _ there refl
+    node_leaves (False position) k there r = literal (False position) _ there refl
+    node_leaves (Null position) k there r = literal (Null position) _ there refl
+    node_leaves (This position) k there r = refl
+    node_leaves (SimpleName position name) k there (inl r) = name_leaves (Local r.local) r.is refl
+    node_leaves (SimpleName position name) k there (inr (inl r)) = name_leaves (Field r.field) r.is refl
+    node_leaves (SimpleName position name) k there (inr (inr r)) = name_leaves (Static r.field) r.is refl
+    node_leaves (Parenthesized position inner) k there r = child inner k r
+    node_leaves (FieldAccess position name object) k there (inl r) =
         ap (λ (y : Binding). leaves_one (left_by_access y (left_below code id object))) r.is
         ∙ one_again (left_below code id object) (λ a. Unknown) (child object _ r.object_is)
-    node_leaves (FieldAccess place name object) k there (inr (inl r)) =
+    node_leaves (FieldAccess position name object) k there (inr (inl r)) =
         ap (λ (y : Binding). leaves_one (left_by_access y (left_below code id object))) r.is
-    node_leaves (FieldAccess place name object) k there (inr (inr r)) =
+    node_leaves (FieldAccess position name object) k there (inr (inr r)) =
         ap (λ (y : Binding). leaves_one (left_by_access y (left_below code id object))) r.is
         ∙ one_again (left_below code id object) (λ a. Unknown) (child object _ r.array_is)
-    node_leaves (Element place array index) k there r =
+    node_leaves (Element position array index) k there r =
         one_of_two (left_below code id array) (left_below code id index) (λ a z. Unknown) (child array _ r.array_is)
         (child index _ r.index_is)
-    node_leaves (Unary place operator operand) k there r =
+    node_leaves (Unary position operator operand) k there r =
         one_again (left_below code id operand) (unary_known operator) (child operand _ r.operand_is)
-    node_leaves (Binary place operator l x) k there (inl r) =
+    node_leaves (Binary position operator l x) k there (inl r) =
         one_of_two (left_below code id l) (left_below code id x) (operator_known operator) (child l _ r.1.left_is)
         (child x _ r.1.right_is)
-    node_leaves (Binary place operator l x) k there (inr r) =
+    node_leaves (Binary position operator l x) k there (inr r) =
         one_of_two (left_below code id l) (left_below code id x) (operator_known operator) (child l _ r.left_is)
         (child x _ r.right_is)
-    node_leaves (New place name_place name xs) k there r = new_leaves xs r.class r.kinds r.is r.arguments_are
-    node_leaves (NewArray place element count) k there r =
+    node_leaves (New position name_place name xs) k there r = new_leaves xs r.class r.kinds r.is r.arguments_are
+    node_leaves (NewArray position element count) k there r =
         one_again (left_below code id count) (λ a. Object) (child count _ r.count_is)
-    node_leaves (Cast place name_place name operand) k there r =
+    node_leaves (Cast position name_place name operand) k there r =
         one_again (left_below code id operand) (λ a. Unknown) (child operand _ r.operand_is)
-    node_leaves (Call place name object xs) k there r = call_leaves object xs k r
+    node_leaves (Call position name object xs) k there r = call_leaves object xs k r
     node_leaves _ k there r = absurd r
 
     one : (k : Kind) → Inside code.program b c id → Judged code.program id (Some k) → leaves_one (left_by code id) ≡ true

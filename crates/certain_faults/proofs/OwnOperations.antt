@@ -43,10 +43,10 @@ module _ (code : Code) (op : Op) where
 
   own_node : (id : ℕ) (node : Node) → operation_of code id node ≡ Some op → node_of op ≡ Some id
   unfolding operation_of node_of
-  own_node id (Binary place operator l r) e = some_node id (BIN id) refl e
-  own_node id (NewArray place element size) e = some_node id (ALLOCARRAY id) refl e
-  own_node id (Call place name object arguments) e = bound_node id (binding code id) e
-  own_node id (SuperCall place arguments) e = some_node id (PARAMS id) refl e
+  own_node id (Binary position operator l r) e = some_node id (BIN id) refl e
+  own_node id (NewArray position element size) e = some_node id (ALLOCARRAY id) refl e
+  own_node id (Call position name object arguments) e = bound_node id (binding code id) e
+  own_node id (SuperCall position arguments) e = some_node id (PARAMS id) refl e
   own_node id node e = absurd (cc (e))
 
   pub own_place : (fault : RunFault) (x : FaultsFor code op fault) → place_of_op code op ≡ place_of_node code x.id
@@ -89,10 +89,10 @@ module _ (code : Code) (id : ℕ) (fault : RunFault) where
 
   node_has : (node : Node) → fault_at_node code id node ≡ Some fault → Has node
   unfolding fault_at_node operation_of
-  node_has (Binary place operator l r) e = (BIN id, refl)
-  node_has (NewArray place element size) e = (ALLOCARRAY id, refl)
-  node_has (Call place name object arguments) e = call_has arguments (binding code id) e
-  node_has (SuperCall place arguments) e = (PARAMS id, refl)
+  node_has (Binary position operator l r) e = (BIN id, refl)
+  node_has (NewArray position element size) e = (ALLOCARRAY id, refl)
+  node_has (Call position name object arguments) e = call_has arguments (binding code id) e
+  node_has (SuperCall position arguments) e = (PARAMS id, refl)
   node_has node e = absurd (cc (e))
 
   pub has_operation : certain_fault code id ≡ Some fault → (op : Op) × ((x : FaultsFor code op fault) × (x.id ≡ id))

@@ -22,12 +22,12 @@ use Rattle.scj_base.specs.declared.values.Value.TheVariants.{At}
 -- ---- parts of nodes
 
 unfoldable pub array_length : Node → Option ℕ
-array_length (NewArray place element length) = Some length
+array_length (NewArray position element length) = Some length
 array_length _ = None
 
 unfoldable pub arguments_of : Node → Option (List ℕ)
-arguments_of (CallNode place name object arguments) = Some arguments
-arguments_of (SuperCall place arguments) = Some arguments
+arguments_of (CallNode position name object arguments) = Some arguments
+arguments_of (SuperCall position arguments) = Some arguments
 arguments_of _ = None
 
 -- what a part of a node leaves
@@ -164,7 +164,7 @@ mark_less (Some m) s t h k = of (h.is m.0)
 
 -- the arguments of a `new`
 unfoldable pub made_with : Node → Option (List ℕ)
-made_with (New place name_place name arguments) = Some arguments
+made_with (New position name_place name arguments) = Some arguments
 made_with _ = None
 
 -- a `new` stands before its arguments and the call of its constructor

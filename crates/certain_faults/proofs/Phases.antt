@@ -222,8 +222,8 @@ module _ (code : Code) (J : List Frame → Type 0) where
       go None events = held
       go (Some handler) events = taken_jobs J s handler held
 
-  at_jobs : (fires : List Fire) (s : State) (place : ℕ) → Jobs J s → Jobs J (fired_at code fires s place).state
-  at_jobs fires s place held = go (slice_get fires place)
+  at_jobs : (fires : List Fire) (s : State) (index : ℕ) → Jobs J s → Jobs J (fired_at code fires s index).state
+  at_jobs fires s index held = go (slice_get fires index)
     where
       go : (o : Option Fire) →
           Jobs J (elim o as (λ z. Step) [ None ↦ silently s | Some fire ↦ fired code s fire ]).state
@@ -233,7 +233,7 @@ module _ (code : Code) (J : List Frame → Type 0) where
   pub arrival_jobs : (plan : Plan) (s : State) → Jobs J s → Jobs J (arrivals code plan s).state
   unfolding arrivals
   arrival_jobs plan s held =
-      each_keeps J (fired_at code plan.fires) (λ t place h. at_jobs plan.fires t place h)
+      each_keeps J (fired_at code plan.fires) (λ t index h. at_jobs plan.fires t index h)
       (fires_due (executes_since s) s.unit plan.fires) (for_each release_taken (due_handlers s) s).state
       (each_keeps J release_taken (λ t handler h. taken_jobs J t handler h) (due_handlers s) s held)
 
@@ -243,4 +243,4 @@ module _ (code : Code) (J : List Frame → Type 0) where
     where
       go : (job : Job) (a : Activity) → activity_of (empty_state code plan) job ≡ Some a → J a.frames
       go TheSequencer a e = subst (λ (x : Activity). J x.frames) (some_inj no_activity a e) none
-      go (ReleaseAt place) a e = absurd (cc (e))
+      go (ReleaseAt index) a e = absurd (cc (e))

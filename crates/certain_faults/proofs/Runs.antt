@@ -192,22 +192,22 @@ module _ (code : Code) (facts : Facts code) (bare : ClassesAskNothing code) (row
         go [] = sequencer_jobs code (All code) (fresh code bare) s held s.operation
         go (f ∷ fs) = job_jobs TheSequencer s.activity refl
 
-    release_leads : (place : ℕ) → Led (ref_op code rows s (ReleaseAt place))
+    release_leads : (index : ℕ) → Led (ref_op code rows s (ReleaseAt index))
     unfolding ref_op release_op_of activity_of activity_in
-    release_leads place =
-        any_leads (All code) (slice_get s.releases place) (release_op_of code rows s place)
+    release_leads index =
+        any_leads (All code) (slice_get s.releases index) (release_op_of code rows s index)
         (λ r there. by_status r there r.status refl)
       where
-        by_status : (r : Release) → slice_get s.releases place ≡ Some r → (status : ReleaseStatus) →
+        by_status : (r : Release) → slice_get s.releases index ≡ Some r → (status : ReleaseStatus) →
             r.status ≡ status → Led (elim status as (λ z. Option Step) [
-              | Waiting ↦ start_op code s place r
-              | Started activity ↦ frame_op code rows s (ReleaseAt place) activity
+              | Waiting ↦ start_op code s index r
+              | Started activity ↦ frame_op code rows s (ReleaseAt index) activity
               | Ended ↦ None
               | Dropped ↦ None
             ])
-        by_status r there Waiting e = start_jobs code (All code) (fresh code bare) s held place r
+        by_status r there Waiting e = start_jobs code (All code) (fresh code bare) s held index r
         by_status r there (Started activity) e =
-            job_jobs (ReleaseAt place) activity
+            job_jobs (ReleaseAt index) activity
             (ap (λ (o : Option Release). o >>= (λ r. activity_in r.status)) there ∙ ap activity_in e)
         by_status r there Ended e = none_leads (All code)
         by_status r there Dropped e = none_leads (All code)
@@ -221,10 +221,10 @@ module _ (code : Code) (facts : Facts code) (bare : ClassesAskNothing code) (row
           told_leads (All code) (turn_taken s IdleTurn) (Some (silently (with_turn s IdleTurn)))
           (leads (All code) (silently (with_turn s IdleTurn))
           (jobs_still (All code) s (with_turn s IdleTurn) refl refl held))
-      turn_leads (TurnOf place) =
-          told_leads (All code) (turn_taken s (TurnOf place)) (ref_op code rows (with_turn s (TurnOf place)) (ReleaseAt place))
-          (release_leads (with_turn s (TurnOf place)) (time_passes code s s.unit (Some (TurnOf place)) i)
-          (jobs_still (All code) s (with_turn s (TurnOf place)) refl refl held) place)
+      turn_leads (TurnOf index) =
+          told_leads (All code) (turn_taken s (TurnOf index)) (ref_op code rows (with_turn s (TurnOf index)) (ReleaseAt index))
+          (release_leads (with_turn s (TurnOf index)) (time_passes code s s.unit (Some (TurnOf index)) i)
+          (jobs_still (All code) s (with_turn s (TurnOf index)) refl refl held) index)
 
       go : (b : Bool) → Led (if b
           then policy s >>= (λ turn. then_try (turn_taken s turn) (turn_acts code rows turn))

@@ -634,15 +634,15 @@ module _ (code : Code) (bare : ClassesAskNothing code) (id : ℕ) where
 
     any_assign : (value : ℕ) (b : Binding) (target : Node) → Any code (assign_ops ops id value b target)
     unfolding assign_ops asked
-    any_assign value (Local k) (SimpleName place name) = any_behind (ops value) (STORE id) (any_part value) refl (λ r. tt)
-    any_assign value (Field k) (SimpleName place name) =
+    any_assign value (Local k) (SimpleName position name) = any_behind (ops value) (STORE id) (any_part value) refl (λ r. tt)
+    any_assign value (Field k) (SimpleName position name) =
         any_behind (THIS id ∷ ops value) (PUT id)
         (any_then code (THIS id ∷ []) (ops value) (any_op code (THIS id) refl (λ r. tt)) (any_part value)) refl (λ r. tt)
-    any_assign value (Field k) (FieldAccess place name object) =
+    any_assign value (Field k) (FieldAccess position name object) =
         any_then code (ops object) (ops value ++ PUT id ∷ []) (any_part object)
         (any_behind (ops value) (PUT id) (any_part value) refl (λ r. tt))
     any_assign value (Static k) target = any_behind (ops value) (PUTSTATIC id) (any_part value) refl (λ r. tt)
-    any_assign value b (Element place array index) =
+    any_assign value b (Element position array index) =
         any_then code (ops array) (ops index ++ (ops value ++ PUTELEM id ∷ [])) (any_part array)
         (any_then code (ops index) (ops value ++ PUTELEM id ∷ []) (any_part index)
         (any_behind (ops value) (PUTELEM id) (any_part value) refl (λ r. tt)))
@@ -682,50 +682,50 @@ module _ (code : Code) (bare : ClassesAskNothing code) (id : ℕ) where
     node_runs : (node : Node) → slice_get code.program.nodes id ≡ Some node → (s : Stack) →
         Runs code (node_ops code ops id node) s (with_left (left_by_node code left id node) s)
     unfolding node_ops left_by_node step asked with_left operator_of right_operand array_length arguments_of argument_count made_with
-    node_runs (Number place value is_negative) there s = literal_runs s
-    node_runs (True place) there s = literal_runs s
-    node_runs (False place) there s = literal_runs s
-    node_runs (Null place) there s = literal_runs s
-    node_runs (This place) there s = runs_op code (THIS id) s (less_nothing s) (λ r. tt)
-    node_runs (SimpleName place name) there s = name_runs (binding code id) s
-    node_runs (FieldAccess place name object) there s = access_runs object (binding code id) s
-    node_runs (Element place array index) there s = element_runs array index s
-    node_runs (Parenthesized place inner) there s = parts inner s
-    node_runs (Unary place operator operand) there s =
-        unary_runs operator operand (read_part (Unary place operator operand) there operator_of) s
-    node_runs (Binary place operator l r) there s =
-        binary_runs operator l r (read_part (Binary place operator l r) there operator_of)
-        (read_part (Binary place operator l r) there right_operand) s
-    node_runs (New place name_place name arguments) there s =
-        new_runs arguments (binding code id) (read_part (New place name_place name arguments) there argument_count)
-        (read_part (New place name_place name arguments) there made_with) s
-    node_runs (NewArray place element size) there s =
-        new_array_runs size (read_part (NewArray place element size) there array_length) s
-    node_runs (Call place name object arguments) there s =
-        call_runs object arguments (read_part (Call place name object arguments) there arguments_of)
-        (read_part (Call place name object arguments) there argument_count) (binding code id) refl s
-    node_runs (Cast place name_place name operand) there s = cast_runs operand s
-    node_runs (LocalNode place name flags declared_type) there s = (any_op code (ZERO id) refl (λ r. tt)).is s
-    node_runs (LocalWithValue place name_place name flags declared_type value) there s =
+    node_runs (Number position value is_negative) there s = literal_runs s
+    node_runs (True position) there s = literal_runs s
+    node_runs (False position) there s = literal_runs s
+    node_runs (Null position) there s = literal_runs s
+    node_runs (This position) there s = runs_op code (THIS id) s (less_nothing s) (λ r. tt)
+    node_runs (SimpleName position name) there s = name_runs (binding code id) s
+    node_runs (FieldAccess position name object) there s = access_runs object (binding code id) s
+    node_runs (Element position array index) there s = element_runs array index s
+    node_runs (Parenthesized position inner) there s = parts inner s
+    node_runs (Unary position operator operand) there s =
+        unary_runs operator operand (read_part (Unary position operator operand) there operator_of) s
+    node_runs (Binary position operator l r) there s =
+        binary_runs operator l r (read_part (Binary position operator l r) there operator_of)
+        (read_part (Binary position operator l r) there right_operand) s
+    node_runs (New position name_place name arguments) there s =
+        new_runs arguments (binding code id) (read_part (New position name_place name arguments) there argument_count)
+        (read_part (New position name_place name arguments) there made_with) s
+    node_runs (NewArray position element size) there s =
+        new_array_runs size (read_part (NewArray position element size) there array_length) s
+    node_runs (Call position name object arguments) there s =
+        call_runs object arguments (read_part (Call position name object arguments) there arguments_of)
+        (read_part (Call position name object arguments) there argument_count) (binding code id) refl s
+    node_runs (Cast position name_place name operand) there s = cast_runs operand s
+    node_runs (LocalNode position name flags declared_type) there s = (any_op code (ZERO id) refl (λ r. tt)).is s
+    node_runs (LocalWithValue position name_place name flags declared_type value) there s =
         (any_behind (ops value) (STORE id) (any_part value) refl (λ r. tt)).is s
-    node_runs (Assign place target value) there s =
+    node_runs (Assign position target value) there s =
         (any_assignment target value (slice_get code.program.nodes target)).is s
-    node_runs (ExpressionStatement place expression) there s = (any_statement expression).is s
-    node_runs (Block place statements) there s = (any_all statements).is s
-    node_runs (If place condition then_part else_part) there s =
+    node_runs (ExpressionStatement position expression) there s = (any_statement expression).is s
+    node_runs (Block position statements) there s = (any_all statements).is s
+    node_runs (If position condition then_part else_part) there s =
         (any_behind (ops condition) (IF id) (any_part condition) refl (λ r. tt)).is s
-    node_runs (While place condition body) there s =
+    node_runs (While position condition body) there s =
         (any_behind (ops condition) (LOOP id) (any_part condition) refl (λ r. tt)).is s
-    node_runs (For place first condition step body) there s =
+    node_runs (For position first condition step body) there s =
         (any_then code (ops first) (ops condition ++ LOOP id ∷ []) (any_part first)
         (any_behind (ops condition) (LOOP id) (any_part condition) refl (λ r. tt))).is s
-    node_runs (Return place value) there s = (any_return value).is s
-    node_runs (MethodNode place name flags result_type parameters body) there s = (any_method result_type body).is s
-    node_runs (SuperCall place arguments) there s =
-        (any_super_call arguments (read_part (SuperCall place arguments) there arguments_of)).is s
-    node_runs (Constructor place name flags parameters super_call body) there s =
+    node_runs (Return position value) there s = (any_return value).is s
+    node_runs (MethodNode position name flags result_type parameters body) there s = (any_method result_type body).is s
+    node_runs (SuperCall position arguments) there s =
+        (any_super_call arguments (read_part (SuperCall position arguments) there arguments_of)).is s
+    node_runs (Constructor position name flags parameters super_call body) there s =
         (any_constructor super_call (ops body) (any_part body)).is s
-    node_runs (Class place name flags header members) there s = (any_constructor None [] (any_none code)).is s
+    node_runs (Class position name flags header members) there s = (any_constructor None [] (any_none code)).is s
     node_runs _ there s = (any_none code).is s
 
     next_runs : (s : Stack) → Runs code (next_ops code id ops) s (with_left (next_left code id left) s)

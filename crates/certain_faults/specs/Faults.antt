@@ -135,10 +135,10 @@ call_fault left _ _ = None
 -- ---- all nodes
 
 unfoldable pub fault_at_node : Code → ℕ → Node → Option RunFault
-fault_at_node code id (Binary place operator l r) = division_fault operator (left_by code r)
-fault_at_node code id (NewArray place element length) = length_fault (left_by code length)
-fault_at_node code id (Call place name object arguments) = call_fault (left_by code) arguments (binding code id)
-fault_at_node code id (SuperCall place arguments) = super_fault (left_by code) arguments (binding code id)
+fault_at_node code id (Binary position operator l r) = division_fault operator (left_by code r)
+fault_at_node code id (NewArray position element length) = length_fault (left_by code length)
+fault_at_node code id (Call position name object arguments) = call_fault (left_by code) arguments (binding code id)
+fault_at_node code id (SuperCall position arguments) = super_fault (left_by code) arguments (binding code id)
 fault_at_node code id _ = None
 
 -- the fault with which the node's own operation is certain to end, if there is one
@@ -155,11 +155,11 @@ call_operation id method =
 
 -- the operation of a node that constants can make fault, which is its last one
 unfoldable pub operation_of : Code → ℕ → Node → Option Op
-operation_of code id (Binary place operator l r) = Some (BIN id)
-operation_of code id (NewArray place element length) = Some (ALLOCARRAY id)
-operation_of code id (Call place name object arguments) =
+operation_of code id (Binary position operator l r) = Some (BIN id)
+operation_of code id (NewArray position element length) = Some (ALLOCARRAY id)
+operation_of code id (Call position name object arguments) =
     elim (binding code id) [ Builtin t ↦ call_operation id t.id | _ ↦ None ]
-operation_of code id (SuperCall place arguments) = Some (PARAMS id)
+operation_of code id (SuperCall position arguments) = Some (PARAMS id)
 operation_of code id _ = None
 
 -- a node's own operation, and the fault with which it is certain to end

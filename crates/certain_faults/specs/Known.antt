@@ -129,22 +129,22 @@ left_by_call left object arguments _ = Forgets
 -- ---- all nodes
 
 unfoldable pub left_by_node : Code → (ℕ → Left) → ℕ → Node → Left
-left_by_node code left id (Number place value is_negative) = left_by_literal (part code literal_value id)
-left_by_node code left id (True place) = left_by_literal (part code literal_value id)
-left_by_node code left id (False place) = left_by_literal (part code literal_value id)
-left_by_node code left id (Null place) = left_by_literal (part code literal_value id)
-left_by_node code left id (This place) = One Object
-left_by_node code left id (SimpleName place name) = left_by_name (binding code id)
-left_by_node code left id (FieldAccess place name object) = left_by_access (binding code id) (left object)
-left_by_node code left id (Element place array index) =
+left_by_node code left id (Number position value is_negative) = left_by_literal (part code literal_value id)
+left_by_node code left id (True position) = left_by_literal (part code literal_value id)
+left_by_node code left id (False position) = left_by_literal (part code literal_value id)
+left_by_node code left id (Null position) = left_by_literal (part code literal_value id)
+left_by_node code left id (This position) = One Object
+left_by_node code left id (SimpleName position name) = left_by_name (binding code id)
+left_by_node code left id (FieldAccess position name object) = left_by_access (binding code id) (left object)
+left_by_node code left id (Element position array index) =
     in_place_of_two (left array) (left index) (λ a b. Unknown)
-left_by_node code left id (Parenthesized place inner) = left inner
-left_by_node code left id (Unary place operator operand) = in_place_of (left operand) (unary_known operator)
-left_by_node code left id (Binary place operator l r) = in_place_of_two (left l) (left r) (operator_known operator)
-left_by_node code left id (New place name_place name arguments) = left_by_new left arguments (binding code id)
-left_by_node code left id (NewArray place element length) = in_place_of (left length) (λ a. Object)
-left_by_node code left id (Cast place name_place name operand) = in_place_of (left operand) (λ a. Unknown)
-left_by_node code left id (Call place name object arguments) =
+left_by_node code left id (Parenthesized position inner) = left inner
+left_by_node code left id (Unary position operator operand) = in_place_of (left operand) (unary_known operator)
+left_by_node code left id (Binary position operator l r) = in_place_of_two (left l) (left r) (operator_known operator)
+left_by_node code left id (New position name_place name arguments) = left_by_new left arguments (binding code id)
+left_by_node code left id (NewArray position element length) = in_place_of (left length) (λ a. Object)
+left_by_node code left id (Cast position name_place name operand) = in_place_of (left operand) (λ a. Unknown)
+left_by_node code left id (Call position name object arguments) =
     left_by_call left object arguments (binding code id)
 left_by_node code left id _ = Forgets
 

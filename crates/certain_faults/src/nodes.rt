@@ -20,7 +20,7 @@ use value_operators::{binary, divides_by_zero, literal, unary};
 pub fn left_at(rows: &[Left], id: NodeId) -> Left
     ensures { result ≡ lookup forgets rows.now id }
 {
-    match rows.get(id.place()) {
+    match rows.get(id.number()) {
         Some(left) => *left,
         None => Left::Forgets,
     }

@@ -25,8 +25,8 @@ fn left_rows(alloc: Global, checked: &Checked) -> Result<Vec<Left>, Memory>
 {
     let program = checked.program();
     let mut rows = Vec::with_capacity(alloc, program.len())?;
-    for place in 0..program.len() {
-        let left = next_left(checked, &rows, NodeId::at(place as u32));
+    for number in 0..program.len() {
+        let left = next_left(checked, &rows, NodeId::at(number as u32));
         rows.push(left)?;
     }
     Ok(rows)
@@ -61,8 +61,8 @@ fn faults_by_node(
         (length checked.now.program.nodes)) }
 {
     let mut found = Vec::new(alloc);
-    for place in 0..checked.program().len() {
-        note(&mut found, checked, rows, NodeId::at(place as u32))?;
+    for number in 0..checked.program().len() {
+        note(&mut found, checked, rows, NodeId::at(number as u32))?;
     }
     Ok(found)
 }

@@ -38,7 +38,7 @@ pub node_of_constructor : (nodes : List Node) (id : ℕ) (o : Option Node) (c : 
     option_and_then (constructor_of nodes id) o ≡ Some c → c.node ≡ id
 unfolding constructor_of
 node_of_constructor nodes id None c h = cc
-node_of_constructor nodes id (Some (Constructor place name flags parameters super_call body)) c h = cc
+node_of_constructor nodes id (Some (Constructor position name flags parameters super_call body)) c h = cc
 node_of_constructor nodes id (Some _) c h = cc
 
 pub first_is : (nodes : List Node) (ids : List ℕ) →

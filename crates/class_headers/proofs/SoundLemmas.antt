@@ -42,7 +42,7 @@ pub node_of_class : (nodes : List Node) (id : ℕ) (o : Option Node) (c : Writte
     option_and_then (class_of nodes id) o ≡ Some c → c.node ≡ id
 unfolding class_of
 node_of_class nodes id None c h = cc
-node_of_class nodes id (Some (Class place name flags header members)) c h = cc
+node_of_class nodes id (Some (Class position name flags header members)) c h = cc
 node_of_class nodes id (Some _) c h = cc
 
 pub read_again : (nodes : List Node) (id : ℕ) (c : WrittenClass) → class_at nodes id ≡ Some c →
@@ -84,12 +84,12 @@ module _ (nodes : List Node) (class : ℕ) (row : ClassRow) where
   row_at users later [] number i h k e = later (omega (arith, h, k)) i e
   row_at users later (c ∷ cs) number zero h k e =
       let same : framework_row number c ≡ row = cc in
-      let place : number ≡ class = omega (arith, k) in
+      let position : number ≡ class = omega (arith, k) in
       let here : IsSound nodes class (framework_row number c) =
       record {
         node = refl;
         fields = refl;
-        methods = ap framework_methods_on place ∙ first_methods nodes class None (omega (arith, h, k));
+        methods = ap framework_methods_on position ∙ first_methods nodes class None (omega (arith, h, k));
         constructors = refl;
         framework = λ l. refl;
       } in

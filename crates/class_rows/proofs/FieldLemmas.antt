@@ -23,7 +23,7 @@ field_there nodes id e = go (slice_get nodes id) e
     go : (o : Option Node) → is_some (option_and_then (field_of nodes id) o) ≡ true →
         option_map (λ (f : Declared). f.node) (option_and_then (field_of nodes id) o) ≡ Some id
     go None e = cc
-    go (Some (Field place name flags declared_type equals value)) e = refl
+    go (Some (Field position name flags declared_type equals value)) e = refl
     go (Some _) e = cc
 
 pub node_of_found : (nodes : List Node) (f : FieldRef) → (found_field nodes f).field.node ≡ f.node

@@ -224,7 +224,7 @@ module _ (kind : MemberKind) (forest : Forest) (name : List ℕ) where
 -- ---- numbers
 
 from_first : {A : Type 0} (test : A → Bool) (first i : ℕ) (xs : List A) →
-    position_from test (first + i) xs ≡ option_map (λ place. first + place) (position_from test i xs)
+    position_from test (first + i) xs ≡ option_map (λ index. first + index) (position_from test i xs)
 from_first test first i [] = refl
 from_first test first i (x ∷ xs) =
     (let e : first + i + 1 ≡ first + (i + 1) = omega arith in
@@ -232,17 +232,17 @@ from_first test first i (x ∷ xs) =
     ∙ ap (cond (test x) (Some (first + i))) (from_first test first (i + 1) xs) ∙ grind (arith, common_steps)
 
 pub places_all : {A : Type 0} (test : A → Bool) (first : ℕ) (xs : List A) →
-    position_from test (first + 0) xs ≡ option_map (λ place. first + place) (position test xs)
+    position_from test (first + 0) xs ≡ option_map (λ index. first + index) (position test xs)
 places_all test first xs =
-    from_first test first 0 xs ∙ ap (option_map (λ place. first + place)) (sym (position_from-zero test xs))
+    from_first test first 0 xs ∙ ap (option_map (λ index. first + index)) (sym (position_from-zero test xs))
 
-no_shift : (o : Option ℕ) → option_map (λ place. 0 + place) o ≡ o
+no_shift : (o : Option ℕ) → option_map (λ index. 0 + index) o ≡ o
 no_shift None = refl
 no_shift (Some k) = ap (λ (n : ℕ). Some n) (let e : 0 + k ≡ k = omega arith in e)
 
 pub numbers_are : (kind : MemberKind) (forest : Forest) (id first : ℕ) (ids : List ℕ) → first ≡ first_number kind →
     ids ≡ member_nodes kind forest
-    → option_map (λ place. first + place) (position (λ other. id == other) ids) ≡ number_at kind forest id
+    → option_map (λ index. first + index) (position (λ other. id == other) ids) ≡ number_at kind forest id
 unfolding number_at member_nodes field_number method_number framework_methods
 numbers_are Field forest id first ids e h =
     rw (e, h) (no_shift (position (λ other. id == other) (field_nodes (declarations_of forest).classes)))

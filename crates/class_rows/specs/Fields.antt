@@ -9,7 +9,7 @@ use Rattle.class_rows.specs.declared.fields.FieldRef.{FieldRef}
 
 -- a field that stands for none, at a node
 abbrev pub no_field : ℕ → Declared
-no_field node = record { node = node; place = nowhere; name = []; modifiers = no_modifiers; declared_type = void_type }
+no_field node = record { node = node; position = nowhere; name = []; modifiers = no_modifiers; declared_type = void_type }
 
 -- the field that a row stands for, with the class that declares it
 unfoldable pub found_field : List Node → FieldRef → FoundField

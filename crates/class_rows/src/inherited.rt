@@ -111,8 +111,8 @@ impl<'a> ClassTable<'a> {
         if let Some(told) = &self.inherited {
             let inherited = inherited_under(told, name);
             if inherited.interface == interface && inherited.name == *name {
-                let place = node.place();
-                return inherited.nodes.contains(&place);
+                let number = node.number();
+                return inherited.nodes.contains(&number);
             }
         }
         is_inherited_as(self, interface, node, name)

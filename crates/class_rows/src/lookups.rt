@@ -115,7 +115,7 @@ impl<'a> ClassTable<'a> {
             Some(id) => {
                 let key = OwnKey {
                     class: class.number(),
-                    first: id.place(),
+                    first: id.number(),
                 };
                 self.members_like(kind).named.get(&key).copied()
             }
@@ -356,8 +356,8 @@ impl<'a> ClassTable<'a> {
     pub fn field_number(&self, node: NodeId) -> Option<FieldId>
         ensures { result ≡ field_number (rows_of self.now) node }
     {
-        let place = node.place();
-        let number = self.fields.numbers.get(&place).copied()?;
+        let index = node.number();
+        let number = self.fields.numbers.get(&index).copied()?;
         Some(FieldId::at(number))
     }
 
@@ -366,8 +366,8 @@ impl<'a> ClassTable<'a> {
     pub fn method_number(&self, node: NodeId) -> Option<MethodId>
         ensures { result ≡ method_number self.now.nodes (declarations_of self.now).users node }
     {
-        let place = node.place();
-        let number = self.methods.numbers.get(&place).copied()?;
+        let index = node.number();
+        let number = self.methods.numbers.get(&index).copied()?;
         Some(MethodId::at(number))
     }
 }

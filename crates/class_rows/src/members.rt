@@ -109,7 +109,7 @@ fn add_nodes(
 fn number_of(id: NodeId) -> u32
     ensures { result ≡ id }
 {
-    id.place() as u32
+    id.number() as u32
 }
 
 /// The first of each name among these nodes. The last is entered first, so that the first stays.
@@ -170,7 +170,7 @@ fn add_names(
         if let Some(first) = first_like(firsts, program, kind, id) {
             let key = OwnKey {
                 class: class.number(),
-                first: first.place(),
+                first: first.number(),
             };
             map.insert(key, id)?;
         }
@@ -182,7 +182,7 @@ fn add_names(
 #[tactic(auto, using(crate::proofs::MemberLemmas::places_all))]
 pub fn places_of(alloc: Global, ids: &[NodeId], first: u32) -> Result<HashMap<usize, u32>, Memory>
     requires { first ≤ 100 }
-    ensures { IfOk result (λ map. (id : ℕ) → get ◌==◌ map id ≡ option_map (λ place. first + place)
+    ensures { IfOk result (λ map. (id : ℕ) → get ◌==◌ map id ≡ option_map (λ index. first + index)
         (position (λ other. id == other) ids.now)) }
 {
     if ids.len() > u32::MAX as usize - 100 {
@@ -192,7 +192,7 @@ pub fn places_of(alloc: Global, ids: &[NodeId], first: u32) -> Result<HashMap<us
     let mut at = ids.len();
     while at > 0 {
         at -= 1;
-        map.insert(ids[at].place(), first + at as u32)?;
+        map.insert(ids[at].number(), first + at as u32)?;
     }
     Ok(map)
 }

@@ -44,7 +44,7 @@ known_in_order n (k ∷ keys) = λ i. is_eq-slice_cmp n k i || known_in_order n 
 
 pub name_noted : (found : List Found) (known after : List (List ℕ)) (rule : Rule) (w : Written) (others : List Written)
     → ((n : List ℕ) → is_one_of n after ≡ cond (is_same w.name n) true (is_one_of n known))
-    → (found ++ broken (not (not (is_one_of w.name known))) rule w.place) ++ left_twice rule after others
+    → (found ++ broken (not (not (is_one_of w.name known))) rule w.position) ++ left_twice rule after others
     ≡ found ++ left_twice rule known (w ∷ others)
 unfolding left_twice named_twice
 name_noted found known after rule w others h =
@@ -55,7 +55,7 @@ name_noted found known after rule w others h =
 -- ---- fields by their names alone
 
 abbrev places : List Declared → List Found
-places = broken_at_each (λ (f : Declared). f.place) C4
+places = broken_at_each (λ (f : Declared). f.position) C4
 
 fields_twice : (known : List (List ℕ)) (fs : List Declared) →
     left_twice C4 known (map naming fs) ≡ places (named_twice (λ (f : Declared). f.name) known fs)

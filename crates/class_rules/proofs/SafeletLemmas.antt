@@ -47,7 +47,7 @@ module _ (forest : Forest) (class : ℕ) where
   no_safelet is_seen found l h = ap (λ cs. found ++ left_over is_seen cs) (sym (left_next None l h))
 
   pub one_safelet : (is_seen : Bool) (found after : List Found) (c : ClassParts) → class < length p.classes →
-      Some (written_class forest.nodes c) ≡ safelet_at p class → after ≡ found ++ broken is_seen C8 c.place
+      Some (written_class forest.nodes c) ≡ safelet_at p class → after ≡ found ++ broken is_seen C8 c.position
       → after ++ left_from p (class + 1) true ≡ found ++ left_from p class is_seen
   unfolding left_from left_over c8_of
   one_safelet is_seen found after c l h a =

@@ -18,7 +18,7 @@ use Rattle.node_views.specs.Parts.{naming}
 -- a field of a class above has the name
 unfoldable pub hiding : Declarations → ℕ → Written → List Found
 hiding p class w =
-    broken (holds (superclass_in p.classes class) (λ above. is_some (field_named p.classes above w.name))) C4 w.place
+    broken (holds (superclass_in p.classes class) (λ above. is_some (field_named p.classes above w.name))) C4 w.position
 
 -- a method breaks a rule: it overrides wrongly, or its body is missing or too much
 abbrev pub is_wrong : Rule → Declarations → ℕ → DeclaredMethod → Bool
@@ -26,7 +26,7 @@ is_wrong C6 p class m = overrides_wrongly p class m
 is_wrong _ p class m = has_wrong_body m
 
 abbrev pub broken_by : Rule → Declarations → ℕ → DeclaredMethod → List Found
-broken_by rule p class m = broken (is_wrong rule p class m) rule m.declared.place
+broken_by rule p class m = broken (is_wrong rule p class m) rule m.declared.position
 
 -- interfaces that no class is
 abbrev pub unknown_interfaces : Declarations → List Node → List ℕ → List Found

@@ -15,7 +15,7 @@ abbrev pub written_class : List Node → ClassParts → WrittenClass
 written_class nodes c =
     record {
       node = c.node;
-      place = c.place;
+      position = c.position;
       name = c.name;
       modifiers = c.modifiers;
       extends = c.extends;

@@ -18,7 +18,7 @@ safelet_at p class = class_written p class >>= safelet_if p.written class
 
 -- what is still to be noted of these safelets, and of those from a number on, where there was one or none before them
 unfoldable pub left_over : Bool → List WrittenClass → List Found
-left_over true cs = broken_at_each (λ (c : WrittenClass). c.place) C8 cs
+left_over true cs = broken_at_each (λ (c : WrittenClass). c.position) C8 cs
 left_over false cs = c8_of cs
 
 unfoldable pub left_from : Declarations → ℕ → Bool → List Found

@@ -29,7 +29,7 @@ pub fn note_c10(
     let mut others = forbidden.as_slice();
     while let [name, rest @ ..] = others {
         found.push(Found {
-            pos: name.place,
+            pos: name.position,
             rule: Rule::C10,
         })?;
         others = rest;
@@ -56,19 +56,19 @@ pub fn note_header(
         Some(first) => first.number() < class.number(),
         None => false,
     };
-    report_if(found, is_taken, Rule::C1, c.place)?;
+    report_if(found, is_taken, Rule::C1, c.position)?;
     if let Some(written) = &c.extends {
         let is_unknown = classes.class_of(&written.name).is_none();
-        report_if(found, is_unknown, Rule::C2, written.place)?;
+        report_if(found, is_unknown, Rule::C2, written.position)?;
     }
     let mut others = c.interfaces;
     while let [id, rest @ ..] = others {
         if let Some(written) = named_super(classes.program(), *id) {
             let is_unknown = classes.class_of(&written.name).is_none();
-            report_if(found, is_unknown, Rule::C2, written.place)?;
+            report_if(found, is_unknown, Rule::C2, written.position)?;
         }
         others = rest;
     }
-    report_if(found, classes.is_cyclic(class), Rule::C3, c.place)?;
+    report_if(found, classes.is_cyclic(class), Rule::C3, c.position)?;
     Ok(())
 }

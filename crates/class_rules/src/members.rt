@@ -23,7 +23,7 @@ fn note_hiding(found: &mut Vec<Found>, table: &SymbolTable, field: &Written) -> 
         ++ hiding (declarations_of table.now.forest) table.now.class field.now) }
 {
     let is_above = table.field_above(&field.name).is_some();
-    report_if(found, is_above, Rule::C4, field.place)
+    report_if(found, is_above, Rule::C4, field.position)
 }
 
 /// Notes the fields that a class above has, too.
@@ -80,7 +80,7 @@ fn note_method(
         return Ok(());
     }
     found.push(Found {
-        pos: declared(program, &m).place,
+        pos: declared(program, &m).position,
         rule,
     })?;
     Ok(())

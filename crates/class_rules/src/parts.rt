@@ -18,7 +18,7 @@ pub struct ClassParts<'a> {
     /// Its node.
     pub node: NodeId,
     /// Where it is named.
-    pub place: Pos,
+    pub position: Pos,
     /// Its name.
     pub name: Name,
     /// The annotations and modifiers before it.
@@ -42,14 +42,14 @@ pub fn parts_of<'a>(classes: &ClassTable<'a>, class: ClassId) -> Option<ClassPar
     let program = classes.program();
     match program.get(node)? {
         Node::Class {
-            place,
+            position,
             name,
             flags,
             header: _,
             members,
         } => Some(ClassParts {
             node,
-            place: *place,
+            position: *position,
             name: *name.get(),
             modifiers: modifiers_at(program, *flags),
             extends: class_extends(program, node),

@@ -37,7 +37,7 @@ fn note_name(
         return Ok(());
     };
     let is_new = known.insert(written.name)?;
-    report_if(found, !is_new, rule, written.place)?;
+    report_if(found, !is_new, rule, written.position)?;
     Ok(())
 }
 

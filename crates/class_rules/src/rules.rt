@@ -40,7 +40,7 @@ fn note_c7(found: &mut Vec<Found>, table: &SymbolTable, c: &ClassParts) -> Resul
         (written_class table.now.forest.nodes c.now) (row_of table.now.forest c.now)) }
 {
     let is_open = !c.modifiers.is_abstract && leaves_open(table);
-    report_if(found, is_open, Rule::C7, c.place)?;
+    report_if(found, is_open, Rule::C7, c.position)?;
     note_methods(found, table, c.members, Rule::C7)?;
     Ok(())
 }
@@ -87,8 +87,8 @@ pub fn note_rules(
     note_c4(alloc, found, table, c)?;
     note_inside(alloc, found, table, c)?;
     let is_late = table.class().number() >= FRAMEWORK_CLASS_COUNT + 256;
-    report_if(found, is_late, Rule::K1, c.place)?;
+    report_if(found, is_late, Rule::K1, c.position)?;
     let has_many = table.instance_field_count() > 64;
-    report_if(found, has_many, Rule::K4, c.place)?;
+    report_if(found, has_many, Rule::K4, c.position)?;
     Ok(())
 }

@@ -39,7 +39,7 @@ pub fn note_c8(found: &mut Vec<Found>, classes: &ClassTable<'_>) -> Result<(), M
     let mut is_seen = false;
     for number in 0..count {
         if let Some(c) = safelet_at(classes, ClassId::at(number)) {
-            report_if(found, is_seen, Rule::C8, c.place)?;
+            report_if(found, is_seen, Rule::C8, c.position)?;
             is_seen = true;
         }
     }

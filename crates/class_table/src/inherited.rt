@@ -54,7 +54,7 @@ fn note_inherited(inherited: &mut Inherited, table: &SymbolTable<'_>) -> Result<
     if classes.implements(class, interface) {
         let method = table.method_named(&inherited.name);
         if let Some(node) = inherited_node(classes, interface, &inherited.name, class, &method) {
-            inherited.nodes.insert(node.place())?;
+            inherited.nodes.insert(node.number())?;
         }
     }
     Ok(())

@@ -59,11 +59,11 @@ pub fn runs_in_named(
 pub fn define_scope_named(
     nodes: &mut Nodes,
     stack: &mut Stack,
-    place: Pos,
+    position: Pos,
     is_local: bool,
     flags: FlagSet,
 ) -> Result<Option<Mode>, Memory>
-    ensures step { let awaited = define_scope_named place is_local flags nodes.old.all stack.old in
+    ensures step { let awaited = define_scope_named position is_local flags nodes.old.all stack.old in
         gives result nodes.new.all stack.new awaited ≡ awaited }
     ensures kept { nodes.new.kept ≡ nodes.old.kept }
 {
@@ -71,7 +71,7 @@ pub fn define_scope_named(
         return Ok(None);
     }
     stack.push(Entry::AnnotationOpen { is_local, flags })?;
-    Ok(Some(Mode::DefineOpen { place }))
+    Ok(Some(Mode::DefineOpen { position }))
 }
 
 /// Behind the name of an annotation, whose `@` stands at `place`.
@@ -79,12 +79,12 @@ pub fn define_scope_named(
 pub fn annotation_named(
     nodes: &mut Nodes,
     stack: &mut Stack,
-    place: Pos,
+    position: Pos,
     name: &SharedName,
     is_local: bool,
     flags: FlagSet,
 ) -> Result<Option<Mode>, Memory>
-    ensures step { let awaited = annotation_named place name.now is_local flags nodes.old.all stack.old in
+    ensures step { let awaited = annotation_named position name.now is_local flags nodes.old.all stack.old in
         gives result nodes.new.all stack.new awaited ≡ awaited }
     ensures kept { nodes.new.kept ≡ nodes.old.kept }
 {
@@ -99,7 +99,7 @@ pub fn annotation_named(
         return runs_in_named(nodes, stack, is_local, flags);
     }
     if is_word(name, b"DefineScope") {
-        return define_scope_named(nodes, stack, place, is_local, flags);
+        return define_scope_named(nodes, stack, position, is_local, flags);
     }
     Ok(None)
 }
@@ -110,9 +110,9 @@ pub fn at_step(
     nodes: &mut Nodes,
     stack: &mut Stack,
     view: &View,
-    place: Pos,
+    position: Pos,
 ) -> Result<Option<Mode>, Memory>
-    ensures step { let awaited = at_step place nodes.old.all stack.old (seen view.now) in
+    ensures step { let awaited = at_step position nodes.old.all stack.old (seen view.now) in
         gives result nodes.new.all stack.new awaited ≡ awaited }
     ensures kept { nodes.new.kept ≡ nodes.old.kept }
 {
@@ -124,7 +124,7 @@ pub fn at_step(
     };
     match entry {
         Entry::AnnotationOpen { is_local, flags } => annotation_named(
-            nodes, stack, place, *name, is_local, flags,
+            nodes, stack, position, *name, is_local, flags,
         ),
         _other => Ok(None),
     }

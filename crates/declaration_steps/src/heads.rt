@@ -31,12 +31,12 @@ pub fn class_name_step(
         gives result nodes.new.all stack.new awaited ≡ awaited }
     ensures kept { nodes.new.kept ≡ nodes.old.kept }
 {
-    let View::Name(name, place) = view else {
+    let View::Name(name, position) = view else {
         return Ok(None);
     };
     stack.push(Entry::ClassOpen {
         flags,
-        place: *place,
+        position: *position,
         name: name.share()?,
     })?;
     Ok(Some(Mode::ClassNamed))
@@ -57,10 +57,10 @@ pub fn class_opened(
         return Ok(None);
     };
     match entry {
-        Entry::ClassOpen { flags, place, name } => {
+        Entry::ClassOpen { flags, position, name } => {
             stack.push(Entry::ClassBody {
                 flags,
-                place,
+                position,
                 name,
                 header,
                 members: nodes.empty_list(),
@@ -77,9 +77,9 @@ pub fn class_named_word(
     nodes: &mut Nodes,
     stack: &mut Stack,
     word: u8,
-    place: Pos,
+    position: Pos,
 ) -> Result<Option<Mode>, Memory>
-    ensures step { let awaited = class_named_step nodes.old.all stack.old (a_word word place) in
+    ensures step { let awaited = class_named_step nodes.old.all stack.old (a_word word position) in
         gives result nodes.new.all stack.new awaited ≡ awaited }
     ensures kept { nodes.new.kept ≡ nodes.old.kept }
 {
@@ -89,7 +89,7 @@ pub fn class_named_word(
         _ => return Ok(None),
     };
     stack.push(Entry::SupersOpen {
-        place,
+        position,
         is_extends,
         superclass: None,
         interfaces: nodes.empty_list(),
@@ -109,7 +109,7 @@ pub fn class_named_step(
     ensures kept { nodes.new.kept ≡ nodes.old.kept }
 {
     match view {
-        View::Word(word, place) => class_named_word(nodes, stack, *word, *place),
+        View::Word(word, position) => class_named_word(nodes, stack, *word, *position),
         View::Sign(sign, _) => {
             if *sign == LEFT_BRACE {
                 return class_opened(nodes, stack, None);
@@ -131,11 +131,11 @@ pub fn super_name_step(
         gives result nodes.new.all stack.new awaited ≡ awaited }
     ensures kept { nodes.new.kept ≡ nodes.old.kept }
 {
-    let View::Name(name, place) = view else {
+    let View::Name(name, position) = view else {
         return Ok(None);
     };
     Ok(Some(Mode::SuperNamed {
-        place: *place,
+        position: *position,
         name: name.share()?,
     }))
 }
@@ -146,10 +146,10 @@ pub fn superclass_sign(
     nodes: &mut Nodes,
     stack: &mut Stack,
     id: NodeId,
-    place: Pos,
+    position: Pos,
     sign: u8,
 ) -> Result<Option<Mode>, Memory>
-    ensures step { let awaited = superclass_sign id place nodes.old.all stack.old sign in
+    ensures step { let awaited = superclass_sign id position nodes.old.all stack.old sign in
         gives result nodes.new.all stack.new awaited ≡ awaited }
     ensures kept { nodes.new.kept ≡ nodes.old.kept }
 {
@@ -158,7 +158,7 @@ pub fn superclass_sign(
     }
     let interfaces = nodes.empty_list();
     let header = nodes.put(Node::Supers {
-        place,
+        position,
         superclass: Some(id),
         interfaces,
     })?;
@@ -171,19 +171,19 @@ pub fn interface_sign(
     nodes: &mut Nodes,
     stack: &mut Stack,
     id: NodeId,
-    place: Pos,
+    position: Pos,
     superclass: Option<NodeId>,
     interfaces: NodeList,
     sign: u8,
 ) -> Result<Option<Mode>, Memory>
-    ensures step { let awaited = interface_sign id place superclass interfaces nodes.old.all stack.old sign in
+    ensures step { let awaited = interface_sign id position superclass interfaces nodes.old.all stack.old sign in
         gives result nodes.new.all stack.new awaited ≡ awaited }
     ensures kept { nodes.new.kept ≡ nodes.old.kept }
 {
     let interfaces = with_item(interfaces, id)?;
     if sign == COMMA {
         stack.push(Entry::SupersOpen {
-            place,
+            position,
             is_extends: false,
             superclass,
             interfaces,
@@ -192,7 +192,7 @@ pub fn interface_sign(
     }
     if sign == LEFT_BRACE {
         let header = nodes.put(Node::Supers {
-            place,
+            position,
             superclass,
             interfaces,
         })?;
@@ -208,11 +208,11 @@ pub fn superclass_ended(
     stack: &mut Stack,
     view: &View,
     id: NodeId,
-    place: Pos,
+    position: Pos,
     superclass: Option<NodeId>,
     interfaces: NodeList,
 ) -> Result<Option<Mode>, Memory>
-    ensures step { let awaited = super_ended id nodes.old.all (SupersOpen place true superclass interfaces ∷ stack.old)
+    ensures step { let awaited = super_ended id nodes.old.all (SupersOpen position true superclass interfaces ∷ stack.old)
         (seen view.now) in gives result nodes.new.all stack.new awaited ≡ awaited }
     ensures kept { nodes.new.kept ≡ nodes.old.kept }
 {
@@ -222,14 +222,14 @@ pub fn superclass_ended(
                 return Ok(None);
             }
             stack.push(Entry::SupersOpen {
-                place,
+                position,
                 is_extends: false,
                 superclass: Some(id),
                 interfaces: nodes.empty_list(),
             })?;
             Ok(Some(Mode::SuperName))
         }
-        View::Sign(sign, _) => superclass_sign(nodes, stack, id, place, *sign),
+        View::Sign(sign, _) => superclass_sign(nodes, stack, id, position, *sign),
         _ => Ok(None),
     }
 }
@@ -241,18 +241,18 @@ pub fn interface_ended(
     stack: &mut Stack,
     view: &View,
     id: NodeId,
-    place: Pos,
+    position: Pos,
     superclass: Option<NodeId>,
     interfaces: NodeList,
 ) -> Result<Option<Mode>, Memory>
-    ensures step { let awaited = super_ended id nodes.old.all (SupersOpen place false superclass interfaces ∷ stack.old)
+    ensures step { let awaited = super_ended id nodes.old.all (SupersOpen position false superclass interfaces ∷ stack.old)
         (seen view.now) in gives result nodes.new.all stack.new awaited ≡ awaited }
     ensures kept { nodes.new.kept ≡ nodes.old.kept }
 {
     let View::Sign(sign, _) = view else {
         return Ok(None);
     };
-    interface_sign(nodes, stack, id, place, superclass, interfaces, *sign)
+    interface_sign(nodes, stack, id, position, superclass, interfaces, *sign)
 }
 
 /// Behind a super type.
@@ -272,15 +272,15 @@ pub fn super_ended(
     };
     match entry {
         Entry::SupersOpen {
-            place,
+            position,
             is_extends,
             superclass,
             interfaces,
         } => {
             if is_extends {
-                superclass_ended(nodes, stack, view, id, place, superclass, interfaces)
+                superclass_ended(nodes, stack, view, id, position, superclass, interfaces)
             } else {
-                interface_ended(nodes, stack, view, id, place, superclass, interfaces)
+                interface_ended(nodes, stack, view, id, position, superclass, interfaces)
             }
         }
         _other => Ok(None),
@@ -293,10 +293,10 @@ pub fn super_named_step(
     nodes: &mut Nodes,
     stack: &mut Stack,
     view: &View,
-    place: Pos,
+    position: Pos,
     name: &SharedName,
 ) -> Result<Option<Mode>, Memory>
-    ensures step { let awaited = super_named_step place name.now nodes.old.all stack.old (seen view.now) in
+    ensures step { let awaited = super_named_step position name.now nodes.old.all stack.old (seen view.now) in
         gives result nodes.new.all stack.new awaited ≡ awaited }
     ensures kept { nodes.new.kept ≡ nodes.old.kept }
 {
@@ -304,15 +304,15 @@ pub fn super_named_step(
         if *sign == LESS {
             if has_type_argument(name) {
                 return Ok(Some(Mode::SuperArgumentName {
-                    place,
+                    position,
                     name: name.share()?,
                 }));
             }
             return Ok(None);
         }
-        return super_type_ended(nodes, stack, view, place, name);
+        return super_type_ended(nodes, stack, view, position, name);
     }
-    super_type_ended(nodes, stack, view, place, name)
+    super_type_ended(nodes, stack, view, position, name)
 }
 
 /// Behind a super type without an argument.
@@ -321,15 +321,15 @@ pub fn super_type_ended(
     nodes: &mut Nodes,
     stack: &mut Stack,
     view: &View,
-    place: Pos,
+    position: Pos,
     name: &SharedName,
 ) -> Result<Option<Mode>, Memory>
-    ensures step { let awaited = super_ended (length nodes.old.all) (put nodes.old.all (SuperType place name.now None))
+    ensures step { let awaited = super_ended (length nodes.old.all) (put nodes.old.all (SuperType position name.now None))
         stack.old (seen view.now) in gives result nodes.new.all stack.new awaited ≡ awaited }
     ensures kept { nodes.new.kept ≡ nodes.old.kept }
 {
     let id = nodes.put(Node::SuperType {
-        place,
+        position,
         name: name.share()?,
         argument: None,
     })?;
@@ -342,10 +342,10 @@ pub fn super_argument_name_step(
     nodes: &mut Nodes,
     stack: &mut Stack,
     view: &View,
-    place: Pos,
+    position: Pos,
     name: &SharedName,
 ) -> Result<Option<Mode>, Memory>
-    ensures step { let awaited = super_argument_name_step place name.now nodes.old.all stack.old (seen view.now) in
+    ensures step { let awaited = super_argument_name_step position name.now nodes.old.all stack.old (seen view.now) in
         gives result nodes.new.all stack.new awaited ≡ awaited }
     ensures kept { nodes.new.kept ≡ nodes.old.kept }
 {
@@ -353,11 +353,11 @@ pub fn super_argument_name_step(
         return Ok(None);
     };
     let argument = nodes.put(Node::TypeArgument {
-        place: *argument_place,
+        position: *argument_place,
         name: argument.share()?,
     })?;
     Ok(Some(Mode::SuperArgumentEnd {
-        place,
+        position,
         name: name.share()?,
         argument,
     }))
@@ -369,11 +369,11 @@ pub fn super_argument_end_step(
     nodes: &mut Nodes,
     stack: &mut Stack,
     view: &View,
-    place: Pos,
+    position: Pos,
     name: &SharedName,
     argument: NodeId,
 ) -> Result<Option<Mode>, Memory>
-    ensures step { let awaited = super_argument_end_step place name.now argument nodes.old.all stack.old (seen view.now)
+    ensures step { let awaited = super_argument_end_step position name.now argument nodes.old.all stack.old (seen view.now)
         in gives result nodes.new.all stack.new awaited ≡ awaited }
     ensures kept { nodes.new.kept ≡ nodes.old.kept }
 {
@@ -384,7 +384,7 @@ pub fn super_argument_end_step(
         return Ok(None);
     }
     let id = nodes.put(Node::SuperType {
-        place,
+        position,
         name: name.share()?,
         argument: Some(argument),
     })?;

@@ -22,10 +22,10 @@ pub fn member_named_step(
     view: &View,
     flags: Option<NodeId>,
     declared_type: NodeId,
-    place: Pos,
+    position: Pos,
     name: &SharedName,
 ) -> Result<Option<Mode>, Memory>
-    ensures step { let awaited = member_named_step flags declared_type place name.now nodes.old.all stack.old
+    ensures step { let awaited = member_named_step flags declared_type position name.now nodes.old.all stack.old
         (seen view.now) in gives result nodes.new.all stack.new awaited ≡ awaited }
     ensures kept { nodes.new.kept ≡ nodes.old.kept }
 {
@@ -34,7 +34,7 @@ pub fn member_named_step(
     };
     if *sign == SEMICOLON {
         let id = nodes.put(Node::Field {
-            place,
+            position,
             name: name.share()?,
             flags,
             declared_type,
@@ -47,7 +47,7 @@ pub fn member_named_step(
         stack.push(Entry::FieldOpen {
             flags,
             declared_type,
-            place,
+            position,
             name: name.share()?,
             equals: *sign_place,
         })?;
@@ -57,10 +57,10 @@ pub fn member_named_step(
         stack.push(Entry::MethodOpen {
             flags,
             result_type: declared_type,
-            place,
+            position,
             name: name.share()?,
         })?;
-        return Ok(Some(Mode::ParametersFirst { place: *sign_place }));
+        return Ok(Some(Mode::ParametersFirst { position: *sign_place }));
     }
     Ok(None)
 }
@@ -71,16 +71,16 @@ pub fn literal_word(
     nodes: &mut Nodes,
     stack: &mut Stack,
     word: u8,
-    place: Pos,
+    position: Pos,
 ) -> Result<Option<Mode>, Memory>
-    ensures step { let awaited = literal_word word place nodes.old.all stack.old in
+    ensures step { let awaited = literal_word word position nodes.old.all stack.old in
         gives result nodes.new.all stack.new awaited ≡ awaited }
     ensures kept { nodes.new.kept ≡ nodes.old.kept }
 {
     let node = match word {
-        TRUE => Node::True { place },
-        FALSE => Node::False { place },
-        NULL => Node::Null { place },
+        TRUE => Node::True { position },
+        FALSE => Node::False { position },
+        NULL => Node::Null { position },
         _ => return Ok(None),
     };
     let id = nodes.put(node)?;
@@ -99,21 +99,21 @@ pub fn literal_step(
     ensures kept { nodes.new.kept ≡ nodes.old.kept }
 {
     match view {
-        View::Word(word, place) => literal_word(nodes, stack, *word, *place),
-        View::Number(value, place) => {
+        View::Word(word, position) => literal_word(nodes, stack, *word, *position),
+        View::Number(value, position) => {
             if *value == MINIMUM {
                 return Ok(None);
             }
             let id = nodes.put(Node::Number {
-                place: *place,
+                position: *position,
                 value: *value,
                 is_negative: false,
             })?;
             Ok(Some(Mode::LiteralDone { id }))
         }
-        View::Sign(sign, place) => {
+        View::Sign(sign, position) => {
             if *sign == MINUS {
-                return Ok(Some(Mode::LiteralMinus { place: *place }));
+                return Ok(Some(Mode::LiteralMinus { position: *position }));
             }
             Ok(None)
         }
@@ -127,9 +127,9 @@ pub fn literal_minus_step(
     nodes: &mut Nodes,
     stack: &mut Stack,
     view: &View,
-    place: Pos,
+    position: Pos,
 ) -> Result<Option<Mode>, Memory>
-    ensures step { let awaited = literal_minus_step place nodes.old.all stack.old (seen view.now) in
+    ensures step { let awaited = literal_minus_step position nodes.old.all stack.old (seen view.now) in
         gives result nodes.new.all stack.new awaited ≡ awaited }
     ensures kept { nodes.new.kept ≡ nodes.old.kept }
 {
@@ -137,7 +137,7 @@ pub fn literal_minus_step(
         return Ok(None);
     };
     let id = nodes.put(Node::Number {
-        place,
+        position,
         value: *value,
         is_negative: true,
     })?;
@@ -158,12 +158,12 @@ pub fn field_ended(nodes: &mut Nodes, stack: &mut Stack, id: NodeId) -> Result<O
         Entry::FieldOpen {
             flags,
             declared_type,
-            place,
+            position,
             name,
             equals,
         } => {
             let id = nodes.put(Node::Field {
-                place,
+                position,
                 name,
                 flags,
                 declared_type,
@@ -210,13 +210,13 @@ pub fn result_step(
         gives result nodes.new.all stack.new awaited ≡ awaited }
     ensures kept { nodes.new.kept ≡ nodes.old.kept }
 {
-    let View::Name(name, place) = view else {
+    let View::Name(name, position) = view else {
         return Ok(None);
     };
     Ok(Some(Mode::MethodNamed {
         flags,
         result_type,
-        place: *place,
+        position: *position,
         name: name.share()?,
     }))
 }
@@ -229,10 +229,10 @@ pub fn method_named_step(
     view: &View,
     flags: Option<NodeId>,
     result_type: NodeId,
-    place: Pos,
+    position: Pos,
     name: &SharedName,
 ) -> Result<Option<Mode>, Memory>
-    ensures step { let awaited = method_named_step flags result_type place name.now nodes.old.all stack.old
+    ensures step { let awaited = method_named_step flags result_type position name.now nodes.old.all stack.old
         (seen view.now) in gives result nodes.new.all stack.new awaited ≡ awaited }
     ensures kept { nodes.new.kept ≡ nodes.old.kept }
 {
@@ -245,8 +245,8 @@ pub fn method_named_step(
     stack.push(Entry::MethodOpen {
         flags,
         result_type,
-        place,
+        position,
         name: name.share()?,
     })?;
-    Ok(Some(Mode::ParametersFirst { place: *sign_place }))
+    Ok(Some(Mode::ParametersFirst { position: *sign_place }))
 }

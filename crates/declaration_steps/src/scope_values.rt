@@ -83,11 +83,11 @@ pub fn define_valued(
     stack: &mut Stack,
     id: NodeId,
     sign: u8,
-    place: Pos,
+    position: Pos,
     parent_first: bool,
     first: NodeId,
 ) -> Result<Option<Mode>, Memory>
-    ensures step { let awaited = valued id nodes.old.all (DefineSecond place parent_first first ∷ stack.old) sign in
+    ensures step { let awaited = valued id nodes.old.all (DefineSecond position parent_first first ∷ stack.old) sign in
         gives result nodes.new.all stack.new awaited ≡ awaited }
     ensures kept { nodes.new.kept ≡ nodes.old.kept }
 {
@@ -98,7 +98,7 @@ pub fn define_valued(
         Entry::AnnotationOpen { is_local, flags } => {
             if sign == RIGHT_PARENTHESIS {
                 let scope = nodes.put(Node::DefineScope {
-                    place,
+                    position,
                     first,
                     second: id,
                     parent_first,
@@ -134,12 +134,12 @@ pub fn valued(
         Entry::ScopeOpen => scope_valued(nodes, stack, id, sign),
         Entry::RunsInOpen => runs_in_valued(nodes, stack, id, sign),
         Entry::DefineFirst {
-            place,
+            position,
             parent_first,
         } => {
             if sign == COMMA {
                 Ok(Some(Mode::DefineOther {
-                    place,
+                    position,
                     parent_first,
                     first: id,
                 }))
@@ -148,10 +148,10 @@ pub fn valued(
             }
         }
         Entry::DefineSecond {
-            place,
+            position,
             parent_first,
             first,
-        } => define_valued(nodes, stack, id, sign, place, parent_first, first),
+        } => define_valued(nodes, stack, id, sign, position, parent_first, first),
         _other => Ok(None),
     }
 }
@@ -206,23 +206,23 @@ pub fn value_start_step(
     ensures kept { nodes.new.kept ≡ nodes.old.kept }
 {
     match view {
-        View::Text(text, place) => {
+        View::Text(text, position) => {
             if !is_name(text) {
                 return Ok(None);
             }
             let name = nodes.shared(text)?;
             let id = nodes.put(Node::ScopeName {
-                place: *place,
+                position: *position,
                 name,
             })?;
             Ok(Some(Mode::ValueRead { id }))
         }
-        View::Name(name, place) => {
+        View::Name(name, position) => {
             if is_word(*name, b"Scope") {
-                return Ok(Some(Mode::ValueScope { place: *place }));
+                return Ok(Some(Mode::ValueScope { position: *position }));
             }
             let id = nodes.put(Node::ScopeName {
-                place: *place,
+                position: *position,
                 name: name.share()?,
             })?;
             Ok(Some(Mode::ValueRead { id }))
@@ -237,9 +237,9 @@ pub fn value_scope_step(
     nodes: &mut Nodes,
     stack: &mut Stack,
     view: &View,
-    place: Pos,
+    position: Pos,
 ) -> Result<Option<Mode>, Memory>
-    ensures step { let awaited = value_scope_step place nodes.old.all stack.old (seen view.now) in
+    ensures step { let awaited = value_scope_step position nodes.old.all stack.old (seen view.now) in
         gives result nodes.new.all stack.new awaited ≡ awaited }
     ensures kept { nodes.new.kept ≡ nodes.old.kept }
 {
@@ -247,10 +247,10 @@ pub fn value_scope_step(
         return Ok(None);
     };
     if *sign == DOT {
-        return Ok(Some(Mode::ValueDot { place }));
+        return Ok(Some(Mode::ValueDot { position }));
     }
     let name = nodes.shared(b"Scope")?;
-    let id = nodes.put(Node::ScopeName { place, name })?;
+    let id = nodes.put(Node::ScopeName { position, name })?;
     valued(nodes, stack, id, *sign)
 }
 
@@ -260,9 +260,9 @@ pub fn value_dot_step(
     nodes: &mut Nodes,
     stack: &mut Stack,
     view: &View,
-    place: Pos,
+    position: Pos,
 ) -> Result<Option<Mode>, Memory>
-    ensures step { let awaited = value_dot_step place nodes.old.all stack.old (seen view.now) in
+    ensures step { let awaited = value_dot_step position nodes.old.all stack.old (seen view.now) in
         gives result nodes.new.all stack.new awaited ≡ awaited }
     ensures kept { nodes.new.kept ≡ nodes.old.kept }
 {
@@ -270,7 +270,7 @@ pub fn value_dot_step(
         return Ok(None);
     };
     let id = nodes.put(Node::ScopeName {
-        place,
+        position,
         name: name.share()?,
     })?;
     Ok(Some(Mode::ValueRead { id }))
@@ -282,9 +282,9 @@ pub fn define_open_step(
     nodes: &mut Nodes,
     stack: &mut Stack,
     view: &View,
-    place: Pos,
+    position: Pos,
 ) -> Result<Option<Mode>, Memory>
-    ensures step { let awaited = define_open_step place nodes.old.all stack.old (seen view.now) in
+    ensures step { let awaited = define_open_step position nodes.old.all stack.old (seen view.now) in
         gives result nodes.new.all stack.new awaited ≡ awaited }
     ensures kept { nodes.new.kept ≡ nodes.old.kept }
 {
@@ -292,7 +292,7 @@ pub fn define_open_step(
         return Ok(None);
     };
     if *sign == LEFT_PARENTHESIS {
-        return Ok(Some(Mode::DefineName { place }));
+        return Ok(Some(Mode::DefineName { position }));
     }
     Ok(None)
 }
@@ -303,9 +303,9 @@ pub fn define_name_step(
     nodes: &mut Nodes,
     stack: &mut Stack,
     view: &View,
-    place: Pos,
+    position: Pos,
 ) -> Result<Option<Mode>, Memory>
-    ensures step { let awaited = define_name_step place nodes.old.all stack.old (seen view.now) in
+    ensures step { let awaited = define_name_step position nodes.old.all stack.old (seen view.now) in
         gives result nodes.new.all stack.new awaited ≡ awaited }
     ensures kept { nodes.new.kept ≡ nodes.old.kept }
 {
@@ -314,13 +314,13 @@ pub fn define_name_step(
     };
     if is_word(*name, b"name") {
         return Ok(Some(Mode::DefineAssign {
-            place,
+            position,
             parent_first: false,
         }));
     }
     if is_word(*name, b"parent") {
         return Ok(Some(Mode::DefineAssign {
-            place,
+            position,
             parent_first: true,
         }));
     }
@@ -333,10 +333,10 @@ pub fn define_assign_step(
     nodes: &mut Nodes,
     stack: &mut Stack,
     view: &View,
-    place: Pos,
+    position: Pos,
     parent_first: bool,
 ) -> Result<Option<Mode>, Memory>
-    ensures step { let awaited = define_assign_step place parent_first nodes.old.all stack.old (seen view.now) in
+    ensures step { let awaited = define_assign_step position parent_first nodes.old.all stack.old (seen view.now) in
         gives result nodes.new.all stack.new awaited ≡ awaited }
     ensures kept { nodes.new.kept ≡ nodes.old.kept }
 {
@@ -345,7 +345,7 @@ pub fn define_assign_step(
     };
     if *sign == ASSIGN {
         stack.push(Entry::DefineFirst {
-            place,
+            position,
             parent_first,
         })?;
         return Ok(Some(Mode::ValueStart));
@@ -359,11 +359,11 @@ pub fn define_other_step(
     nodes: &mut Nodes,
     stack: &mut Stack,
     view: &View,
-    place: Pos,
+    position: Pos,
     parent_first: bool,
     first: NodeId,
 ) -> Result<Option<Mode>, Memory>
-    ensures step { let awaited = define_other_step place parent_first first nodes.old.all stack.old (seen view.now) in
+    ensures step { let awaited = define_other_step position parent_first first nodes.old.all stack.old (seen view.now) in
         gives result nodes.new.all stack.new awaited ≡ awaited }
     ensures kept { nodes.new.kept ≡ nodes.old.kept }
 {
@@ -377,7 +377,7 @@ pub fn define_other_step(
     };
     if is_other {
         return Ok(Some(Mode::DefineOtherAssign {
-            place,
+            position,
             parent_first,
             first,
         }));
@@ -391,11 +391,11 @@ pub fn define_other_assign_step(
     nodes: &mut Nodes,
     stack: &mut Stack,
     view: &View,
-    place: Pos,
+    position: Pos,
     parent_first: bool,
     first: NodeId,
 ) -> Result<Option<Mode>, Memory>
-    ensures step { let awaited = define_other_assign_step place parent_first first nodes.old.all stack.old
+    ensures step { let awaited = define_other_assign_step position parent_first first nodes.old.all stack.old
         (seen view.now) in gives result nodes.new.all stack.new awaited ≡ awaited }
     ensures kept { nodes.new.kept ≡ nodes.old.kept }
 {
@@ -404,7 +404,7 @@ pub fn define_other_assign_step(
     };
     if *sign == ASSIGN {
         stack.push(Entry::DefineSecond {
-            place,
+            position,
             parent_first,
             first,
         })?;

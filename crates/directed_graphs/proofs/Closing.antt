@@ -73,14 +73,14 @@ module _ (graph : Graph) (marks : List Mark) (low high edges : List ℕ) (gs : L
 
     -- a vertex of the last group, by its place on the path
     record Stands (v : ℕ) : Type 0 where
-      place : ℕ
-      within : place < length (low ++ high)
-      from : length low ≤ place
-      is : at (low ++ high) place ≡ v
+      index : ℕ
+      within : index < length (low ++ high)
+      from : length low ≤ index
+      is : at (low ++ high) index ≡ v
 
     stands : (v : ℕ) → Contains high v → Stands v
     stands v c = record {
-      place = length low + c.0;
+      index = length low + c.0;
       within = let l = c.1 in omega (arith, l, all);
       from = omega arith;
       is = high_at c.0 ∙ (any_default high c.0 0 v c.1 ∙ c.2);
@@ -110,14 +110,14 @@ module _ (graph : Graph) (marks : List Mark) (low high edges : List ℕ) (gs : L
     low_not_high i l c =
         let s = stands (at low i) c in
         let p : i < length (low ++ high) = omega (arith, l, all) in
-        let e = one_place i s.place p s.within (low_at i l ∙ sym s.is) in
+        let e = one_place i s.index p s.within (low_at i l ∙ sym s.is) in
         let f = s.from in omega (arith, e, f, l)
 
     order_not_high : (v : ℕ) → Contains order v → Contains high v → ⊥
     order_not_high v o c =
         let s = stands v c in
         let a = walk.marks.is_done v o in
-        let b = walk.marks.has_mark s.place s.within in
+        let b = walk.marks.has_mark s.index s.within in
         cc (a, b, ap (mark_of before) s.is)
 
     -- ---- marks
@@ -245,25 +245,25 @@ module _ (graph : Graph) (marks : List Mark) (low high edges : List ℕ) (gs : L
         Result group =
             IsLeft after group x ⊎ (Contains (order ++ high) x ⊎ (StandsFrom after group x ⊎ ⊥))
 
-        on_path : (h : StandsFrom before (group_of before i) x) → (b : Bool) → nat_lt h.place (length low) ≡ b →
+        on_path : (h : StandsFrom before (group_of before i) x) → (b : Bool) → nat_lt h.index (length low) ≡ b →
             Result (group_of before i)
         on_path h true e =
-            (let m : h.place < length low = grind (arith, nat_tests) in
+            (let m : h.index < length low = grind (arith, nat_tests) in
             inr (inr (inl (record {
-              place = h.place;
+              index = h.index;
               within = m;
-              is = sym (low_at h.place m) ∙ h.is;
-              from = let a = of_low h.place m in let f = h.from in omega (arith, a, f);
+              is = sym (low_at h.index m) ∙ h.is;
+              from = let a = of_low h.index m in let f = h.from in omega (arith, a, f);
             }))))
         on_path h false e =
-            (let m : length low ≤ h.place = grind (arith, nat_tests) in
-            inr (inl (Contains-append_right order high x (subst (Contains high) h.is (listed h.place h.within m)))))
+            (let m : length low ≤ h.index = grind (arith, nat_tests) in
+            inr (inl (Contains-append_right order high x (subst (Contains high) h.is (listed h.index h.within m)))))
 
         of : IsLeft before (group_of before i) x
             ⊎ (Contains order x ⊎ (StandsFrom before (group_of before i) x ⊎ ⊥)) → Result (group_of before i)
         of (inl h) = inl (left_still (group_of before i) x h)
         of (inr (inl h)) = inr (inl (Contains-append_left order high x h))
-        of (inr (inr (inl h))) = on_path h (nat_lt h.place (length low)) refl
+        of (inr (inr (inl h))) = on_path h (nat_lt h.index (length low)) refl
         of (inr (inr (inr h))) = absurd h
 
     -- ---- the vertices that are listed now
@@ -277,30 +277,30 @@ module _ (graph : Graph) (marks : List Mark) (low high edges : List ℕ) (gs : L
 
     -- an edge of one of its vertices leads to one of its vertices, or where all has been followed before
     leads : (v x : ℕ) → Contains high v → Contains (successors graph v) x → Contains order x ⊎ Contains high x
-    leads v x c e = of (walk.edges.followed s.place x s.within
+    leads v x c e = of (walk.edges.followed s.index x s.within
         (subst (λ u. Contains (successors graph u) x) (sym s.is) e))
       where
         s : Stands v
         s = stands v c
 
-        group : group_of before s.place ≡ length gs + 1
-        group = of_high s.place s.from
+        group : group_of before s.index ≡ length gs + 1
+        group = of_high s.index s.from
 
-        of : IsLeft before (group_of before s.place) x
-            ⊎ (Contains order x ⊎ (StandsFrom before (group_of before s.place) x ⊎ ⊥)) →
+        of : IsLeft before (group_of before s.index) x
+            ⊎ (Contains order x ⊎ (StandsFrom before (group_of before s.index) x ⊎ ⊥)) →
             Contains order x ⊎ Contains high x
         of (inl h) = absurd (none_of_last x (subst (λ k. IsLeft before k x) group h))
         of (inr (inl h)) = inl h
-        of (inr (inr (inl h))) = inr (subst (Contains high) h.is (listed h.place h.within from))
+        of (inr (inr (inl h))) = inr (subst (Contains high) h.is (listed h.index h.within from))
           where
-            from : length low ≤ h.place
-            from = by (nat_lt h.place (length low)) refl
+            from : length low ≤ h.index
+            from = by (nat_lt h.index (length low)) refl
               where
-                by : (b : Bool) → nat_lt h.place (length low) ≡ b → length low ≤ h.place
+                by : (b : Bool) → nat_lt h.index (length low) ≡ b → length low ≤ h.index
                 by false e = grind (arith, nat_tests)
                 by true e =
-                    absurd (let m : h.place < length low = grind (arith, nat_tests) in
-                    let a = of_low h.place m in let b = few h.place in let f = h.from in
+                    absurd (let m : h.index < length low = grind (arith, nat_tests) in
+                    let a = of_low h.index m in let b = few h.index in let f = h.from in
                     omega (arith, a, b, f, group))
         of (inr (inr (inr h))) = absurd h
 
@@ -318,13 +318,13 @@ module _ (graph : Graph) (marks : List Mark) (low high edges : List ℕ) (gs : L
     loops_so v c l =
         let s = stands v c in
         let h = walk.told.loop (length gs) t last_group l in
-        let group = of_high s.place s.from in
+        let group = of_high s.index s.from in
         let a = h.from_group in
         let b = h.to_group in
         subst (LeadsToItself graph) s.is
-        (leads_back graph (at (low ++ high) s.place) (at (low ++ high) h.from) (at (low ++ high) h.to)
-        (walk.edges.reach s.place h.from s.within h.from_within (omega (arith, group, a))) h.edge
-        (walk.edges.reach h.to s.place h.to_within s.within (omega (arith, group, b))))
+        (leads_back graph (at (low ++ high) s.index) (at (low ++ high) h.from) (at (low ++ high) h.to)
+        (walk.edges.reach s.index h.from s.within h.from_within (omega (arith, group, a))) h.edge
+        (walk.edges.reach h.to s.index h.to_within s.within (omega (arith, group, b))))
 
     -- a vertex alone
     module _ (l : t.loops ≡ false) where
@@ -336,13 +336,13 @@ module _ (graph : Graph) (marks : List Mark) (low high edges : List ℕ) (gs : L
           let s = stands v c in
           let r = stands x d in
           sym s.is ∙ (ap (at (low ++ high))
-          (alone.one s.place r.place s.within r.within (of_high s.place s.from) (of_high r.place r.from)) ∙ r.is)
+          (alone.one s.index r.index s.within r.within (of_high s.index s.from) (of_high r.index r.from)) ∙ r.is)
 
       no_own_edge : (v : ℕ) → Contains high v → Contains (successors graph v) v → ⊥
       no_own_edge v c e =
           let s = stands v c in
-          ⊎_elim (λ k. none_of_last (at (low ++ high) s.place) k) (λ n. n)
-          (alone.no_edge s.place s.within (of_high s.place s.from)
+          ⊎_elim (λ k. none_of_last (at (low ++ high) s.index) k) (λ n. n)
+          (alone.no_edge s.index s.within (of_high s.index s.from)
           (subst (λ u. Contains (successors graph u) u) (sym s.is) e))
 
       -- so its edges lead where all has been followed before

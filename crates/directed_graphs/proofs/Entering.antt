@@ -190,15 +190,15 @@ module _ (graph : Graph) (m : Walk) (w : ℕ) (walk : IsWalkBut graph m (Follows
 
   stands_still : (group x : ℕ) → StandsFrom m group x → StandsFrom (entered graph m w) group x
   stands_still group x h = record {
-    place = h.place;
+    index = h.index;
     within = let l = h.within in omega (arith, l, longer);
-    is = at_old h.place h.within ∙ h.is;
-    from = let a = of_old h.place h.within in let f = h.from in omega (arith, a, f);
+    is = at_old h.index h.within ∙ h.is;
+    from = let a = of_old h.index h.within in let f = h.from in omega (arith, a, f);
   }
 
   stands_new : (group : ℕ) → group ≤ length m.groups + 1 → StandsFrom (entered graph m w) group w
   stands_new group l = record {
-    place = length m.path;
+    index = length m.path;
     within = omega (arith, longer);
     is = at_new;
     from = let a = of_new in omega (arith, a, l);

@@ -120,7 +120,7 @@ module _ (graph : Graph) (marks : List Mark) (path es : List ℕ) (w : ℕ) (gs 
             )
 
         stands : (group x : ℕ) → StandsFrom noted group x → StandsFrom taken group x
-        stands group x h = record { place = h.place; within = h.within; is = h.is; from = h.from }
+        stands group x h = record { index = h.index; within = h.within; is = h.is; from = h.from }
 
         followed : (i x : ℕ) →
             IsLeft noted (group_of noted i) x

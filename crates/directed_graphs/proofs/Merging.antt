@@ -8,10 +8,10 @@ use Rattle.directed_graphs.specs.Walks.{Walk, level, group_of, group_of_edge, Ar
 use Rattle.directed_graphs.proofs.Levels.{get_pushed, get_left_of, get_right_of, get_last_of, get_is_within, level_none, level_both, level_few, level_all, level_first}
 use Rattle.directed_graphs.proofs.Paths.{reached_then}
 
-module _ (graph : Graph) (m : Walk) (w : ℕ) (follows : IsFollowing graph m w) (place : ℕ)
-    (within : place < length m.path) (is : at m.path place ≡ w) (gs more : List Group) (g : Group)
-    (split : m.groups ≡ gs ++ g ∷ more) (from : g.vertex ≤ place)
-    (behind : (k : ℕ) (h : Group) → slice_get more k ≡ Some h → place < h.vertex) where
+module _ (graph : Graph) (m : Walk) (w : ℕ) (follows : IsFollowing graph m w) (index : ℕ)
+    (within : index < length m.path) (is : at m.path index ≡ w) (gs more : List Group) (g : Group)
+    (split : m.groups ≡ gs ++ g ∷ more) (from : g.vertex ≤ index)
+    (behind : (k : ℕ) (h : Group) → slice_get more k ≡ Some h → index < h.vertex) where
   abbrev walk : IsWalkBut graph m (Follows m w)
   walk = follows.walk
 
@@ -75,33 +75,33 @@ module _ (graph : Graph) (m : Walk) (w : ℕ) (follows : IsFollowing graph m w) 
   few : (i : ℕ) → group_of m i ≤ length m.groups
   few i = level_few (λ (h : Group). h.vertex) m.groups i
 
-  none_of : (hs : List Group) → ((k : ℕ) (h : Group) → slice_get hs k ≡ Some h → place < h.vertex) →
-      level (λ (h : Group). h.vertex) hs place ≡ 0
+  none_of : (hs : List Group) → ((k : ℕ) (h : Group) → slice_get hs k ≡ Some h → index < h.vertex) →
+      level (λ (h : Group). h.vertex) hs index ≡ 0
   unfolding level
   none_of [] b = refl
   none_of (h ∷ hs) b =
       let a = none_of hs (λ k x e. b (suc k) x e) in
-      let c = level_none (λ (x : Group). x.vertex) h place (b 0 h refl) in
-      let d = level_both (λ (x : Group). x.vertex) (h ∷ []) hs place in
+      let c = level_none (λ (x : Group). x.vertex) h index (b 0 h refl) in
+      let d = level_both (λ (x : Group). x.vertex) (h ∷ []) hs index in
       omega (arith, a, c, d)
 
   -- the vertex to which the edge leads stands in the group that is the last one now
-  of_place : group_of m place ≡ length gs + 1
+  of_place : group_of m index ≡ length gs + 1
   of_place =
-      let a = level_both (λ (h : Group). h.vertex) (gs ++ g ∷ []) more place in
-      let b = level_all (λ (h : Group). h.vertex) (gs ++ g ∷ []) place upto in
+      let a = level_both (λ (h : Group). h.vertex) (gs ++ g ∷ []) more index in
+      let b = level_all (λ (h : Group). h.vertex) (gs ++ g ∷ []) index upto in
       let c = none_of more behind in
-      let d = ap (λ (hs : List Group). level (λ (h : Group). h.vertex) hs place) again in
+      let d = ap (λ (hs : List Group). level (λ (h : Group). h.vertex) hs index) again in
       omega (arith, a, b, c, d, count)
     where
-      upto : (k : ℕ) (h : Group) → slice_get (gs ++ g ∷ []) k ≡ Some h → h.vertex ≤ place
+      upto : (k : ℕ) (h : Group) → slice_get (gs ++ g ∷ []) k ≡ Some h → h.vertex ≤ index
       upto k h p = of (get_pushed gs g h k p)
         where
-          of : ((slice_get gs k ≡ Some h) × (k < length gs)) ⊎ ((k ≡ length gs) × (g ≡ h)) → h.vertex ≤ place
+          of : ((slice_get gs k ≡ Some h) × (k < length gs)) ⊎ ((k ≡ length gs) × (g ≡ h)) → h.vertex ≤ index
           of (inl x) =
               let r = (walk.groups.rise k (length gs) h g (kept_at k h p) (kept_at (length gs) g (get_last_of gs g)) x.1).0 in
               omega (arith, r, from)
-          of (inr x) = subst (λ (y : Group). y.vertex ≤ place) x.1 from
+          of (inr x) = subst (λ (y : Group). y.vertex ≤ index) x.1 from
 
   -- ---- groups
 
@@ -160,12 +160,12 @@ module _ (graph : Graph) (m : Walk) (w : ℕ) (follows : IsFollowing graph m w) 
       of false t = walk.edges.reach i j p q (grind (arith, nat_tests))
       of true t =
           let higher : group_of m j < group_of m i = grind (arith, nat_tests) in
-          let upto : group_of m place ≤ group_of m j = (let c = of_place in omega (arith, c, a, b, l, higher)) in
+          let upto : group_of m index ≤ group_of m j = (let c = of_place in omega (arith, c, a, b, l, higher)) in
           let there = walk.edges.reach i follows.source p follows.within
           (let c = few i in let d = follows.of_group in omega (arith, c, d)) in
           let over : IsReached graph (at m.path i) w = along (at m.path follows.source) w there follows.edge in
           reached_then graph (at m.path i) w (at m.path j) over
-          (subst (λ u. IsReached graph u (at m.path j)) is (walk.edges.reach place j within q upto))
+          (subst (λ u. IsReached graph u (at m.path j)) is (walk.edges.reach index j within q upto))
 
   left : (e : ℕ) → e < length m.edges →
       (i : ℕ) × (i < length m.path) × (group_of (merged m gs g) i ≡ group_of_edge (merged m gs g) e)
@@ -198,17 +198,17 @@ module _ (graph : Graph) (m : Walk) (w : ℕ) (follows : IsFollowing graph m w) 
       of (inr (inl h)) = inr (inl h)
       of (inr (inr (inl h))) =
           inr (inr (inl (record {
-            place = h.place;
+            index = h.index;
             within = h.within;
             is = h.is;
-            from = let a = group_now h.place in let f = h.from in omega (arith, a, f);
+            from = let a = group_now h.index in let f = h.from in omega (arith, a, f);
           })))
       of (inr (inr (inr h))) =
           inr (inr (inl (record {
-            place = place;
+            index = index;
             within = within;
             is = is ∙ sym h.1;
-            from = let a = group_now place in let b = of_place in omega (arith, a, b);
+            from = let a = group_now index in let b = of_place in omega (arith, a, b);
           })))
 
   -- ---- the marks of groups
@@ -228,11 +228,11 @@ module _ (graph : Graph) (m : Walk) (w : ℕ) (follows : IsFollowing graph m w) 
   inside_now : HasEdgeInside graph (merged m gs g) (length gs + 1)
   inside_now = record {
     from = follows.source;
-    to = place;
+    to = index;
     from_within = follows.within;
     to_within = within;
     from_group = let a = group_now follows.source in let b = follows.of_group in omega (arith, a, b, total);
-    to_group = let a = group_now place in let b = of_place in omega (arith, a, b);
+    to_group = let a = group_now index in let b = of_place in omega (arith, a, b);
     edge = subst (Contains (successors graph (at m.path follows.source))) (sym is) follows.edge;
   }
 

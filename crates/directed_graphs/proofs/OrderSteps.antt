@@ -13,9 +13,9 @@ use Rattle.directed_graphs.specs.Walks.{Walk, level, mark_of, IsMerged, marked_l
 
 -- ---- groups that begin behind a place
 
-pub record IsBehind (groups : List Group) (place count : ℕ) : Type 0 where
+pub record IsBehind (groups : List Group) (index count : ℕ) : Type 0 where
   pub within : count ≤ length groups
-  pub behind : (k : ℕ) (g : Group) → slice_get groups k ≡ Some g → count ≤ k → place < g.vertex
+  pub behind : (k : ℕ) (g : Group) → slice_get groups k ≡ Some g → count ≤ k → index < g.vertex
 
 -- ---- the last group that is kept
 
@@ -37,10 +37,10 @@ get_behind [] (suc n) j x e = absurd (cc (e))
 get_behind (y ∷ xs) (suc n) j x e =
     (let same : suc n + j ≡ suc (n + j) = omega arith in ap (slice_get (y ∷ xs)) same ∙ get_behind xs n j x e)
 
-pub merged_is : (m : Walk) (place k : ℕ) (g : Group) → slice_get m.groups k ≡ Some g → g.vertex ≤ place →
-    ((j : ℕ) (h : Group) → slice_get m.groups j ≡ Some h → k + 1 ≤ j → place < h.vertex) →
-    IsMerged m place (record m { groups = slice_set (take (k + 1) m.groups) k (marked_loop g) })
-merged_is m place k g e from behind = record {
+pub merged_is : (m : Walk) (index k : ℕ) (g : Group) → slice_get m.groups k ≡ Some g → g.vertex ≤ index →
+    ((j : ℕ) (h : Group) → slice_get m.groups j ≡ Some h → k + 1 ≤ j → index < h.vertex) →
+    IsMerged m index (record m { groups = slice_set (take (k + 1) m.groups) k (marked_loop g) })
+merged_is m index k g e from behind = record {
   first = take k m.groups;
   last = g;
   more = drop (suc k) m.groups;
@@ -64,13 +64,13 @@ get_of (x ∷ xs) zero d l = refl
 get_of (x ∷ xs) (suc k) d l = get_of xs k d (omega (arith, l))
 
 -- of so many groups the last one is marked, and the others are let go
-pub merges : (m : Walk) (place count : ℕ) (groups kept : List Group) (now : Group) → groups ≡ m.groups →
+pub merges : (m : Walk) (index count : ℕ) (groups kept : List Group) (now : Group) → groups ≡ m.groups →
     kept ≡ take count m.groups → 0 < count →
-    ((j : ℕ) (h : Group) → slice_get groups j ≡ Some h → count ≤ j → place < h.vertex) →
-    (0 < count → IfSome (slice_get groups (count - 1)) (λ g. g.vertex ≤ place)) →
+    ((j : ℕ) (h : Group) → slice_get groups j ≡ Some h → count ≤ j → index < h.vertex) →
+    (0 < count → IfSome (slice_get groups (count - 1)) (λ g. g.vertex ≤ index)) →
     count - 1 < length kept → now ≡ slice_index_or kept (count - 1) now →
-    IsMerged m place (record m { groups = slice_set kept (count - 1) (marked_loop now) })
-merges m place count groups kept now same is some behind last long value =
+    IsMerged m index (record m { groups = slice_set kept (count - 1) (marked_loop now) })
+merges m index count groups kept now same is some behind last long value =
     let kept_there : slice_get kept (count - 1) ≡ Some now =
     get_of kept (count - 1) now long ∙ ap (λ x. Some x) (sym value) in
     let there : slice_get m.groups (count - 1) ≡ Some now =
@@ -79,22 +79,22 @@ merges m place count groups kept now same is some behind last long value =
     let one : count - 1 + 1 ≡ count = omega (arith, some) in
     let found : slice_get groups (count - 1) ≡ Some now =
     ap (λ (gs : List Group). slice_get gs (count - 1)) same ∙ there in
-    subst (λ (gs : List Group). IsMerged m place (record m { groups = slice_set gs (count - 1) (marked_loop now) }))
+    subst (λ (gs : List Group). IsMerged m index (record m { groups = slice_set gs (count - 1) (marked_loop now) }))
     (ap (λ n. take n m.groups) one ∙ sym is)
-    (merged_is m place (count - 1) now there
-    (subst (λ (o : Option Group). IfSome o (λ g. g.vertex ≤ place)) found (last some))
+    (merged_is m index (count - 1) now there
+    (subst (λ (o : Option Group). IfSome o (λ g. g.vertex ≤ index)) found (last some))
     (λ j h e l. behind j h (ap (λ (gs : List Group). slice_get gs j) same ∙ e) (omega (arith, l, one))))
 
 -- where all groups begin behind a place, none is of it
-pub no_level : (gs : List Group) (place : ℕ) →
-    ((j : ℕ) (h : Group) → slice_get gs j ≡ Some h → place < h.vertex) → level (λ (g : Group). g.vertex) gs place ≡ 0
+pub no_level : (gs : List Group) (index : ℕ) →
+    ((j : ℕ) (h : Group) → slice_get gs j ≡ Some h → index < h.vertex) → level (λ (g : Group). g.vertex) gs index ≡ 0
 unfolding level
-no_level [] place behind = refl
-no_level (g ∷ gs) place behind =
-    of (nat_lt place g.vertex) refl (no_level gs place (λ j h q. behind (suc j) h q))
+no_level [] index behind = refl
+no_level (g ∷ gs) index behind =
+    of (nat_lt index g.vertex) refl (no_level gs index (λ j h q. behind (suc j) h q))
   where
-    of : (b : Bool) → nat_lt place g.vertex ≡ b → level (λ (g : Group). g.vertex) gs place ≡ 0 →
-        (if b then 0 else 1) + level (λ (g : Group). g.vertex) gs place ≡ 0
+    of : (b : Bool) → nat_lt index g.vertex ≡ b → level (λ (g : Group). g.vertex) gs index ≡ 0 →
+        (if b then 0 else 1) + level (λ (g : Group). g.vertex) gs index ≡ 0
     of true e rest = omega (arith, rest)
     of false e rest = absurd (let l = behind 0 g refl in grind (arith, nat_tests, l, e))
 

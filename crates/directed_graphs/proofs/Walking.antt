@@ -51,15 +51,15 @@ module _ (graph : Graph) (m : Walk) (w : ℕ) (follows : IsFollowing graph m w) 
         sees = entering_sees graph m w to_mark;
       })
 
-  pub on_group : (place : ℕ) → mark_of m w ≡ OnPath place → 0 < group_of m place
-  on_group place e = follows.walk.groups.first place (follows.walk.marks.on_path w place e).0
+  pub on_group : (index : ℕ) → mark_of m w ≡ OnPath index → 0 < group_of m index
+  on_group index e = follows.walk.groups.first index (follows.walk.marks.on_path w index e).0
 
-  pub follow_merges : (place : ℕ) → mark_of m w ≡ OnPath place → (after : Walk) → IsMerged m place after →
+  pub follow_merges : (index : ℕ) → mark_of m w ≡ OnPath index → (after : Walk) → IsMerged m index after →
       GoesOn graph m after
-  follow_merges place e after h =
-      let p = follows.walk.marks.on_path w place e in
+  follow_merges index e after h =
+      let p = follows.walk.marks.on_path w index e in
       subst (GoesOn graph m) (sym h.is) (record {
-        walk = merged_walks graph m w follows place p.0 p.1 h.first h.more h.last h.split h.from h.behind;
+        walk = merged_walks graph m w follows index p.0 p.1 h.first h.more h.last h.split h.from h.behind;
         no_more =
             let a = ap (λ (gs : List Group). length gs) h.split in
             let b = length-append h.first (h.last ∷ h.more) in

@@ -56,10 +56,10 @@ pub record IsLeft (m : Walk) (group w : ℕ) : Type 0 where
 
 -- a vertex stands on the path, in this group or behind it
 pub record StandsFrom (m : Walk) (group w : ℕ) : Type 0 where
-  pub place : ℕ
-  pub within : place < length m.path
-  pub is : at m.path place ≡ w
-  pub from : group ≤ group_of m place
+  pub index : ℕ
+  pub within : index < length m.path
+  pub is : at m.path index ≡ w
+  pub from : group ≤ group_of m index
 
 -- what is known of the edges of the vertices on the path; `Late` are those that have just been taken
 pub record AreEdges (graph : Graph) (m : Walk) (Late : ℕ → ℕ → Type 0) : Type 0 where
@@ -155,13 +155,13 @@ marked_loop g = record g { loops = true }
 abbrev pub merged : Walk → List Group → Group → Walk
 merged m gs g = record m { groups = gs ++ marked_loop g ∷ [] }
 
-pub record IsMerged (m : Walk) (place : ℕ) (after : Walk) : Type 0 where
+pub record IsMerged (m : Walk) (index : ℕ) (after : Walk) : Type 0 where
   pub first : List Group
   pub last : Group
   pub more : List Group
   pub split : m.groups ≡ first ++ last ∷ more
-  pub from : last.vertex ≤ place
-  pub behind : (k : ℕ) (h : Group) → slice_get more k ≡ Some h → place < h.vertex
+  pub from : last.vertex ≤ index
+  pub behind : (k : ℕ) (h : Group) → slice_get more k ≡ Some h → index < h.vertex
   pub is : after ≡ merged m first last
 
 -- what is told of vertices is as it was but for those of a list

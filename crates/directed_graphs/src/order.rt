@@ -16,7 +16,7 @@ pub enum Mark {
     /// It hasn't been come to.
     Unseen,
     /// At this place of the path.
-    OnPath { place: usize },
+    OnPath { index: usize },
     /// All has been followed from it.
     Done,
 }
@@ -58,38 +58,38 @@ fn enter(search: &mut Search, rows: &[Vec<u32>], vertex: u32) -> Result<(), Memo
     requires whole { length search.old.marks.items ≡ length rows.now }
     ensures { OnOk result (walk_of search.new ≡ entered (rows_of rows.now) (walk_of search.old) vertex) }
 {
-    let place = search.path.len();
+    let index = search.path.len();
     let group = Group {
-        vertex: place,
+        vertex: index,
         edge: search.edges.len(),
         loops: false,
     };
     search.groups.push(group)?;
-    search.marks[vertex as usize] = Mark::OnPath { place };
+    search.marks[vertex as usize] = Mark::OnPath { index };
     search.path.push(vertex)?;
     search.edges.extend_from_slice(successors_of(rows, vertex))?;
     Ok(())
 }
 
 /// How many groups begin at a place of the path or before it, as long as they rise.
-fn groups_upto(groups: &[Group], place: usize) -> usize
+fn groups_upto(groups: &[Group], index: usize) -> usize
     ensures within { result ≤ length groups.now }
-    ensures behind { (k : ℕ) (g : Group) → slice_get groups.now k ≡ Some g → result ≤ k → place < g.vertex }
-    ensures last { 0 < result → IfSome (slice_get groups.now (result - 1)) (λ g. g.vertex ≤ place) }
+    ensures behind { (k : ℕ) (g : Group) → slice_get groups.now k ≡ Some g → result ≤ k → index < g.vertex }
+    ensures last { 0 < result → IfSome (slice_get groups.now (result - 1)) (λ g. g.vertex ≤ index) }
 {
     let mut count = groups.len();
-    while count > 0 && groups[count - 1].vertex > place {
+    while count > 0 && groups[count - 1].vertex > index {
         count -= 1;
     }
     count
 }
 
 /// The groups from the one on in which a place of the path stands become one, in which an edge leads back.
-fn merge(search: &mut Search, place: usize)
-    requires { 0 < group_of (walk_of search.old) place }
-    ensures { IsMerged (walk_of search.old) place (walk_of search.new) }
+fn merge(search: &mut Search, index: usize)
+    requires { 0 < group_of (walk_of search.old) index }
+    ensures { IsMerged (walk_of search.old) index (walk_of search.new) }
 {
-    let count = groups_upto(search.groups.as_slice(), place);
+    let count = groups_upto(search.groups.as_slice(), index);
     search.groups.truncate(count);
     if count > 0 {
         search.groups[count - 1].loops = true;
@@ -103,8 +103,8 @@ fn close(search: &mut Search, group: Group) -> Result<(), Memory>
     requires loops { length search.old.loops.items ≡ length search.old.marks.items }
     ensures { OnOk result (IsClosed group (walk_of search.old) (walk_of search.new)) }
 {
-    for place in group.vertex..search.path.len() {
-        let vertex = search.path[place];
+    for index in group.vertex..search.path.len() {
+        let vertex = search.path[index];
         search.marks[vertex as usize] = Mark::Done;
         search.loops[vertex as usize] = group.loops;
         search.order.push(vertex)?;
@@ -121,8 +121,8 @@ fn follow(search: &mut Search, rows: &[Vec<u32>], vertex: u32) -> Result<(), Mem
 {
     match search.marks[vertex as usize] {
         Mark::Unseen => enter(search, rows, vertex),
-        Mark::OnPath { place } => {
-            merge(search, place);
+        Mark::OnPath { index } => {
+            merge(search, index);
             Ok(())
         }
         Mark::Done => Ok(()),

@@ -14,9 +14,9 @@ fn note(marks: &mut Vec<bool>, found: &mut Vec<u32>, vertex: u32) -> Result<(), 
     ensures there { OnOk result (vertex < length marks.old.items → Contains found.new.items vertex) }
     ensures longer { OnOk result (IsLonger found.old.items (λ v. v ≡ vertex) found.new.items) }
 {
-    let place = vertex as usize;
-    if place < marks.len() && !marks[place] {
-        marks[place] = true;
+    let index = vertex as usize;
+    if index < marks.len() && !marks[index] {
+        marks[index] = true;
         found.push(vertex)?;
     }
     Ok(())
@@ -31,8 +31,8 @@ fn note_all(marks: &mut Vec<bool>, found: &mut Vec<u32>, vertices: &[u32]) -> Re
         Contains found.new.items v) }
     ensures longer { OnOk result (IsLonger found.old.items (Contains vertices.now) found.new.items) }
 {
-    for place in 0..vertices.len() {
-        note(marks, found, vertices[place])?;
+    for index in 0..vertices.len() {
+        note(marks, found, vertices[index])?;
     }
     Ok(())
 }
@@ -54,11 +54,11 @@ pub fn reached(alloc: Global, rows: &[Vec<u32>], from: u32) -> Result<Vec<bool>,
     let mut marks = vec![in alloc; false; rows.len()]?;
     let mut found = Vec::new(alloc);
     note(&mut marks, &mut found, from)?;
-    for place in 0..rows.len() {
-        if place >= found.len() {
+    for index in 0..rows.len() {
+        if index >= found.len() {
             return Ok(marks);
         }
-        let vertex = found[place];
+        let vertex = found[index];
         note_all(&mut marks, &mut found, successors_of(rows, vertex))?;
     }
     Ok(marks)

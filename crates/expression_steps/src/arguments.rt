@@ -21,26 +21,26 @@ pub fn new_word(
     nodes: &mut Nodes,
     stack: &mut Stack,
     word: u8,
-    place: Pos,
+    position: Pos,
     word_place: Pos,
 ) -> Result<Option<Mode>, Memory>
-    ensures step { let awaited = new_step place nodes.old.all stack.old (a_word word word_place) in
+    ensures step { let awaited = new_step position nodes.old.all stack.old (a_word word word_place) in
         gives result nodes.new.all stack.new awaited ≡ awaited }
     ensures kept { nodes.new.kept ≡ nodes.old.kept }
 {
     let node = match word {
         INT => Node::IntType {
-            place: word_place,
+            position: word_place,
             is_array: false,
         },
         BOOLEAN => Node::BooleanType {
-            place: word_place,
+            position: word_place,
             is_array: false,
         },
         _ => return Ok(None),
     };
     let element = nodes.put(node)?;
-    Ok(Some(Mode::NewElement { place, element }))
+    Ok(Some(Mode::NewElement { position, element }))
 }
 
 /// Behind `new`.
@@ -49,19 +49,19 @@ pub fn new_step(
     nodes: &mut Nodes,
     stack: &mut Stack,
     view: &View,
-    place: Pos,
+    position: Pos,
 ) -> Result<Option<Mode>, Memory>
-    ensures step { let awaited = new_step place nodes.old.all stack.old (seen view.now) in
+    ensures step { let awaited = new_step position nodes.old.all stack.old (seen view.now) in
         gives result nodes.new.all stack.new awaited ≡ awaited }
     ensures kept { nodes.new.kept ≡ nodes.old.kept }
 {
     match view {
         View::Name(name, name_place) => Ok(Some(Mode::NewName {
-            place,
+            position,
             name_place: *name_place,
             name: name.share()?,
         })),
-        View::Word(word, word_place) => new_word(nodes, stack, *word, place, *word_place),
+        View::Word(word, word_place) => new_word(nodes, stack, *word, position, *word_place),
         _ => Ok(None),
     }
 }
@@ -72,11 +72,11 @@ pub fn new_name_step(
     nodes: &mut Nodes,
     stack: &mut Stack,
     view: &View,
-    place: Pos,
+    position: Pos,
     name_place: Pos,
     name: &SharedName,
 ) -> Result<Option<Mode>, Memory>
-    ensures step { let awaited = new_name_step place name_place name.now nodes.old.all stack.old (seen view.now) in
+    ensures step { let awaited = new_name_step position name_place name.now nodes.old.all stack.old (seen view.now) in
         gives result nodes.new.all stack.new awaited ≡ awaited }
     ensures kept { nodes.new.kept ≡ nodes.old.kept }
 {
@@ -85,7 +85,7 @@ pub fn new_name_step(
     };
     if *sign == LEFT_PARENTHESIS {
         stack.push(Entry::NewOpen {
-            place,
+            position,
             name_place,
             name: name.share()?,
         })?;
@@ -96,12 +96,12 @@ pub fn new_name_step(
     }
     if *sign == LEFT_BRACKET {
         let element = nodes.put(Node::ClassType {
-            place: name_place,
+            position: name_place,
             name: name.share()?,
             argument: None,
             is_array: false,
         })?;
-        stack.push(Entry::LengthOpen { place, element })?;
+        stack.push(Entry::LengthOpen { position, element })?;
         return Ok(Some(Mode::Operand));
     }
     Ok(None)
@@ -113,15 +113,15 @@ pub fn new_element_step(
     nodes: &mut Nodes,
     stack: &mut Stack,
     view: &View,
-    place: Pos,
+    position: Pos,
     element: NodeId,
 ) -> Result<Option<Mode>, Memory>
-    ensures step { let awaited = new_element_step place element nodes.old.all stack.old (seen view.now) in
+    ensures step { let awaited = new_element_step position element nodes.old.all stack.old (seen view.now) in
         gives result nodes.new.all stack.new awaited ≡ awaited }
     ensures kept { nodes.new.kept ≡ nodes.old.kept }
 {
     if let View::Sign(LEFT_BRACKET, _) = view {
-        stack.push(Entry::LengthOpen { place, element })?;
+        stack.push(Entry::LengthOpen { position, element })?;
         return Ok(Some(Mode::Operand));
     }
     Ok(None)
@@ -138,10 +138,10 @@ pub fn argument_start(
         gives result nodes.new.all stack.new awaited ≡ awaited }
     ensures kept { nodes.new.kept ≡ nodes.old.kept }
 {
-    if let View::Text(bytes, place) = view {
+    if let View::Text(bytes, position) = view {
         let text = nodes.text(bytes)?;
         let id = nodes.put(Node::Text {
-            place: *place,
+            position: *position,
             text,
         })?;
         return Ok(Some(Mode::TextRead { id }));

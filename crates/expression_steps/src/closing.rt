@@ -41,22 +41,22 @@ pub fn assigned(
                 Ok(None)
             }
         }
-        Entry::ForHead { place } => {
+        Entry::ForHead { position } => {
             if *sign == SEMICOLON {
-                stack.push(Entry::ForTest { place, first: id })?;
+                stack.push(Entry::ForTest { position, first: id })?;
                 Ok(Some(Mode::Operand))
             } else {
                 Ok(None)
             }
         }
         Entry::ForStep {
-            place,
+            position,
             first,
             condition,
         } => {
             if *sign == RIGHT_PARENTHESIS {
                 stack.push(Entry::ForBody {
-                    place,
+                    position,
                     first,
                     condition,
                     step: id,
@@ -86,45 +86,45 @@ pub fn arguments_ended(
     };
     match entry {
         Entry::CallOpen {
-            place,
+            position,
             name,
             object,
         } => {
             let id = nodes.put(Node::Call {
-                place,
+                position,
                 name,
                 object,
                 arguments: list,
             })?;
             Ok(Some(Mode::PostDone {
                 kind: PostKind::Invocation,
-                place,
+                position,
                 id,
             }))
         }
         Entry::NewOpen {
-            place,
+            position,
             name_place,
             name,
         } => {
             let id = nodes.put(Node::New {
-                place,
+                position,
                 name_place,
                 name,
                 arguments: list,
             })?;
             Ok(Some(Mode::PostDone {
                 kind: PostKind::Invocation,
-                place,
+                position,
                 id,
             }))
         }
-        Entry::SuperCallOpen { block_place, place } => super_call_ended(
+        Entry::SuperCallOpen { block_place, position } => super_call_ended(
             nodes,
             stack,
             list,
             block_place,
-            place,
+            position,
         ),
         _other => Ok(None),
     }
@@ -137,9 +137,9 @@ pub fn super_call_ended(
     stack: &mut Stack,
     list: NodeList,
     block_place: Pos,
-    place: Pos,
+    position: Pos,
 ) -> Result<Option<Mode>, Memory>
-    ensures step { let awaited = arguments_ended list nodes.old.all (SuperCallOpen block_place place ∷ stack.old) in
+    ensures step { let awaited = arguments_ended list nodes.old.all (SuperCallOpen block_place position ∷ stack.old) in
         gives result nodes.new.all stack.new awaited ≡ awaited }
     ensures kept { nodes.new.kept ≡ nodes.old.kept }
 {
@@ -149,18 +149,18 @@ pub fn super_call_ended(
     match entry {
         Entry::ConstructorBody {
             flags,
-            place: body_place,
+            position: body_place,
             name,
             parameters,
             super_call: _,
         } => {
             let id = nodes.put(Node::SuperCall {
-                place,
+                position,
                 arguments: list,
             })?;
             stack.push(Entry::ConstructorBody {
                 flags,
-                place: body_place,
+                position: body_place,
                 name,
                 parameters,
                 super_call: Some(id),
@@ -206,15 +206,15 @@ pub fn target_assigned(
     stack: &mut Stack,
     kind: PostKind,
     id: NodeId,
-    place: Pos,
+    position: Pos,
 ) -> Result<Option<Mode>, Memory>
-    ensures step { let awaited = target_assigned kind id place nodes.old.all stack.old in
+    ensures step { let awaited = target_assigned kind id position nodes.old.all stack.old in
         gives result nodes.new.all stack.new awaited ≡ awaited }
     ensures kept { nodes.new.kept ≡ nodes.old.kept }
 {
     match kind {
         PostKind::Variable => {
-            stack.push(Entry::AssignValue { place, target: id })?;
+            stack.push(Entry::AssignValue { position, target: id })?;
             Ok(Some(Mode::Operand))
         }
         _ => Ok(None),
@@ -227,10 +227,10 @@ pub fn target_alone(
     nodes: &mut Nodes,
     stack: &mut Stack,
     kind: PostKind,
-    place: Pos,
+    position: Pos,
     id: NodeId,
 ) -> Result<Option<Mode>, Memory>
-    ensures step { let awaited = target_alone kind place id nodes.old.all stack.old in
+    ensures step { let awaited = target_alone kind position id nodes.old.all stack.old in
         gives result nodes.new.all stack.new awaited ≡ awaited }
     ensures kept { nodes.new.kept ≡ nodes.old.kept }
 {
@@ -243,7 +243,7 @@ pub fn target_alone(
     match entry {
         Entry::Simple => {
             let id = nodes.put(Node::ExpressionStatement {
-                place,
+                position,
                 expression: id,
             })?;
             Ok(Some(Mode::StatementEnd { id }))
@@ -259,10 +259,10 @@ pub fn target_ended(
     stack: &mut Stack,
     view: &View,
     kind: PostKind,
-    place: Pos,
+    position: Pos,
     id: NodeId,
 ) -> Result<Option<Mode>, Memory>
-    ensures step { let awaited = target_ended kind place id nodes.old.all stack.old (seen view.now) in
+    ensures step { let awaited = target_ended kind position id nodes.old.all stack.old (seen view.now) in
         gives result nodes.new.all stack.new awaited ≡ awaited }
     ensures kept { nodes.new.kept ≡ nodes.old.kept }
 {
@@ -273,7 +273,7 @@ pub fn target_ended(
         return target_assigned(nodes, stack, kind, id, *sign_place);
     }
     if *sign == SEMICOLON {
-        return target_alone(nodes, stack, kind, place, id);
+        return target_alone(nodes, stack, kind, position, id);
     }
     Ok(None)
 }
@@ -284,25 +284,25 @@ pub fn compound_ended(
     nodes: &mut Nodes,
     stack: &mut Stack,
     view: &View,
-    place: Pos,
+    position: Pos,
     operator: u8,
     target: NodeId,
     left: NodeId,
     id: NodeId,
 ) -> Result<Option<Mode>, Memory>
-    ensures step { let awaited = ended (CompoundValue place operator target left) id nodes.old.all stack.old
+    ensures step { let awaited = ended (CompoundValue position operator target left) id nodes.old.all stack.old
         (seen view.now) in gives result nodes.new.all stack.new awaited ≡ awaited }
     ensures kept { nodes.new.kept ≡ nodes.old.kept }
 {
-    let inner = nodes.put(Node::Parenthesized { place, inner: id })?;
+    let inner = nodes.put(Node::Parenthesized { position, inner: id })?;
     let value = nodes.put(Node::Binary {
-        place,
+        position,
         operator,
         left,
         right: inner,
     })?;
     let id = nodes.put(Node::Assign {
-        place,
+        position,
         target,
         value,
     })?;
@@ -315,10 +315,10 @@ pub fn group_ended(
     nodes: &mut Nodes,
     stack: &mut Stack,
     view: &View,
-    place: Pos,
+    position: Pos,
     id: NodeId,
 ) -> Result<Option<Mode>, Memory>
-    ensures step { let awaited = ended (GroupOpen place) id nodes.old.all stack.old (seen view.now) in
+    ensures step { let awaited = ended (GroupOpen position) id nodes.old.all stack.old (seen view.now) in
         gives result nodes.new.all stack.new awaited ≡ awaited }
     ensures kept { nodes.new.kept ≡ nodes.old.kept }
 {
@@ -328,10 +328,10 @@ pub fn group_ended(
     if *sign != RIGHT_PARENTHESIS {
         return Ok(None);
     }
-    let id = nodes.put(Node::Parenthesized { place, inner: id })?;
+    let id = nodes.put(Node::Parenthesized { position, inner: id })?;
     Ok(Some(Mode::PostDone {
         kind: PostKind::Value,
-        place,
+        position,
         id,
     }))
 }
@@ -342,11 +342,11 @@ pub fn index_ended(
     nodes: &mut Nodes,
     stack: &mut Stack,
     view: &View,
-    place: Pos,
+    position: Pos,
     array: NodeId,
     id: NodeId,
 ) -> Result<Option<Mode>, Memory>
-    ensures step { let awaited = ended (IndexOpen place array) id nodes.old.all stack.old (seen view.now) in
+    ensures step { let awaited = ended (IndexOpen position array) id nodes.old.all stack.old (seen view.now) in
         gives result nodes.new.all stack.new awaited ≡ awaited }
     ensures kept { nodes.new.kept ≡ nodes.old.kept }
 {
@@ -357,13 +357,13 @@ pub fn index_ended(
         return Ok(None);
     }
     let id = nodes.put(Node::Element {
-        place,
+        position,
         array,
         index: id,
     })?;
     Ok(Some(Mode::PostDone {
         kind: PostKind::Variable,
-        place,
+        position,
         id,
     }))
 }
@@ -374,11 +374,11 @@ pub fn length_ended(
     nodes: &mut Nodes,
     stack: &mut Stack,
     view: &View,
-    place: Pos,
+    position: Pos,
     element: NodeId,
     id: NodeId,
 ) -> Result<Option<Mode>, Memory>
-    ensures step { let awaited = ended (LengthOpen place element) id nodes.old.all stack.old (seen view.now) in
+    ensures step { let awaited = ended (LengthOpen position element) id nodes.old.all stack.old (seen view.now) in
         gives result nodes.new.all stack.new awaited ≡ awaited }
     ensures kept { nodes.new.kept ≡ nodes.old.kept }
 {
@@ -389,13 +389,13 @@ pub fn length_ended(
         return Ok(None);
     }
     let id = nodes.put(Node::NewArray {
-        place,
+        position,
         element,
         length: id,
     })?;
     Ok(Some(Mode::PostDone {
         kind: PostKind::NewArray,
-        place,
+        position,
         id,
     }))
 }
@@ -406,11 +406,11 @@ pub fn for_test_ended(
     nodes: &mut Nodes,
     stack: &mut Stack,
     view: &View,
-    place: Pos,
+    position: Pos,
     first: NodeId,
     id: NodeId,
 ) -> Result<Option<Mode>, Memory>
-    ensures step { let awaited = ended (ForTest place first) id nodes.old.all stack.old (seen view.now) in
+    ensures step { let awaited = ended (ForTest position first) id nodes.old.all stack.old (seen view.now) in
         gives result nodes.new.all stack.new awaited ≡ awaited }
     ensures kept { nodes.new.kept ≡ nodes.old.kept }
 {
@@ -421,7 +421,7 @@ pub fn for_test_ended(
         return Ok(None);
     }
     stack.push(Entry::ForStep {
-        place,
+        position,
         first,
         condition: id,
     })?;
@@ -434,10 +434,10 @@ pub fn if_test_ended(
     nodes: &mut Nodes,
     stack: &mut Stack,
     view: &View,
-    place: Pos,
+    position: Pos,
     id: NodeId,
 ) -> Result<Option<Mode>, Memory>
-    ensures step { let awaited = ended (IfTest place) id nodes.old.all stack.old (seen view.now) in
+    ensures step { let awaited = ended (IfTest position) id nodes.old.all stack.old (seen view.now) in
         gives result nodes.new.all stack.new awaited ≡ awaited }
     ensures kept { nodes.new.kept ≡ nodes.old.kept }
 {
@@ -448,7 +448,7 @@ pub fn if_test_ended(
         return Ok(None);
     }
     stack.push(Entry::IfThen {
-        place,
+        position,
         condition: id,
     })?;
     Ok(Some(Mode::StatementStart))
@@ -460,10 +460,10 @@ pub fn while_test_ended(
     nodes: &mut Nodes,
     stack: &mut Stack,
     view: &View,
-    place: Pos,
+    position: Pos,
     id: NodeId,
 ) -> Result<Option<Mode>, Memory>
-    ensures step { let awaited = ended (WhileTest place) id nodes.old.all stack.old (seen view.now) in
+    ensures step { let awaited = ended (WhileTest position) id nodes.old.all stack.old (seen view.now) in
         gives result nodes.new.all stack.new awaited ≡ awaited }
     ensures kept { nodes.new.kept ≡ nodes.old.kept }
 {
@@ -474,7 +474,7 @@ pub fn while_test_ended(
         return Ok(None);
     }
     stack.push(Entry::WhileBody {
-        place,
+        position,
         condition: id,
     })?;
     Ok(Some(Mode::StatementStart))
@@ -486,10 +486,10 @@ pub fn return_ended(
     nodes: &mut Nodes,
     stack: &mut Stack,
     view: &View,
-    place: Pos,
+    position: Pos,
     id: NodeId,
 ) -> Result<Option<Mode>, Memory>
-    ensures step { let awaited = ended (ReturnValue place) id nodes.old.all stack.old (seen view.now) in
+    ensures step { let awaited = ended (ReturnValue position) id nodes.old.all stack.old (seen view.now) in
         gives result nodes.new.all stack.new awaited ≡ awaited }
     ensures kept { nodes.new.kept ≡ nodes.old.kept }
 {
@@ -500,7 +500,7 @@ pub fn return_ended(
         return Ok(None);
     }
     let id = nodes.put(Node::Return {
-        place,
+        position,
         value: Some(id),
     })?;
     Ok(Some(Mode::StatementEnd { id }))
@@ -512,16 +512,16 @@ pub fn value_ended(
     nodes: &mut Nodes,
     stack: &mut Stack,
     view: &View,
-    place: Pos,
+    position: Pos,
     target: NodeId,
     id: NodeId,
 ) -> Result<Option<Mode>, Memory>
-    ensures step { let awaited = ended (AssignValue place target) id nodes.old.all stack.old (seen view.now) in
+    ensures step { let awaited = ended (AssignValue position target) id nodes.old.all stack.old (seen view.now) in
         gives result nodes.new.all stack.new awaited ≡ awaited }
     ensures kept { nodes.new.kept ≡ nodes.old.kept }
 {
     let id = nodes.put(Node::Assign {
-        place,
+        position,
         target,
         value: id,
     })?;
@@ -534,19 +534,19 @@ pub fn local_value_ended(
     nodes: &mut Nodes,
     stack: &mut Stack,
     view: &View,
-    place: Pos,
+    position: Pos,
     name_place: Pos,
     name: SharedName,
     flags: Option<NodeId>,
     declared_type: NodeId,
     id: NodeId,
 ) -> Result<Option<Mode>, Memory>
-    ensures step { let awaited = ended (LocalValue place name_place name flags declared_type) id nodes.old.all stack.old
+    ensures step { let awaited = ended (LocalValue position name_place name flags declared_type) id nodes.old.all stack.old
         (seen view.now) in gives result nodes.new.all stack.new awaited ≡ awaited }
     ensures kept { nodes.new.kept ≡ nodes.old.kept }
 {
     let id = nodes.put(Node::LocalWithValue {
-        place,
+        position,
         name_place,
         name,
         flags,
@@ -570,21 +570,21 @@ pub fn ended(
     ensures kept { nodes.new.kept ≡ nodes.old.kept }
 {
     match entry {
-        Entry::GroupOpen { place } => group_ended(nodes, stack, view, place, id),
-        Entry::IndexOpen { place, array } => index_ended(nodes, stack, view, place, array, id),
-        Entry::LengthOpen { place, element } => length_ended(
-            nodes, stack, view, place, element, id,
+        Entry::GroupOpen { position } => group_ended(nodes, stack, view, position, id),
+        Entry::IndexOpen { position, array } => index_ended(nodes, stack, view, position, array, id),
+        Entry::LengthOpen { position, element } => length_ended(
+            nodes, stack, view, position, element, id,
         ),
         Entry::ArgumentsOpen { list } => argument_ended(nodes, stack, view, id, list),
-        Entry::AssignValue { place, target } => value_ended(nodes, stack, view, place, target, id),
+        Entry::AssignValue { position, target } => value_ended(nodes, stack, view, position, target, id),
         Entry::CompoundValue {
-            place,
+            position,
             operator,
             target,
             left,
-        } => compound_ended(nodes, stack, view, place, operator, target, left, id),
+        } => compound_ended(nodes, stack, view, position, operator, target, left, id),
         Entry::LocalValue {
-            place,
+            position,
             name_place,
             name,
             flags,
@@ -593,17 +593,17 @@ pub fn ended(
             nodes,
             stack,
             view,
-            place,
+            position,
             name_place,
             name,
             flags,
             declared_type,
             id,
         ),
-        Entry::ForTest { place, first } => for_test_ended(nodes, stack, view, place, first, id),
-        Entry::IfTest { place } => if_test_ended(nodes, stack, view, place, id),
-        Entry::WhileTest { place } => while_test_ended(nodes, stack, view, place, id),
-        Entry::ReturnValue { place } => return_ended(nodes, stack, view, place, id),
+        Entry::ForTest { position, first } => for_test_ended(nodes, stack, view, position, first, id),
+        Entry::IfTest { position } => if_test_ended(nodes, stack, view, position, id),
+        Entry::WhileTest { position } => while_test_ended(nodes, stack, view, position, id),
+        Entry::ReturnValue { position } => return_ended(nodes, stack, view, position, id),
         _other => Ok(None),
     }
 }
@@ -620,11 +620,11 @@ pub fn shifted(
         gives result nodes.new.all stack.new awaited ≡ awaited }
     ensures kept { nodes.new.kept ≡ nodes.old.kept }
 {
-    let View::Sign(operator, place) = view else {
+    let View::Sign(operator, position) = view else {
         return Ok(None);
     };
     stack.push(Entry::BinaryLeft {
-        place: *place,
+        position: *position,
         operator: *operator,
         left: id,
     })?;

@@ -104,26 +104,26 @@ pub fn operation(entry: &Entry, id: NodeId) -> Result<Option<Node>, Memory>
 {
     match entry {
         Entry::BinaryLeft {
-            place,
+            position,
             operator,
             left,
         } => Ok(Some(Node::Binary {
-            place: *place,
+            position: *position,
             operator: *operator,
             left: *left,
             right: id,
         })),
-        Entry::UnaryOpen { place, operator } => Ok(Some(Node::Unary {
-            place: *place,
+        Entry::UnaryOpen { position, operator } => Ok(Some(Node::Unary {
+            position: *position,
             operator: *operator,
             operand: id,
         })),
         Entry::CastOpen {
-            place,
+            position,
             name_place,
             name,
         } => Ok(Some(Node::Cast {
-            place: *place,
+            position: *position,
             name_place: *name_place,
             name: name.share()?,
             operand: id,

@@ -25,15 +25,15 @@ pub fn post_ended(
     stack: &mut Stack,
     view: &View,
     kind: PostKind,
-    place: Pos,
+    position: Pos,
     id: NodeId,
 ) -> Result<Option<Mode>, Memory>
-    ensures step { let awaited = post_ended kind place id nodes.old.all stack.old (seen view.now) in
+    ensures step { let awaited = post_ended kind position id nodes.old.all stack.old (seen view.now) in
         gives result nodes.new.all stack.new awaited ≡ awaited }
     ensures kept { nodes.new.kept ≡ nodes.old.kept }
 {
     if stack.pop_target() {
-        return target_ended(nodes, stack, view, kind, place, id);
+        return target_ended(nodes, stack, view, kind, position, id);
     }
     closed(nodes, stack, view, id)
 }
@@ -45,10 +45,10 @@ pub fn post_step(
     stack: &mut Stack,
     view: &View,
     kind: PostKind,
-    place: Pos,
+    position: Pos,
     id: NodeId,
 ) -> Result<Option<Mode>, Memory>
-    ensures step { let awaited = post_step kind place id nodes.old.all stack.old (seen view.now) in
+    ensures step { let awaited = post_step kind position id nodes.old.all stack.old (seen view.now) in
         gives result nodes.new.all stack.new awaited ≡ awaited }
     ensures kept { nodes.new.kept ≡ nodes.old.kept }
 {
@@ -58,14 +58,14 @@ pub fn post_step(
         }
         if *sign == LEFT_BRACKET && indexable(kind) {
             stack.push(Entry::IndexOpen {
-                place: *sign_place,
+                position: *sign_place,
                 array: id,
             })?;
             return Ok(Some(Mode::Operand));
         }
-        return post_ended(nodes, stack, view, kind, place, id);
+        return post_ended(nodes, stack, view, kind, position, id);
     }
-    post_ended(nodes, stack, view, kind, place, id)
+    post_ended(nodes, stack, view, kind, position, id)
 }
 
 /// Behind a dot.
@@ -80,12 +80,12 @@ pub fn dot_step(
         gives result nodes.new.all stack.new awaited ≡ awaited }
     ensures kept { nodes.new.kept ≡ nodes.old.kept }
 {
-    let View::Name(name, place) = view else {
+    let View::Name(name, position) = view else {
         return Ok(None);
     };
     Ok(Some(Mode::DotName {
         object,
-        place: *place,
+        position: *position,
         name: name.share()?,
     }))
 }
@@ -97,16 +97,16 @@ pub fn dot_name_step(
     stack: &mut Stack,
     view: &View,
     object: NodeId,
-    place: Pos,
+    position: Pos,
     name: &SharedName,
 ) -> Result<Option<Mode>, Memory>
-    ensures step { let awaited = dot_name_step object place name.now nodes.old.all stack.old (seen view.now) in
+    ensures step { let awaited = dot_name_step object position name.now nodes.old.all stack.old (seen view.now) in
         gives result nodes.new.all stack.new awaited ≡ awaited }
     ensures kept { nodes.new.kept ≡ nodes.old.kept }
 {
     if let View::Sign(LEFT_PARENTHESIS, _) = view {
         stack.push(Entry::CallOpen {
-            place,
+            position,
             name: name.share()?,
             object: Some(object),
         })?;
@@ -116,11 +116,11 @@ pub fn dot_name_step(
         return Ok(Some(Mode::ArgumentFirst));
     }
     let id = nodes.put(Node::FieldAccess {
-        place,
+        position,
         name: name.share()?,
         object,
     })?;
-    post_step(nodes, stack, view, PostKind::Variable, place, id)
+    post_step(nodes, stack, view, PostKind::Variable, position, id)
 }
 
 /// Behind a name and the sign of a compound assignment.
@@ -128,25 +128,25 @@ pub fn dot_name_step(
 pub fn compound_step(
     nodes: &mut Nodes,
     stack: &mut Stack,
-    place: Pos,
+    position: Pos,
     name: &SharedName,
     sign_place: Pos,
     operator: u8,
 ) -> Result<Option<Mode>, Memory>
-    ensures step { let awaited = compound_step place name.now sign_place operator nodes.old.all stack.old in
+    ensures step { let awaited = compound_step position name.now sign_place operator nodes.old.all stack.old in
         gives result nodes.new.all stack.new awaited ≡ awaited }
     ensures kept { nodes.new.kept ≡ nodes.old.kept }
 {
     let target = nodes.put(Node::SimpleName {
-        place,
+        position,
         name: name.share()?,
     })?;
     let left = nodes.put(Node::SimpleName {
-        place,
+        position,
         name: name.share()?,
     })?;
     stack.push(Entry::CompoundValue {
-        place: sign_place,
+        position: sign_place,
         operator,
         target,
         left,
@@ -159,36 +159,36 @@ pub fn compound_step(
 pub fn stepping_step(
     nodes: &mut Nodes,
     stack: &mut Stack,
-    place: Pos,
+    position: Pos,
     name: &SharedName,
     sign_place: Pos,
     operator: u8,
 ) -> Result<Option<Mode>, Memory>
-    ensures step { let awaited = stepping_step place name.now sign_place operator nodes.old.all stack.old in
+    ensures step { let awaited = stepping_step position name.now sign_place operator nodes.old.all stack.old in
         gives result nodes.new.all stack.new awaited ≡ awaited }
     ensures kept { nodes.new.kept ≡ nodes.old.kept }
 {
     let target = nodes.put(Node::SimpleName {
-        place,
+        position,
         name: name.share()?,
     })?;
     let left = nodes.put(Node::SimpleName {
-        place,
+        position,
         name: name.share()?,
     })?;
     let right = nodes.put(Node::Number {
-        place: sign_place,
+        position: sign_place,
         value: 1,
         is_negative: false,
     })?;
     let value = nodes.put(Node::Binary {
-        place: sign_place,
+        position: sign_place,
         operator,
         left,
         right,
     })?;
     let id = nodes.put(Node::Assign {
-        place: sign_place,
+        position: sign_place,
         target,
         value,
     })?;
@@ -200,28 +200,28 @@ pub fn stepping_step(
 pub fn target_name_step(
     nodes: &mut Nodes,
     stack: &mut Stack,
-    place: Pos,
+    position: Pos,
     name: &SharedName,
     sign: u8,
     sign_place: Pos,
 ) -> Result<Option<Mode>, Memory>
-    ensures step { let awaited = target_name_step place name.now nodes.old.all stack.old sign sign_place in
+    ensures step { let awaited = target_name_step position name.now nodes.old.all stack.old sign sign_place in
         gives result nodes.new.all stack.new awaited ≡ awaited }
     ensures kept { nodes.new.kept ≡ nodes.old.kept }
 {
     if let Some(operator) = compound(sign) {
-        return compound_step(nodes, stack, place, name, sign_place, operator);
+        return compound_step(nodes, stack, position, name, sign_place, operator);
     }
     if let Some(operator) = stepping(sign) {
-        return stepping_step(nodes, stack, place, name, sign_place, operator);
+        return stepping_step(nodes, stack, position, name, sign_place, operator);
     }
     stack.push(Entry::Target)?;
     let id = nodes.put(Node::SimpleName {
-        place,
+        position,
         name: name.share()?,
     })?;
     let view = View::Sign(sign, sign_place);
-    post_step(nodes, stack, &view, PostKind::Variable, place, id)
+    post_step(nodes, stack, &view, PostKind::Variable, position, id)
 }
 
 /// Behind a name and a sign, which is the lexeme.
@@ -229,24 +229,24 @@ pub fn target_name_step(
 pub fn name_sign_step(
     nodes: &mut Nodes,
     stack: &mut Stack,
-    place: Pos,
+    position: Pos,
     name: &SharedName,
     sign: u8,
     sign_place: Pos,
 ) -> Result<Option<Mode>, Memory>
-    ensures step { let awaited = name_sign_step place name.now nodes.old.all stack.old sign sign_place in
+    ensures step { let awaited = name_sign_step position name.now nodes.old.all stack.old sign sign_place in
         gives result nodes.new.all stack.new awaited ≡ awaited }
     ensures kept { nodes.new.kept ≡ nodes.old.kept }
 {
     if stack.pop_target() {
-        return target_name_step(nodes, stack, place, name, sign, sign_place);
+        return target_name_step(nodes, stack, position, name, sign, sign_place);
     }
     let id = nodes.put(Node::SimpleName {
-        place,
+        position,
         name: name.share()?,
     })?;
     let view = View::Sign(sign, sign_place);
-    post_step(nodes, stack, &view, PostKind::Variable, place, id)
+    post_step(nodes, stack, &view, PostKind::Variable, position, id)
 }
 
 /// Behind a name.
@@ -255,17 +255,17 @@ pub fn name_step(
     nodes: &mut Nodes,
     stack: &mut Stack,
     view: &View,
-    place: Pos,
+    position: Pos,
     name: &SharedName,
 ) -> Result<Option<Mode>, Memory>
-    ensures step { let awaited = name_step place name.now nodes.old.all stack.old (seen view.now) in
+    ensures step { let awaited = name_step position name.now nodes.old.all stack.old (seen view.now) in
         gives result nodes.new.all stack.new awaited ≡ awaited }
     ensures kept { nodes.new.kept ≡ nodes.old.kept }
 {
     if let View::Sign(sign, sign_place) = view {
         if *sign == LEFT_PARENTHESIS {
             stack.push(Entry::CallOpen {
-                place,
+                position,
                 name: name.share()?,
                 object: None,
             })?;
@@ -274,13 +274,13 @@ pub fn name_step(
             })?;
             return Ok(Some(Mode::ArgumentFirst));
         }
-        return name_sign_step(nodes, stack, place, name, *sign, *sign_place);
+        return name_sign_step(nodes, stack, position, name, *sign, *sign_place);
     }
     let id = nodes.put(Node::SimpleName {
-        place,
+        position,
         name: name.share()?,
     })?;
-    post_step(nodes, stack, view, PostKind::Variable, place, id)
+    post_step(nodes, stack, view, PostKind::Variable, position, id)
 }
 
 /// A word where an operand is due.
@@ -289,26 +289,26 @@ pub fn operand_word(
     nodes: &mut Nodes,
     stack: &mut Stack,
     word: u8,
-    place: Pos,
+    position: Pos,
 ) -> Result<Option<Mode>, Memory>
-    ensures step { let awaited = operand_word word place nodes.old.all stack.old in
+    ensures step { let awaited = operand_word word position nodes.old.all stack.old in
         gives result nodes.new.all stack.new awaited ≡ awaited }
     ensures kept { nodes.new.kept ≡ nodes.old.kept }
 {
     if word == NEW {
-        return Ok(Some(Mode::NewStart { place }));
+        return Ok(Some(Mode::NewStart { position }));
     }
     let node = match word {
-        TRUE => Node::True { place },
-        FALSE => Node::False { place },
-        NULL => Node::Null { place },
-        THIS => Node::This { place },
+        TRUE => Node::True { position },
+        FALSE => Node::False { position },
+        NULL => Node::Null { position },
+        THIS => Node::This { position },
         _ => return Ok(None),
     };
     let id = nodes.put(node)?;
     Ok(Some(Mode::PostDone {
         kind: PostKind::Value,
-        place,
+        position,
         id,
     }))
 }
@@ -319,21 +319,21 @@ pub fn operand_sign(
     nodes: &mut Nodes,
     stack: &mut Stack,
     sign: u8,
-    place: Pos,
+    position: Pos,
 ) -> Result<Option<Mode>, Memory>
-    ensures step { let awaited = operand_sign sign place nodes.old.all stack.old in
+    ensures step { let awaited = operand_sign sign position nodes.old.all stack.old in
         gives result nodes.new.all stack.new awaited ≡ awaited }
     ensures kept { nodes.new.kept ≡ nodes.old.kept }
 {
     if sign == LEFT_PARENTHESIS {
-        return Ok(Some(Mode::Opened { place }));
+        return Ok(Some(Mode::Opened { position }));
     }
     if sign == MINUS {
-        return Ok(Some(Mode::Minus { place }));
+        return Ok(Some(Mode::Minus { position }));
     }
     if sign == NOT || sign == TILDE {
         stack.push(Entry::UnaryOpen {
-            place,
+            position,
             operator: sign,
         })?;
         return Ok(Some(Mode::Operand));
@@ -353,27 +353,27 @@ pub fn operand_start(
     ensures kept { nodes.new.kept ≡ nodes.old.kept }
 {
     match view {
-        View::Name(name, place) => Ok(Some(Mode::NameRead {
-            place: *place,
+        View::Name(name, position) => Ok(Some(Mode::NameRead {
+            position: *position,
             name: name.share()?,
         })),
-        View::Word(word, place) => operand_word(nodes, stack, *word, *place),
-        View::Number(value, place) => {
+        View::Word(word, position) => operand_word(nodes, stack, *word, *position),
+        View::Number(value, position) => {
             if *value == MINIMUM {
                 return Ok(None);
             }
             let id = nodes.put(Node::Number {
-                place: *place,
+                position: *position,
                 value: *value,
                 is_negative: false,
             })?;
             Ok(Some(Mode::PostDone {
                 kind: PostKind::Value,
-                place: *place,
+                position: *position,
                 id,
             }))
         }
-        View::Sign(sign, place) => operand_sign(nodes, stack, *sign, *place),
+        View::Sign(sign, position) => operand_sign(nodes, stack, *sign, *position),
         View::Text(_, _) | View::End(_) => Ok(None),
     }
 }
@@ -384,26 +384,26 @@ pub fn minus_step(
     nodes: &mut Nodes,
     stack: &mut Stack,
     view: &View,
-    place: Pos,
+    position: Pos,
 ) -> Result<Option<Mode>, Memory>
-    ensures step { let awaited = minus_step place nodes.old.all stack.old (seen view.now) in
+    ensures step { let awaited = minus_step position nodes.old.all stack.old (seen view.now) in
         gives result nodes.new.all stack.new awaited ≡ awaited }
     ensures kept { nodes.new.kept ≡ nodes.old.kept }
 {
     if let View::Number(MINIMUM, _) = view {
         let id = nodes.put(Node::Number {
-            place,
+            position,
             value: MINIMUM,
             is_negative: true,
         })?;
         return Ok(Some(Mode::PostDone {
             kind: PostKind::Value,
-            place,
+            position,
             id,
         }));
     }
     stack.push(Entry::UnaryOpen {
-        place,
+        position,
         operator: MINUS,
     })?;
     operand_start(nodes, stack, view)
@@ -415,20 +415,20 @@ pub fn opened_step(
     nodes: &mut Nodes,
     stack: &mut Stack,
     view: &View,
-    place: Pos,
+    position: Pos,
 ) -> Result<Option<Mode>, Memory>
-    ensures step { let awaited = opened_step place nodes.old.all stack.old (seen view.now) in
+    ensures step { let awaited = opened_step position nodes.old.all stack.old (seen view.now) in
         gives result nodes.new.all stack.new awaited ≡ awaited }
     ensures kept { nodes.new.kept ≡ nodes.old.kept }
 {
     if let View::Name(name, name_place) = view {
         return Ok(Some(Mode::OpenedName {
-            place,
+            position,
             name_place: *name_place,
             name: name.share()?,
         }));
     }
-    stack.push(Entry::GroupOpen { place })?;
+    stack.push(Entry::GroupOpen { position })?;
     operand_start(nodes, stack, view)
 }
 
@@ -438,22 +438,22 @@ pub fn opened_name_step(
     nodes: &mut Nodes,
     stack: &mut Stack,
     view: &View,
-    place: Pos,
+    position: Pos,
     name_place: Pos,
     name: &SharedName,
 ) -> Result<Option<Mode>, Memory>
-    ensures step { let awaited = opened_name_step place name_place name.now nodes.old.all stack.old (seen view.now) in
+    ensures step { let awaited = opened_name_step position name_place name.now nodes.old.all stack.old (seen view.now) in
         gives result nodes.new.all stack.new awaited ≡ awaited }
     ensures kept { nodes.new.kept ≡ nodes.old.kept }
 {
     if let View::Sign(RIGHT_PARENTHESIS, _) = view {
         return Ok(Some(Mode::ClosedName {
-            place,
+            position,
             name_place,
             name: name.share()?,
         }));
     }
-    stack.push(Entry::GroupOpen { place })?;
+    stack.push(Entry::GroupOpen { position })?;
     name_step(nodes, stack, view, name_place, name)
 }
 
@@ -463,26 +463,26 @@ pub fn closed_name_step(
     nodes: &mut Nodes,
     stack: &mut Stack,
     view: &View,
-    place: Pos,
+    position: Pos,
     name_place: Pos,
     name: &SharedName,
 ) -> Result<Option<Mode>, Memory>
-    ensures step { let awaited = closed_name_step place name_place name.now nodes.old.all stack.old (seen view.now) in
+    ensures step { let awaited = closed_name_step position name_place name.now nodes.old.all stack.old (seen view.now) in
         gives result nodes.new.all stack.new awaited ≡ awaited }
     ensures kept { nodes.new.kept ≡ nodes.old.kept }
 {
     if is_unary1_start(view) && !stack.is_target() {
         stack.push(Entry::CastOpen {
-            place,
+            position,
             name_place,
             name: name.share()?,
         })?;
         return operand_start(nodes, stack, view);
     }
     let inner = nodes.put(Node::SimpleName {
-        place: name_place,
+        position: name_place,
         name: name.share()?,
     })?;
-    let id = nodes.put(Node::Parenthesized { place, inner })?;
-    post_step(nodes, stack, view, PostKind::Value, place, id)
+    let id = nodes.put(Node::Parenthesized { position, inner })?;
+    post_step(nodes, stack, view, PostKind::Value, position, id)
 }

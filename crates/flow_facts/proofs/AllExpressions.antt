@@ -45,7 +45,7 @@ module _ (forest : Forest) (accepted : IsAccepted forest) (whole : IsForest fore
   no_type : (id : ℕ) (node : Node) → is_expression node ≡ false →
       (type_of p types id node ≡ None) ⊎ (type_of p types id node ≡ Some Label)
   unfolding type_of is_expression
-  no_type id (Text place text) e = inr refl
+  no_type id (Text position text) e = inr refl
   no_type id (Binary a b c d) e = absurd (true≢false e)
   no_type id (Unary a b c) e = absurd (true≢false e)
   no_type id (Cast a b c d) e = absurd (true≢false e)
@@ -85,24 +85,24 @@ module _ (forest : Forest) (accepted : IsAccepted forest) (whole : IsForest fore
       CallFact code b c sig id object arguments o ⊎
       (StaticCallFact code b c sig id arguments o ⊎ BuiltinFact code b c sig id object arguments o)
 
-  calls : (b c : ℕ) (sig : Signature) (id : ℕ) (place : Pos) (name : List ℕ) (object : Option ℕ) (arguments : List ℕ)
-      (o : Option Kind) → IsBody p b c sig → slice_get forest.nodes id ≡ Some (Call place name object arguments) →
+  calls : (b c : ℕ) (sig : Signature) (id : ℕ) (position : Pos) (name : List ℕ) (object : Option ℕ) (arguments : List ℕ)
+      (o : Option Kind) → IsBody p b c sig → slice_get forest.nodes id ≡ Some (Call position name object arguments) →
       Inside p b c id → Judged p id o → CallCases b c sig id object arguments o
-  calls b c sig id place name object arguments o body there inside j = by_method v.method.method.builtin refl
+  calls b c sig id position name object arguments o body there inside j = by_method v.method.method.builtin refl
     where
       v : Invoked forest accepted whole sorted is_read id name object
-      v = invoked forest accepted whole sorted is_read id place name object arguments o there j
+      v = invoked forest accepted whole sorted is_read id position name object arguments o there j
 
       by_static : v.method.method.builtin ≡ None → (t : Bool) → v.method.method.declared.modifiers.is_static ≡ t →
           CallCases b c sig id object arguments o
       by_static n false s =
           inl
-          (call_fact forest accepted whole sorted is_read b c sig id place name object arguments o body there inside v n
+          (call_fact forest accepted whole sorted is_read b c sig id position name object arguments o body there inside v n
           s j)
       by_static n true s =
           inr
           (inl
-          (static_call_fact forest accepted whole sorted is_read b c sig id place name object arguments o body there
+          (static_call_fact forest accepted whole sorted is_read b c sig id position name object arguments o body there
           inside v n s j))
 
       by_method : (n : Option ℕ) → v.method.method.builtin ≡ n → CallCases b c sig id object arguments o
@@ -110,7 +110,7 @@ module _ (forest : Forest) (accepted : IsAccepted forest) (whole : IsForest fore
       by_method (Some k) n =
           inr
           (inr
-          (builtin_fact forest accepted whole sorted is_read b c sig id place name object arguments o k body there
+          (builtin_fact forest accepted whole sorted is_read b c sig id position name object arguments o k body there
           inside v n j))
 
   -- ---- all expressions
@@ -118,33 +118,33 @@ module _ (forest : Forest) (accepted : IsAccepted forest) (whole : IsForest fore
   by_node : (b c : ℕ) (sig : Signature) (id : ℕ) (node : Node) (o : Option Kind) → IsBody p b c sig → Inside p b c id →
       slice_get forest.nodes id ≡ Some node → Judged p id o → ExpressionFact code b c sig id node o
   unfolding ExpressionFact code_of is_expression
-  by_node b c sig id (Number place value is_negative) o body inside there j =
-      number_fact forest accepted whole sorted id place value is_negative o there j
-  by_node b c sig id (True place) o body inside there j = true_fact forest accepted whole sorted id place o there j
-  by_node b c sig id (False place) o body inside there j = false_fact forest accepted whole sorted id place o there j
-  by_node b c sig id (Null place) o body inside there j = null_fact forest accepted whole sorted id place o there j
-  by_node b c sig id (ThisNode place) o body inside there j =
-      this_fact forest accepted whole sorted b c id place o there inside j
-  by_node b c sig id (SimpleName place name) o body inside there j =
-      name_fact forest accepted whole sorted b c id place name o there inside j
-  by_node b c sig id (Parenthesized place inner) o body inside there j =
-      parenthesized_fact forest accepted whole sorted b c id inner place o there inside j
-  by_node b c sig id (FieldAccess place name object) o body inside there j =
-      access_fact forest accepted whole sorted b c id object place name o there inside j
-  by_node b c sig id (Element place array index) o body inside there j =
-      element_fact forest accepted whole sorted b c id array index place o there inside j
-  by_node b c sig id (Unary place operator operand) o body inside there j =
-      unary_fact forest accepted whole sorted is_read b c id operator operand place o there inside j
-  by_node b c sig id (Binary place operator left operand) o body inside there j =
-      binary_fact forest accepted whole sorted is_read b c id operator left operand place o there inside j
-  by_node b c sig id (New place name_place name arguments) o body inside there j =
-      new_fact forest accepted whole sorted is_read b c sig id place name_place name arguments o body there inside j
-  by_node b c sig id (NewArray place element size) o body inside there j =
-      new_array_fact forest accepted whole sorted b c sig id element size place o body there inside j
-  by_node b c sig id (Cast place name_place name operand) o body inside there j =
-      cast_fact forest accepted whole sorted b c id operand place name_place name o there inside j
-  by_node b c sig id (Call place name object arguments) o body inside there j =
-      calls b c sig id place name object arguments o body there inside j
+  by_node b c sig id (Number position value is_negative) o body inside there j =
+      number_fact forest accepted whole sorted id position value is_negative o there j
+  by_node b c sig id (True position) o body inside there j = true_fact forest accepted whole sorted id position o there j
+  by_node b c sig id (False position) o body inside there j = false_fact forest accepted whole sorted id position o there j
+  by_node b c sig id (Null position) o body inside there j = null_fact forest accepted whole sorted id position o there j
+  by_node b c sig id (ThisNode position) o body inside there j =
+      this_fact forest accepted whole sorted b c id position o there inside j
+  by_node b c sig id (SimpleName position name) o body inside there j =
+      name_fact forest accepted whole sorted b c id position name o there inside j
+  by_node b c sig id (Parenthesized position inner) o body inside there j =
+      parenthesized_fact forest accepted whole sorted b c id inner position o there inside j
+  by_node b c sig id (FieldAccess position name object) o body inside there j =
+      access_fact forest accepted whole sorted b c id object position name o there inside j
+  by_node b c sig id (Element position array index) o body inside there j =
+      element_fact forest accepted whole sorted b c id array index position o there inside j
+  by_node b c sig id (Unary position operator operand) o body inside there j =
+      unary_fact forest accepted whole sorted is_read b c id operator operand position o there inside j
+  by_node b c sig id (Binary position operator left operand) o body inside there j =
+      binary_fact forest accepted whole sorted is_read b c id operator left operand position o there inside j
+  by_node b c sig id (New position name_place name arguments) o body inside there j =
+      new_fact forest accepted whole sorted is_read b c sig id position name_place name arguments o body there inside j
+  by_node b c sig id (NewArray position element size) o body inside there j =
+      new_array_fact forest accepted whole sorted b c sig id element size position o body there inside j
+  by_node b c sig id (Cast position name_place name operand) o body inside there j =
+      cast_fact forest accepted whole sorted b c id operand position name_place name o there inside j
+  by_node b c sig id (Call position name object arguments) o body inside there j =
+      calls b c sig id position name object arguments o body there inside j
   by_node b c sig id _ o body inside there j = not_judged id _ o refl there j
 
 -- each expression of an accepted program has what the proofs about runs ask of it

@@ -143,13 +143,13 @@ module _ (forest : Forest) (accepted : IsAccepted forest) (whole : IsForest fore
     abbrev code : Code
     code = code_of forest
 
-    pub element_fact : (b c id array index : ℕ) (place : Pos) (o : Option Kind) →
-        slice_get forest.nodes id ≡ Some (Element place array index) → Inside p b c id → Judged p id o →
+    pub element_fact : (b c id array index : ℕ) (position : Pos) (o : Option Kind) →
+        slice_get forest.nodes id ≡ Some (Element position array index) → Inside p b c id → Judged p id o →
         ElementFact p b c id array index o
     unfolding gives_value
-    element_fact b c id array index place o there inside j =
-        let v = valued forest accepted whole sorted id (Element place array index) o there refl j in
-        let f = element_facts forest accepted whole sorted b c id array index place v.0 there inside v.2 in
+    element_fact b c id array index position o there inside j =
+        let v = valued forest accepted whole sorted id (Element position array index) o there refl j in
+        let f = element_facts forest accepted whole sorted b c id array index position v.0 there inside v.2 in
         let e = element_of p f.type f.scope v.0 f.gives in
         record {
           type = f.type;
@@ -166,12 +166,12 @@ module _ (forest : Forest) (accepted : IsAccepted forest) (whole : IsForest fore
         now ≡ sig.runs_in
     is_current b c sig now body e = some_inj now sig.runs_in (sym e ∙ body.runs_in)
 
-    array_bound : (id element size class : ℕ) (place : Pos) (of array : Ty) →
-        slice_get forest.nodes id ≡ Some (NewArray place element size) → written_type p element ≡ Some of →
+    array_bound : (id element size class : ℕ) (position : Pos) (of array : Ty) →
+        slice_get forest.nodes id ≡ Some (NewArray position element size) → written_type p element ≡ Some of →
         array_of of ≡ Some array → array_class p array ≡ Some class → binding_at_node p id ≡ ClassNamed class
     unfolding binding_of
-    array_bound id element size class place of array there e a k =
-        binding_is forest accepted whole sorted id (NewArray place element size) there
+    array_bound id element size class position of array there e a k =
+        binding_is forest accepted whole sorted id (NewArray position element size) there
         ∙ ap (λ (o : Option Ty). class_binding (option_and_then (array_class p) (option_and_then array_of o))) e
         ∙ ap (λ (o : Option Ty). class_binding (option_and_then (array_class p) o)) a ∙ ap class_binding k
 
@@ -184,13 +184,13 @@ module _ (forest : Forest) (accepted : IsAccepted forest) (whole : IsForest fore
     class_array_of Boolean c e = absurd (let f : BoolArray ≡ ClassArray c = some_inj BoolArray (ClassArray c) e in cc (f))
     class_array_of _ c e = absurd (cc (e))
 
-    pub new_array_fact : (b c : ℕ) (sig : Signature) (id element size : ℕ) (place : Pos) (o : Option Kind) →
-        IsBody p b c sig → slice_get forest.nodes id ≡ Some (NewArray place element size) → Inside p b c id →
+    pub new_array_fact : (b c : ℕ) (sig : Signature) (id element size : ℕ) (position : Pos) (o : Option Kind) →
+        IsBody p b c sig → slice_get forest.nodes id ≡ Some (NewArray position element size) → Inside p b c id →
         Judged p id o → NewArrayFact code b c sig id size o
     unfolding code_of gives_value
-    new_array_fact b c sig id element size place o body there inside j =
-        let v = valued forest accepted whole sorted id (NewArray place element size) o there refl j in
-        let f = new_array_facts forest accepted whole sorted b c id element size place v.0 there inside v.2 in
+    new_array_fact b c sig id element size position o body there inside j =
+        let v = valued forest accepted whole sorted id (NewArray position element size) o there refl j in
+        let f = new_array_facts forest accepted whole sorted b c id element size position v.0 there inside v.2 in
         let now : f.now ≡ sig.runs_in = is_current b c sig f.now body f.is_now in
         let named : NamesClass p f.of =
         λ d e. (let m = names_class p (type_at p.nodes element) d (f.is_element ∙ ap (λ t. Some t) e) in
@@ -199,7 +199,7 @@ module _ (forest : Forest) (accepted : IsAccepted forest) (whole : IsForest fore
         let behind : length p.classes ≤ a.class = subst (λ n. n ≤ a.class) (names_and_classes forest) a.behind in
         record {
           class = a.class;
-          is = array_bound id element size a.class place f.of f.array there f.is_element f.is_array_of a.numbered;
+          is = array_bound id element size a.class position f.of f.array there f.is_element f.is_array_of a.numbered;
           slot = a.slot;
           elements = a.elements;
           type = f.array;
@@ -220,13 +220,13 @@ module _ (forest : Forest) (accepted : IsAccepted forest) (whole : IsForest fore
         null_any (type_at_node p x) (scope_at_node p x) s
         (subst (λ t. kind_of (type_at_node p x) (scope_at_node p x) ≡ Some (reference t s)) e j)
 
-    pub cast_fact : (b c id operand : ℕ) (place name_place : Pos) (name : List ℕ) (o : Option Kind) →
-        slice_get forest.nodes id ≡ Some (Cast place name_place name operand) → Inside p b c id → Judged p id o →
+    pub cast_fact : (b c id operand : ℕ) (position name_place : Pos) (name : List ℕ) (o : Option Kind) →
+        slice_get forest.nodes id ≡ Some (Cast position name_place name operand) → Inside p b c id → Judged p id o →
         CastFact code b c id operand o
     unfolding code_of gives_value
-    cast_fact b c id operand place name_place name o there inside j =
-        let v = valued forest accepted whole sorted id (Cast place name_place name operand) o there refl j in
-        let f = cast_facts forest accepted whole sorted b c id operand place name_place name v.0 there inside v.2 in
+    cast_fact b c id operand position name_place name o there inside j =
+        let v = valued forest accepted whole sorted id (Cast position name_place name operand) o there refl j in
+        let f = cast_facts forest accepted whole sorted b c id operand position name_place name v.0 there inside v.2 in
         let given = f.operand_is in
         let lies : (f.scope ≡ Any) ⊎ (scope_at_node p operand ≡ Some f.scope) =
         elim f.is_null_or_there as (λ z. (f.scope ≡ Any) ⊎ (scope_at_node p operand ≡ Some f.scope))

@@ -87,21 +87,21 @@ module _ (forest : Forest) (accepted : IsAccepted forest) (whole : IsForest fore
     abbrev code : Code
     code = code_of forest
 
-    length_target : (target object : ℕ) (place : Pos) (name : List ℕ) →
-        slice_get forest.nodes target ≡ Some (FieldAccess place name object) → binding_at_node p target ≡ Length →
+    length_target : (target object : ℕ) (position : Pos) (name : List ℕ) →
+        slice_get forest.nodes target ≡ Some (FieldAccess position name object) → binding_at_node p target ≡ Length →
         holds (read p.nodes (is_length_target p (type_at_node p)) target) (λ b. b) ≡ true
     unfolding is_length_target binding_of
-    length_target target object place name there e =
+    length_target target object position name there e =
         ap (λ (o : Option Node). holds (option_and_then (is_length_target p (type_at_node p)) o) (λ b. b))
-        (at_p forest accepted whole sorted target (FieldAccess place name object) there)
+        (at_p forest accepted whole sorted target (FieldAccess position name object) there)
         ∙ receiver_length p name (receiver p (type_at_node p) object)
-        (sym (binding_is forest accepted whole sorted target (FieldAccess place name object) there) ∙ e)
+        (sym (binding_is forest accepted whole sorted target (FieldAccess position name object) there) ∙ e)
 
-    element_bound : (target array index : ℕ) (place : Pos) →
-        slice_get forest.nodes target ≡ Some (Element place array index) → binding_at_node p target ≡ Plain
+    element_bound : (target array index : ℕ) (position : Pos) →
+        slice_get forest.nodes target ≡ Some (Element position array index) → binding_at_node p target ≡ Plain
     unfolding binding_of
-    element_bound target array index place there =
-        binding_is forest accepted whole sorted target (Element place array index) there
+    element_bound target array index position there =
+        binding_is forest accepted whole sorted target (Element position array index) there
 
     element_is_real : (t : Ty) (k : Kind) → kind_of_elements p t ≡ Some k → IsRealKind k
     unfolding kind_of_elements
@@ -121,31 +121,31 @@ module _ (forest : Forest) (accepted : IsAccepted forest) (whole : IsForest fore
         is_guarded_store p (type_at_node p) id target value ≡ true → GuardedTarget forest accepted whole sorted target node
     guarded_at id target value node there g = guarded_target forest accepted whole sorted id target value node there g
 
-    element_unguarded : (id target value array index : ℕ) (place : Pos) →
-        slice_get forest.nodes target ≡ Some (Element place array index) →
+    element_unguarded : (id target value array index : ℕ) (position : Pos) →
+        slice_get forest.nodes target ≡ Some (Element position array index) →
         is_guarded_store p (type_at_node p) id target value ≡ true → ⊥
     unfolding stored_field
-    element_unguarded id target value array index place there g =
-        (let t = guarded_at id target value (Element place array index) there g in let e = t.is in cc (e))
+    element_unguarded id target value array index position there g =
+        (let t = guarded_at id target value (Element position array index) there g in let e = t.is in cc (e))
 
     -- the field of a guarded store, by a simple name and by an access
-    own_in_this : (id target value : ℕ) (place : Pos) (name : List ℕ) (f : FoundField) →
-        slice_get forest.nodes target ≡ Some (SimpleName place name) → meaning p target name ≡ a_field f →
+    own_in_this : (id target value : ℕ) (position : Pos) (name : List ℕ) (f : FoundField) →
+        slice_get forest.nodes target ≡ Some (SimpleName position name) → meaning p target name ≡ a_field f →
         is_guarded_store p (type_at_node p) id target value ≡ true → is_in_this f.field ≡ true
     unfolding stored_field field_of_this
-    own_in_this id target value place name f there meant g =
-        let t = guarded_at id target value (SimpleName place name) there g in
+    own_in_this id target value position name f there meant g =
+        let t = guarded_at id target value (SimpleName position name) there g in
         let e : Some (Some this_object, f) ≡ Some (t.subject, t.field) = sym (ap field_of_this meant) ∙ t.is in
         let h : f ≡ t.field = ap (λ (x : Option Subject × FoundField). x.1) (some_inj (Some this_object, f) (t.subject, t.field) e) in
         ap (λ (f : FoundField). is_in_this f.field) h ∙ t.in_this
 
-    field_in_this : (id target value object : ℕ) (place : Pos) (name : List ℕ) (f : FoundField) →
-        slice_get forest.nodes target ≡ Some (FieldAccess place name object) →
+    field_in_this : (id target value object : ℕ) (position : Pos) (name : List ℕ) (f : FoundField) →
+        slice_get forest.nodes target ≡ Some (FieldAccess position name object) →
         option_and_then (λ r. accessed_field p r name) (receiver p (type_at_node p) object) ≡ Some f →
         is_guarded_store p (type_at_node p) id target value ≡ true → is_in_this f.field ≡ true
     unfolding stored_field
-    field_in_this id target value object place name f there accessed g =
-        let t = guarded_at id target value (FieldAccess place name object) there g in
+    field_in_this id target value object position name f there accessed g =
+        let t = guarded_at id target value (FieldAccess position name object) there g in
         go (receiver p (type_at_node p) object) accessed t.field t.in_this t.is
       where
         found : (o : Option FoundField) → o ≡ Some f → (u : Option Subject) (h : FoundField) → is_in_this h.field ≡ true →
@@ -163,14 +163,14 @@ module _ (forest : Forest) (accepted : IsAccepted forest) (whole : IsForest fore
         go (Some r) a h i {u} e = found (accessed_field p r name) a u h i e
 
     -- what is bound as a local, or as a static field, is none
-    local_unguarded : (id target value : ℕ) (place : Pos) (name : List ℕ) (n : ℕ) →
-        slice_get forest.nodes target ≡ Some (SimpleName place name) → binding_at_node p target ≡ LocalVariable n →
+    local_unguarded : (id target value : ℕ) (position : Pos) (name : List ℕ) (n : ℕ) →
+        slice_get forest.nodes target ≡ Some (SimpleName position name) → binding_at_node p target ≡ LocalVariable n →
         is_guarded_store p (type_at_node p) id target value ≡ true → ⊥
     unfolding stored_field field_of_this binding_of meaning_binding field_binding
-    local_unguarded id target value place name n there bound g =
-        let t = guarded_at id target value (SimpleName place name) there g in
+    local_unguarded id target value position name n there bound g =
+        let t = guarded_at id target value (SimpleName position name) there g in
         go (meaning p target name) t.is
-        (sym (binding_is forest accepted whole sorted target (SimpleName place name) there) ∙ bound)
+        (sym (binding_is forest accepted whole sorted target (SimpleName position name) there) ∙ bound)
       where
         no_local : (static_ : Bool) (o : Option ℕ) →
             plain_or (λ k. if static_ then Static k else InstanceField k) o ≡ LocalVariable n → ⊥
@@ -200,14 +200,14 @@ module _ (forest : Forest) (accepted : IsAccepted forest) (whole : IsForest fore
     no_static n None false h e = cc (e)
     no_static n (Some k) false h e = cc (e)
 
-    static_name_unguarded : (id target value : ℕ) (place : Pos) (name : List ℕ) (n : ℕ) →
-        slice_get forest.nodes target ≡ Some (SimpleName place name) → binding_at_node p target ≡ Static n →
+    static_name_unguarded : (id target value : ℕ) (position : Pos) (name : List ℕ) (n : ℕ) →
+        slice_get forest.nodes target ≡ Some (SimpleName position name) → binding_at_node p target ≡ Static n →
         is_guarded_store p (type_at_node p) id target value ≡ true → ⊥
     unfolding stored_field field_of_this binding_of meaning_binding field_binding variable_binding
-    static_name_unguarded id target value place name n there bound g =
-        let t = guarded_at id target value (SimpleName place name) there g in
+    static_name_unguarded id target value position name n there bound g =
+        let t = guarded_at id target value (SimpleName position name) there g in
         go (meaning p target name) t.is t.in_this
-        (sym (binding_is forest accepted whole sorted target (SimpleName place name) there) ∙ bound)
+        (sym (binding_is forest accepted whole sorted target (SimpleName position name) there) ∙ bound)
       where
         go : {u : Option Subject} {h : FoundField} (m : Meaning) → field_of_this m ≡ Some (u, h) → is_in_this h.field ≡ true →
             meaning_binding p target m ≡ Static n → ⊥
@@ -219,14 +219,14 @@ module _ (forest : Forest) (accepted : IsAccepted forest) (whole : IsForest fore
         go (a_class c) e i b = absurd (cc (e))
         go nothing e i b = absurd (cc (e))
 
-    static_access_unguarded : (id target value object : ℕ) (place : Pos) (name : List ℕ) (n : ℕ) →
-        slice_get forest.nodes target ≡ Some (FieldAccess place name object) → binding_at_node p target ≡ Static n →
+    static_access_unguarded : (id target value object : ℕ) (position : Pos) (name : List ℕ) (n : ℕ) →
+        slice_get forest.nodes target ≡ Some (FieldAccess position name object) → binding_at_node p target ≡ Static n →
         is_guarded_store p (type_at_node p) id target value ≡ true → ⊥
     unfolding stored_field binding_of access_binding field_binding
-    static_access_unguarded id target value object place name n there bound g =
-        let t = guarded_at id target value (FieldAccess place name object) there g in
+    static_access_unguarded id target value object position name n there bound g =
+        let t = guarded_at id target value (FieldAccess position name object) there g in
         go (receiver p (type_at_node p) object) t.is t.in_this
-        (sym (binding_is forest accepted whole sorted target (FieldAccess place name object) there) ∙ bound)
+        (sym (binding_is forest accepted whole sorted target (FieldAccess position name object) there) ∙ bound)
       where
         found : {u : Option Subject} {h : FoundField} (o : Option FoundField) →
             option_map {U = Option Subject × FoundField} (λ f. (subject_at p object, f)) o ≡ Some (u, h) → is_in_this h.field ≡ true →
@@ -317,11 +317,11 @@ module _ (forest : Forest) (accepted : IsAccepted forest) (whole : IsForest fore
           (goes_here p given k real (subst (FitsAsSeen p given) (some_inj a.expected k e) (unguarded n)))
 
       -- one that is stored in a field, which is found so
-      field_fits : (place : Pos) → slice_get p.nodes id ≡ Some (Assign place target value) → (class n : ℕ)
+      field_fits : (position : Pos) → slice_get p.nodes id ≡ Some (Assign position target value) → (class n : ℕ)
           (name : List ℕ) (home : Scope) (k : Kind) → IsSlotKind k → Some a.expected ≡ Some (seen_kind home Caller k) →
           (f : InstanceFieldOf p class name n k) → (Guarded → is_in_this f.field.field ≡ true) →
           FieldValueFits p b c id value class home k
-      field_fits place stands class n name home k slot e f in_this =
+      field_fits position stands class n name home k slot e f in_this =
           record {
             kind = given;
             value_is = (a.value_is.child, a.value_is.judged);
@@ -336,7 +336,7 @@ module _ (forest : Forest) (accepted : IsAccepted forest) (whole : IsForest fore
                   elim (lies_with_object forest accepted whole sorted class n name k f (in_this h.1))
                   as (λ _. FieldTakes p id class home given k) [
                     | inl v ↦ inl (plain_fits home given k v goes)
-                    | inr l ↦ inr (goes, l, record { place = place; target = target; value = value; is_there = stands; is_guarded = h.1 })
+                    | inr l ↦ inr (goes, l, record { position = position; target = target; value = value; is_there = stands; is_guarded = h.1 })
                   ])
             ];
           }
@@ -359,28 +359,28 @@ module _ (forest : Forest) (accepted : IsAccepted forest) (whole : IsForest fore
           }
 
       module _ (at_place : Pos) (assigned : slice_get p.nodes id ≡ Some (Assign at_place target value)) where
-        of_name : (place : Pos) (name : List ℕ) → slice_get forest.nodes target ≡ Some (SimpleName place name) →
-            slice_get p.nodes target ≡ Some (SimpleName place name) →
+        of_name : (position : Pos) (name : List ℕ) → slice_get forest.nodes target ≡ Some (SimpleName position name) →
+            slice_get p.nodes target ≡ Some (SimpleName position name) →
             NameFact forest accepted whole sorted b c target name (Some a.expected) → AssignFact code b c id target value
         unfolding code_of
-        of_name place name there stands (inl x) =
+        of_name position name there stands (inl x) =
             inl (record {
-              place = place;
+              position = position;
               name = name;
               is_there = stands;
               local = x.local;
               is = x.is;
               variable = x.variable;
               is_variable = x.is_variable;
-              spares = assignment_spares forest accepted whole sorted b c id target value x.local x.variable at_place place
+              spares = assignment_spares forest accepted whole sorted b c id target value x.local x.variable at_place position
                   name assigned there a.target_is.child.inside x.is x.is_variable.is_there;
               fits = here_fits x.is_variable.kind (variable_is_real p x.variable x.is_variable.kind x.is_variable.is_kind)
-                  x.is_given (λ g. local_unguarded id target value place name x.local there x.is g);
+                  x.is_given (λ g. local_unguarded id target value position name x.local there x.is g);
             })
-        of_name place name there stands (inr (inl y)) =
+        of_name position name there stands (inr (inl y)) =
             let x = y.fact in
             inr (inl (record {
-              place = place;
+              position = position;
               name = name;
               is_there = stands;
               field = x.field;
@@ -388,22 +388,22 @@ module _ (forest : Forest) (accepted : IsAccepted forest) (whole : IsForest fore
               own = x.own;
               has = x.has;
               fits = field_fits at_place assigned c x.field name x.own.home x.has.kind x.has.is_slot_kind x.is_given y.field
-                  (λ g. own_in_this id target value place name y.field.field there y.meant g);
+                  (λ g. own_in_this id target value position name y.field.field there y.meant g);
             }))
-        of_name place name there stands (inr (inr x)) =
-            inr (inr (inr (inl (set_static (SimpleName place name) stands
-            (λ g. static_name_unguarded id target value place name x.field there x.is g) x))))
+        of_name position name there stands (inr (inr x)) =
+            inr (inr (inr (inl (set_static (SimpleName position name) stands
+            (λ g. static_name_unguarded id target value position name x.field there x.is g) x))))
 
-        of_access : (place : Pos) (name : List ℕ) (object : ℕ) →
-            slice_get forest.nodes target ≡ Some (FieldAccess place name object) →
-            slice_get p.nodes target ≡ Some (FieldAccess place name object)
+        of_access : (position : Pos) (name : List ℕ) (object : ℕ) →
+            slice_get forest.nodes target ≡ Some (FieldAccess position name object) →
+            slice_get p.nodes target ≡ Some (FieldAccess position name object)
             → AccessFact forest accepted whole sorted b c target object name (Some a.expected) →
             AssignFact code b c id target value
         unfolding code_of
-        of_access place name object there stands (inl y) =
+        of_access position name object there stands (inl y) =
             let x = y.fact in
             inr (inr (inl (record {
-              place = place;
+              position = position;
               name = name;
               object = object;
               is_there = stands;
@@ -414,25 +414,25 @@ module _ (forest : Forest) (accepted : IsAccepted forest) (whole : IsForest fore
               object_is = below object (Some (reference (ClassTy x.class) x.scope)) x.object_is;
               has = x.has;
               fits = field_fits at_place assigned x.class x.field name x.scope x.has.kind x.has.is_slot_kind x.is_given y.field
-                  (λ g. field_in_this id target value object place name y.field.field there y.accessed g);
+                  (λ g. field_in_this id target value object position name y.field.field there y.accessed g);
             })))
-        of_access place name object there stands (inr (inl x)) =
-            inr (inr (inr (inl (set_static (FieldAccess place name object) stands
-            (λ g. static_access_unguarded id target value object place name x.field there x.is g) x))))
-        of_access place name object there stands (inr (inr x)) =
-            absurd (true≢false (sym (length_target target object place name there x.is) ∙ a.is_no_length))
+        of_access position name object there stands (inr (inl x)) =
+            inr (inr (inr (inl (set_static (FieldAccess position name object) stands
+            (λ g. static_access_unguarded id target value object position name x.field there x.is g) x))))
+        of_access position name object there stands (inr (inr x)) =
+            absurd (true≢false (sym (length_target target object position name there x.is) ∙ a.is_no_length))
 
-        of_element : (place : Pos) (array index : ℕ) → slice_get forest.nodes target ≡ Some (Element place array index) →
-            slice_get p.nodes target ≡ Some (Element place array index) →
+        of_element : (position : Pos) (array index : ℕ) → slice_get forest.nodes target ≡ Some (Element position array index) →
+            slice_get p.nodes target ≡ Some (Element position array index) →
             ElementFact p b c target array index (Some a.expected) → AssignFact code b c id target value
         unfolding code_of
-        of_element place array index there stands x =
+        of_element position array index there stands x =
             inr (inr (inr (inr (record {
-              place = place;
+              position = position;
               array = array;
               index = index;
               is_there = stands;
-              is = element_bound target array index place there;
+              is = element_bound target array index position there;
               type = x.type;
               scope = x.scope;
               array_is = below array (Some (reference x.type x.scope)) x.array_is;
@@ -440,33 +440,33 @@ module _ (forest : Forest) (accepted : IsAccepted forest) (whole : IsForest fore
               kind = x.kind;
               elements = x.elements;
               fits = seen_fits x.scope x.kind (element_is_real x.type x.kind x.elements) x.is_given
-                  (λ g. element_unguarded id target value array index place there g);
+                  (λ g. element_unguarded id target value array index position there g);
             }))))
 
         by_target : (node : Node) → slice_get forest.nodes target ≡ Some node → is_target node ≡ true →
             AssignFact code b c id target value
         unfolding is_target
-        by_target (SimpleName place name) there k =
-            of_name place name there (at_p forest accepted whole sorted target (SimpleName place name) there)
-            (named_fact forest accepted whole sorted b c target place name
+        by_target (SimpleName position name) there k =
+            of_name position name there (at_p forest accepted whole sorted target (SimpleName position name) there)
+            (named_fact forest accepted whole sorted b c target position name
             (Some a.expected) there a.target_is.child.inside a.target_is.judged)
-        by_target (FieldAccess place name object) there k =
-            of_access place name object there
-            (at_p forest accepted whole sorted target (FieldAccess place name object) there)
-            (accessed_fact forest accepted whole sorted b c target object place name
+        by_target (FieldAccess position name object) there k =
+            of_access position name object there
+            (at_p forest accepted whole sorted target (FieldAccess position name object) there)
+            (accessed_fact forest accepted whole sorted b c target object position name
             (Some a.expected) there a.target_is.child.inside a.target_is.judged)
-        by_target (Element place array index) there k =
-            of_element place array index there (at_p forest accepted whole sorted target (Element place array index) there)
-            (element_fact forest accepted whole sorted b c target array index place
+        by_target (Element position array index) there k =
+            of_element position array index there (at_p forest accepted whole sorted target (Element position array index) there)
+            (element_fact forest accepted whole sorted b c target array index position
             (Some a.expected) there a.target_is.child.inside a.target_is.judged)
         by_target _ there k = absurd (true≢false (sym k))
 
-    pub assign_fact : (b c id target value : ℕ) (place : Pos) →
-        slice_get forest.nodes id ≡ Some (Assign place target value) → Inside p b c id →
+    pub assign_fact : (b c id target value : ℕ) (position : Pos) →
+        slice_get forest.nodes id ≡ Some (Assign position target value) → Inside p b c id →
         AssignFact code b c id target value
     unfolding HasRightChildren
-    assign_fact b c id target value place there inside =
-        let o = (sorted.each id (Assign place target value) there).0 in
+    assign_fact b c id target value position there inside =
+        let o = (sorted.each id (Assign position target value) there).0 in
         by_target b c id target value
-        (assign_facts forest accepted whole sorted b c id target value place there inside) place
-        (at_p forest accepted whole sorted id (Assign place target value) there) o.node o.is_there o.passes
+        (assign_facts forest accepted whole sorted b c id target value position there inside) position
+        (at_p forest accepted whole sorted id (Assign position target value) there) o.node o.is_there o.passes

@@ -172,12 +172,12 @@ module _ (forest : Forest) (accepted : IsAccepted forest) (whole : IsForest fore
             (e ∙ ap (λ (o : Option ℕ). if is_some (variable_at nodes x) then Some x else o) (sym f.0)) v a)
 
     -- the statements of a block
-    pub block_statements : (b c id : ℕ) (place : Pos) (statements : List ℕ) →
-        slice_get nodes id ≡ Some (Block place statements) → Inside p b c id →
+    pub block_statements : (b c id : ℕ) (position : Pos) (statements : List ℕ) →
+        slice_get nodes id ≡ Some (Block position statements) → Inside p b c id →
         HaveStatements p b c id (known_variables p id) statements
     unfolding HasRightChildren children declared_before is_inner
-    block_statements b c id place statements there inside =
-        let node : Node = Block place statements in
+    block_statements b c id position statements there inside =
+        let node : Node = Block position statements in
         in_row b c id statements (known_variables p id) (context p id).last
         (row_follows id node statements there refl (λ x. refl)) (λ x e. same_last x id e)
         (all_below b c id statements (sorted.each id node there)

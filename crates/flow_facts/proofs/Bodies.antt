@@ -53,7 +53,7 @@ AreDeclared nodes (x ∷ xs) [] = ⊥
 parameter_made : (nodes : List Node) (x : ℕ) (node : Node) → is_parameter node ≡ true → (d : Declared) ×
     (variable_of nodes x node ≡ Some d) × (d.node ≡ x)
 unfolding is_parameter variable_of
-parameter_made nodes x (Parameter place name flags declared_type) e = (_, refl, refl)
+parameter_made nodes x (Parameter position name flags declared_type) e = (_, refl, refl)
 parameter_made nodes x _ e = absurd (true≢false (sym e))
 
 parameter_at : (nodes : List Node) (x : ℕ) → Of is_parameter nodes x → (d : Declared) × (variable_at nodes x ≡ Some d) ×
@@ -151,7 +151,7 @@ module _ (forest : Forest) (accepted : IsAccepted forest) (whole : IsForest fore
       of : (q : ℕ) (node : Node) → slice_get forest.nodes q ≡ Some node →
           AreDeclared p.nodes (elim (parameter_nodes node) as (λ _. List ℕ) [ None ↦ [] | Some list ↦ list ])
           (unwrap_or (parameters_at_node p.nodes node) [])
-      of q (Parameters place list) e = all_declared p.nodes list (sorted.each q (Parameters place list) e)
+      of q (Parameters position list) e = all_declared p.nodes list (sorted.each q (Parameters position list) e)
       of q _ e = tt
 
       at : (q : ℕ) (o : Option Node) → slice_get forest.nodes q ≡ o →
@@ -218,21 +218,21 @@ module _ (forest : Forest) (accepted : IsAccepted forest) (whole : IsForest fore
   method_runs : (b : ℕ) (node : Node) (m : DeclaredMethod) → method_of p.nodes b node ≡ Some m → is_some m.body ≡ true →
       may_run node ≡ true
   unfolding method_of may_run
-  method_runs b (MethodNode place name flags result_type parameters (Some body)) m e h = refl
-  method_runs b (MethodNode place name flags result_type parameters None) m e h =
+  method_runs b (MethodNode position name flags result_type parameters (Some body)) m e h = refl
+  method_runs b (MethodNode position name flags result_type parameters None) m e h =
       absurd (true≢false (sym h ∙ ap (λ (m : DeclaredMethod). is_some m.body) (sym (some_inj _ m e))))
   method_runs b _ m e h = absurd (cc (e))
 
   method_no_class : (b : ℕ) (node : Node) (m : DeclaredMethod) → method_of p.nodes b node ≡ Some m →
       is_class node ≡ true → ⊥
   unfolding method_of is_class
-  method_no_class b (MethodNode place name flags result_type parameters body) m e h = true≢false (sym h)
+  method_no_class b (MethodNode position name flags result_type parameters body) m e h = true≢false (sym h)
   method_no_class b _ m e h = cc (e)
 
   method_parameters : (b : ℕ) (node : Node) (m : DeclaredMethod) → slice_get p.nodes b ≡ Some node →
       method_of p.nodes b node ≡ Some m → body_parameters p b ≡ m.parameters
   unfolding body_parameters method_of parameter_list
-  method_parameters b (MethodNode place name flags result_type parameters body) m stands e =
+  method_parameters b (MethodNode position name flags result_type parameters body) m stands e =
       ap (λ (o : Option Node). unwrap_or
       (option_and_then (read p.nodes (parameters_at_node p.nodes)) (option_and_then parameter_list o)) []) stands
       ∙ ap (λ (m : DeclaredMethod). m.parameters) (some_inj _ m e)

@@ -81,7 +81,7 @@ unfolding computing form_arguments
 alarm_form =
     form_fact controller controller_accepted controller_is_forest controller_sorted 147 21 142 aperiodic_handler
     form_arguments (138 ∷ 141 ∷ 139 ∷ []) within refl refl
-    (record { place = at 23 19; is_there = refl; inside = form_inside; form = refl }) refl
+    (record { position = at 23 19; is_there = refl; inside = form_inside; form = refl }) refl
 
 -- it takes a tank of the mission, and runs where the alarm lies
 abbrev alarm_signature : Signature

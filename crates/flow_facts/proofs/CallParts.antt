@@ -63,12 +63,12 @@ module _ (forest : Forest) (accepted : IsAccepted forest) (whole : IsForest fore
       pub ts : List Ty
       pub typed : all_types types arguments ≡ Some ts
 
-    pub call_parts : (b c id : ℕ) (place : Pos) (name : List ℕ) (object : Option ℕ) (arguments : List ℕ) →
-        slice_get forest.nodes id ≡ Some (Call place name object arguments) → Inside p b c id →
+    pub call_parts : (b c id : ℕ) (position : Pos) (name : List ℕ) (object : Option ℕ) (arguments : List ℕ) →
+        slice_get forest.nodes id ≡ Some (Call position name object arguments) → Inside p b c id →
         CallParts b c id name object arguments
     unfolding children is_argument is_expression object_of takes_parts HasRightChildren declared_before call_receiver
-    call_parts b c id place name None arguments there inside =
-        let node : Node = Call place name None arguments in
+    call_parts b c id position name None arguments there inside =
+        let node : Node = Call position name None arguments in
         let s = sorted.each id node there in
         let values : (x : ℕ) → is_among x arguments ≡ true → At b c id x =
         λ x among. child_at forest accepted whole sorted b c id node there inside refl x among
@@ -83,8 +83,8 @@ module _ (forest : Forest) (accepted : IsAccepted forest) (whole : IsForest fore
           ts = ts.0;
           typed = ts.1;
         }
-    call_parts b c id place name (Some object) arguments there inside =
-        let node : Node = Call place name (Some object) arguments in
+    call_parts b c id position name (Some object) arguments there inside =
+        let node : Node = Call position name (Some object) arguments in
         let s = sorted.each id node there in
         let o = of_expression forest accepted whole sorted object s.0 in
         let values : (x : ℕ) → is_among x arguments ≡ true → At b c id x =
@@ -110,16 +110,16 @@ module _ (forest : Forest) (accepted : IsAccepted forest) (whole : IsForest fore
     -- ---- the rules on uses
 
     -- E3 at a call of a user's method
-    pub passed_rightly : (id : ℕ) (place : Pos) (name : List ℕ) (object : Option ℕ) (arguments : List ℕ) →
-        use_breaks p types scopes id (Call place name object arguments) ≡ [] →
+    pub passed_rightly : (id : ℕ) (position : Pos) (name : List ℕ) (object : Option ℕ) (arguments : List ℕ) →
+        use_breaks p types scopes id (Call position name object arguments) ≡ [] →
         found_at (called_user_method p types id object name)
         (e3_of_call p scopes (receiver_scope p scopes id object) (current_at p id) arguments) ≡ []
     unfolding use_breaks e1 e2 e3
-    passed_rightly id place name object arguments e =
-        let node : Node = Call place name object arguments in
+    passed_rightly id position name object arguments e =
+        let node : Node = Call position name object arguments in
         let one =
         both_empty
-        (broken (holds (called_user_method p types id object name) (misfits_call p scopes id object)) E2 place)
+        (broken (holds (called_user_method p types id object name) (misfits_call p scopes id object)) E2 position)
         (found_at (called_user_method p types id object name)
         (e3_of_call p scopes (receiver_scope p scopes id object) (current_at p id) arguments)
         ++ (e4_and_e5 p types scopes id node

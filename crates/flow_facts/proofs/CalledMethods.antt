@@ -42,8 +42,8 @@ module _ (forest : Forest) (accepted : IsAccepted forest) (whole : IsForest fore
   -- a call of a method of the framework, with what is known of it
   pub record Called (b c id : ℕ) (name : List ℕ) (object : Option ℕ) (arguments : List ℕ) (f : FoundMethod)
       (row : FrameworkMethod) : Type 0 where
-    pub place : Pos
-    pub stands : slice_get forest.nodes id ≡ Some (Call place name object arguments)
+    pub position : Pos
+    pub stands : slice_get forest.nodes id ≡ Some (Call position name object arguments)
     pub inside : Inside p b c id
     pub method : method_called p types id object name ≡ Some f
     pub is : framework_method row ≡ f.method
@@ -160,7 +160,7 @@ module _ (forest : Forest) (accepted : IsAccepted forest) (whole : IsForest fore
         label = h.first;
         value = h.second;
         are = h.are;
-        place = t.0;
+        position = t.0;
         text = t.1;
         is_smaller = v.less;
         is_text = t.2;

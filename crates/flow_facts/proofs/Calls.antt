@@ -58,15 +58,15 @@ module _ (forest : Forest) (accepted : IsAccepted forest) (whole : IsForest fore
     pub typed : declared_type_of p method.method.declared ≡ Some type
     pub given : types id ≡ Some type
 
-  pub invoked : (id : ℕ) (place : Pos) (name : List ℕ) (object : Option ℕ) (arguments : List ℕ) (o : Option Kind) →
-      slice_get forest.nodes id ≡ Some (Call place name object arguments) → Judged p id o → Invoked id name object
+  pub invoked : (id : ℕ) (position : Pos) (name : List ℕ) (object : Option ℕ) (arguments : List ℕ) (o : Option Kind) →
+      slice_get forest.nodes id ≡ Some (Call position name object arguments) → Judged p id o → Invoked id name object
   unfolding type_of call_type
-  invoked id place name object arguments o there j =
+  invoked id position name object arguments o there j =
       let t = has_type id o j in
       let a =
       of_option (call_receiver p types id object)
       (λ r. option_and_then (λ ts. call_type p r name) (all_types types arguments)) t.0
-      (sym (type_is forest accepted whole sorted id (Call place name object arguments) there) ∙ t.1) in
+      (sym (type_is forest accepted whole sorted id (Call position name object arguments) there) ∙ t.1) in
       let b = of_option (all_types types arguments) (λ ts. call_type p a.0 name) t.0 a.2 in
       let c = of_option (called_method p a.0 name) (λ (f : FoundMethod). declared_type_of p f.method.declared) t.0 b.2
       in
@@ -95,16 +95,16 @@ module _ (forest : Forest) (accepted : IsAccepted forest) (whole : IsForest fore
 
   -- ---- calls on objects
 
-  pub call_fact : (b c : ℕ) (sig : Signature) (id : ℕ) (place : Pos) (name : List ℕ) (object : Option ℕ)
+  pub call_fact : (b c : ℕ) (sig : Signature) (id : ℕ) (position : Pos) (name : List ℕ) (object : Option ℕ)
       (arguments : List ℕ) (o : Option Kind) → IsBody p b c sig →
-      slice_get forest.nodes id ≡ Some (Call place name object arguments) → Inside p b c id →
+      slice_get forest.nodes id ≡ Some (Call position name object arguments) → Inside p b c id →
       (m : Invoked id name object) → m.method.method.builtin ≡ None →
       m.method.method.declared.modifiers.is_static ≡ false → Judged p id o
       → CallFact code b c sig id object arguments o
   unfolding code_of
-  call_fact b c sig id place name object arguments o body there inside m user plain j =
+  call_fact b c sig id position name object arguments o body there inside m user plain j =
       let f = m.method in
-      let x = call_facts forest accepted whole sorted b c id place name object arguments f o there inside m.is user
+      let x = call_facts forest accepted whole sorted b c id position name object arguments f o there inside m.is user
       plain j in
       let now : x.now ≡ sig.runs_in = is_current forest accepted whole sorted b c sig x.now body x.is_now in
       let q = x.passes in
@@ -127,5 +127,5 @@ module _ (forest : Forest) (accepted : IsAccepted forest) (whole : IsForest fore
         each = each_dispatched forest accepted whole sorted is_read x.class x.n f x.taken x.runs x.named x.is_user plain
             x.is_runs x.takes x.numbered (not_long f m.type m.typed);
         is_given = x.gives ∙ ap (λ s. seen_option x.scope s (kind_given_by p f)) now;
-        is_left = call_value forest accepted whole sorted id place name object arguments o there j;
+        is_left = call_value forest accepted whole sorted id position name object arguments o there j;
       }

@@ -204,9 +204,9 @@ module _ (forest : Forest) (accepted : IsAccepted forest) (whole : IsForest fore
                 (at : ClassAt c k) → is_among b at.class.members ≡ true
             members k parent at_k among at =
                 let n = at.user.node in
-                let node_is : parent ≡ Class n.place at.class.name n.flags n.header at.class.members =
+                let node_is : parent ≡ Class n.position at.class.name n.flags n.header at.class.members =
                 some_inj parent _ (sym at_k ∙ ap (slice_get nodes) (sym at.node) ∙ n.is_there) in
-                in_members b at.class.node node n.place at.class.name n.flags n.header at.class.members there member
+                in_members b at.class.node node n.position at.class.name n.flags n.header at.class.members there member
                 n.is_there (subst (λ (n : Node). is_among b (children n) ≡ true) node_is among)
 
     -- the node of a class stands for its class

@@ -25,25 +25,25 @@ use Rattle.flow_facts.proofs.Blocks.{row_follows, same_last, known_after, statem
 expression_no_variable : (nodes : List Node) (x : ℕ) (node : Node) → is_expression node ≡ true →
     is_some (variable_of nodes x node) ≡ false
 unfolding is_expression variable_of
-expression_no_variable nodes x (Parameter place name flags declared_type) e = absurd (true≢false (sym e))
-expression_no_variable nodes x (Local place name flags declared_type) e = absurd (true≢false (sym e))
-expression_no_variable nodes x (LocalWithValue place name_place name flags declared_type value) e =
+expression_no_variable nodes x (Parameter position name flags declared_type) e = absurd (true≢false (sym e))
+expression_no_variable nodes x (Local position name flags declared_type) e = absurd (true≢false (sym e))
+expression_no_variable nodes x (LocalWithValue position name_place name flags declared_type value) e =
     absurd (true≢false (sym e))
 expression_no_variable nodes x _ e = refl
 
 assignment_no_variable : (nodes : List Node) (x : ℕ) (node : Node) → is_assignment node ≡ true →
     is_some (variable_of nodes x node) ≡ false
 unfolding is_assignment variable_of
-assignment_no_variable nodes x (Parameter place name flags declared_type) e = absurd (true≢false (sym e))
-assignment_no_variable nodes x (Local place name flags declared_type) e = absurd (true≢false (sym e))
-assignment_no_variable nodes x (LocalWithValue place name_place name flags declared_type value) e =
+assignment_no_variable nodes x (Parameter position name flags declared_type) e = absurd (true≢false (sym e))
+assignment_no_variable nodes x (Local position name flags declared_type) e = absurd (true≢false (sym e))
+assignment_no_variable nodes x (LocalWithValue position name_place name flags declared_type value) e =
     absurd (true≢false (sym e))
 assignment_no_variable nodes x _ e = refl
 
 start_is_statement : (node : Node) → is_for_start node ≡ true → is_statement node ≡ true
 unfolding is_for_start is_statement
-start_is_statement (Assign place target value) e = refl
-start_is_statement (LocalWithValue place name_place name flags declared_type value) e = refl
+start_is_statement (Assign position target value) e = refl
+start_is_statement (LocalWithValue position name_place name flags declared_type value) e = refl
 start_is_statement _ e = absurd (true≢false (sym e))
 
 module _ (forest : Forest) (accepted : IsAccepted forest) (whole : IsForest forest) (sorted : IsWellSorted forest.nodes)
@@ -60,14 +60,14 @@ module _ (forest : Forest) (accepted : IsAccepted forest) (whole : IsForest fore
     fourth : (w x y z : ℕ) (ids : List ℕ) → is_among z (w ∷ x ∷ y ∷ z ∷ ids) ≡ true
     fourth w x y z ids = or_right (z == w) (is_among z (x ∷ y ∷ z ∷ ids)) (third x y z ids)
 
-    pub if_fact : (b c id condition then_part : ℕ) (place : Pos) (else_part : Option ℕ) →
-        slice_get nodes id ≡ Some (If place condition then_part else_part) → Inside p b c id →
+    pub if_fact : (b c id condition then_part : ℕ) (position : Pos) (else_part : Option ℕ) →
+        slice_get nodes id ≡ Some (If position condition then_part else_part) → Inside p b c id →
         IfFact p b c id condition then_part else_part
     unfolding HasRightChildren children declared_before is_inner
-    if_fact b c id condition then_part place else_part there inside =
-        let node : Node = If place condition then_part else_part in
+    if_fact b c id condition then_part position else_part there inside =
+        let node : Node = If position condition then_part else_part in
         let s = sorted.each id node there in
-        let o = if_condition forest accepted whole sorted b c id condition then_part place else_part there inside in
+        let o = if_condition forest accepted whole sorted b c id condition then_part position else_part there inside in
         record {
           condition_is = (o.child, o.judged);
           then_is = statement_below forest accepted whole sorted b c id then_part node there inside refl
@@ -78,18 +78,18 @@ module _ (forest : Forest) (accepted : IsAccepted forest) (whole : IsForest fore
         other : (o : Option ℕ) → else_part ≡ o → OptionOf is_statement nodes o → HasOptionStatement p b c id o
         other None e s = tt
         other (Some x) e s =
-            let there2 : slice_get nodes id ≡ Some (If place condition then_part (Some x)) =
-            there ∙ ap (λ o. Some (If place condition then_part o)) e in
-            statement_below forest accepted whole sorted b c id x (If place condition then_part (Some x)) there2 inside
+            let there2 : slice_get nodes id ≡ Some (If position condition then_part (Some x)) =
+            there ∙ ap (λ o. Some (If position condition then_part o)) e in
+            statement_below forest accepted whole sorted b c id x (If position condition then_part (Some x)) there2 inside
             refl (third condition then_part x []) s refl
 
-    pub while_fact : (b c id condition body : ℕ) (place : Pos) → slice_get nodes id ≡ Some (While place condition body) →
+    pub while_fact : (b c id condition body : ℕ) (position : Pos) → slice_get nodes id ≡ Some (While position condition body) →
         Inside p b c id → WhileFact p b c id condition body
     unfolding HasRightChildren children declared_before is_inner
-    while_fact b c id condition body place there inside =
-        let node : Node = While place condition body in
+    while_fact b c id condition body position there inside =
+        let node : Node = While position condition body in
         let s = sorted.each id node there in
-        let o = while_condition forest accepted whole sorted b c id condition body place there inside in
+        let o = while_condition forest accepted whole sorted b c id condition body position there inside in
         record {
           condition_is = (o.child, o.judged);
           body_is = statement_below forest accepted whole sorted b c id body node there inside refl
@@ -102,16 +102,16 @@ module _ (forest : Forest) (accepted : IsAccepted forest) (whole : IsForest fore
     no_variable_at test x h o = ap (λ (n : Option Node). is_some (option_and_then (variable_of nodes x) n)) o.is_there
         ∙ h o.node o.passes
 
-    pub for_fact : (b c id first condition step body : ℕ) (place : Pos) →
-        slice_get nodes id ≡ Some (For place first condition step body) → Inside p b c id →
+    pub for_fact : (b c id first condition step body : ℕ) (position : Pos) →
+        slice_get nodes id ≡ Some (For position first condition step body) → Inside p b c id →
         ForFact p b c id first condition step body
     unfolding HasRightChildren children declared_before is_inner
-    for_fact b c id first condition step body place there inside =
-        let node : Node = For place first condition step body in
+    for_fact b c id first condition step body position there inside =
+        let node : Node = For position first condition step body in
         let row : List ℕ = first ∷ condition ∷ step ∷ body ∷ [] in
         let s = sorted.each id node there in
         let f = row_follows forest accepted whole sorted id node row there refl (λ x. refl) in
-        let o = for_condition forest accepted whole sorted b c id first condition step body place there inside in
+        let o = for_condition forest accepted whole sorted b c id first condition step body position there inside in
         let start : Of is_statement nodes first =
         record { node = s.0.node; is_there = s.0.is_there; passes = start_is_statement s.0.node s.0.passes } in
         let next : Of is_statement nodes step =

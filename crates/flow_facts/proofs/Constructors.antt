@@ -59,15 +59,15 @@ module _ (forest : Forest) (accepted : IsAccepted forest) (whole : IsForest fore
 
   -- ---- what a constructor is
 
-  constructor_parameter : (b c q : ℕ) (place : Pos) (name : List ℕ) (flags parameters super_call : Option ℕ) (body : ℕ)
+  constructor_parameter : (b c q : ℕ) (position : Pos) (name : List ℕ) (flags parameters super_call : Option ℕ) (body : ℕ)
       (n : Node) (d : Declared) →
-      slice_get forest.nodes b ≡ Some (Constructor place name flags parameters super_call body) →
+      slice_get forest.nodes b ≡ Some (Constructor position name flags parameters super_call body) →
       (context p b).class ≡ Some c
       → parameters ≡ Some q → slice_get forest.nodes q ≡ Some n → (ds : List Declared) →
       parameters_at_node p.nodes n ≡ Some ds → Element d ds → IsParameter forest accepted whole sorted b c d
   unfolding children is_member is_no_class
-  constructor_parameter b c q place name flags parameters super_call body n d stands class e listed ds k h =
-      listed_parameter forest accepted whole sorted b c q (Constructor place name flags parameters super_call body) n d
+  constructor_parameter b c q position name flags parameters super_call body n d stands class e listed ds k h =
+      listed_parameter forest accepted whole sorted b c q (Constructor position name flags parameters super_call body) n d
       stands refl refl class
       (behind forest accepted whole sorted q (optional flags) _
       (at_front forest accepted whole sorted q parameters (optional super_call ++ body ∷ []) e)) listed ds k h
@@ -76,7 +76,7 @@ module _ (forest : Forest) (accepted : IsAccepted forest) (whole : IsForest fore
       slice_get forest.nodes b ≡ Some node → constructor_of p.nodes b node ≡ Some con → (context p b).class ≡ Some c →
       Element d con.parameters → IsParameter forest accepted whole sorted b c d
   unfolding constructor_of declarations_of
-  of_constructor b c (Constructor place name flags parameters super_call body) con d stands is class h =
+  of_constructor b c (Constructor position name flags parameters super_call body) con d stands is class h =
       go parameters refl
       (subst (Element d) (sym (ap (λ (m : DeclaredConstructor). m.parameters) (some_inj _ con is))) h)
     where
@@ -88,7 +88,7 @@ module _ (forest : Forest) (accepted : IsAccepted forest) (whole : IsForest fore
           IsParameter forest accepted whole sorted b c d
       by_list q e n listed None k h = absurd (none h)
       by_list q e n listed (Some ds) k h =
-          constructor_parameter b c q place name flags parameters super_call body n d stands class e listed ds k h
+          constructor_parameter b c q position name flags parameters super_call body n d stands class e listed ds k h
 
       listed : (q : ℕ) → parameters ≡ Some q → (n : Option Node) → slice_get forest.nodes q ≡ n →
           Element d (unwrap_or (option_and_then (parameters_at_node forest.nodes) n) []) →
@@ -118,11 +118,11 @@ module _ (forest : Forest) (accepted : IsAccepted forest) (whole : IsForest fore
       constructor_of p.nodes b node ≡ Some con → AtConstructor b con
   unfolding constructor_of method_of member_flags node_breaks c9 c11 may_run body_parameters parameter_list
       declarations_of
-  constructor_parts b (Constructor place name flags parameters super_call body) con stands is =
-      let node : Node = Constructor place name flags parameters super_call body in
+  constructor_parts b (Constructor position name flags parameters super_call body) con stands is =
+      let node : Node = Constructor position name flags parameters super_call body in
       let m : Modifiers = modifiers_at p.nodes flags in
       let e =
-      right (is_misplaced_on_constructor p b name m) C11 place
+      right (is_misplaced_on_constructor p b name m) C11 position
       (no_break_at_node forest accepted b node stands).no_class_rule in
       record {
         node = node;
@@ -185,7 +185,7 @@ module _ (forest : Forest) (accepted : IsAccepted forest) (whole : IsForest fore
   constructor_no_class : (b : ℕ) (node : Node) (con : DeclaredConstructor) → constructor_of p.nodes b node ≡ Some con →
       is_a_class node ≡ true → ⊥
   unfolding constructor_of is_a_class
-  constructor_no_class b (Constructor place name flags parameters super_call body) con e h = true≢false (sym h)
+  constructor_no_class b (Constructor position name flags parameters super_call body) con e h = true≢false (sym h)
   constructor_no_class b _ con e h = cc (e)
 
   written_constructor : (class : ℕ) (con : DeclaredConstructor) (taken : List Kind) →
@@ -226,7 +226,7 @@ module _ (forest : Forest) (accepted : IsAccepted forest) (whole : IsForest fore
   outermost_class : (x : ℕ) (c : WrittenClass) → (n : IsClassNode forest.nodes x c) → (context p x).class ≡ None
   outermost_class x c n =
       ap (λ (c : Context). c.class)
-      (class_outermost forest whole sorted x (Class n.place c.name n.flags n.header c.members) n.is_there
+      (class_outermost forest whole sorted x (Class n.position c.name n.flags n.header c.members) n.is_there
       (is_class_node forest.nodes x c n))
 
   numbered_class : (x class : ℕ) → number_of_class (joined forest.files) x ≡ Some class →
@@ -252,7 +252,7 @@ module _ (forest : Forest) (accepted : IsAccepted forest) (whole : IsForest fore
   class_itself class row c stands is none =
       let u = user_class_is forest whole accepted sorted class row c stands is in
       let n = u.node in
-      let node : Node = Class n.place c.name n.flags n.header c.members in
+      let node : Node = Class n.position c.name n.flags n.header c.members in
       let h = this_has_scope forest accepted whole sorted class in
       let no_method : method_at p.nodes c.node ≡ None = ap (option_and_then (method_of p.nodes c.node)) n.is_there in
       let no_parameters : parameters_of p c.node ≡ [] =

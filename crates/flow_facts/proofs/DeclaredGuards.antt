@@ -128,18 +128,18 @@ module _ (forest : Forest) (accepted : IsAccepted forest) (whole : IsForest fore
       on_node : (o : Option Node) → option_and_then (subject_of p a) o ≡ Some (the_variable v) →
           is_among v (known_variables p a) ≡ true
       on_node None e = absurd (cc (e))
-      on_node (Some (SimpleName place name)) e = by_meaning name (meaning p a name) refl e
-      on_node (Some (ThisNode place)) e =
+      on_node (Some (SimpleName position name)) e = by_meaning name (meaning p a name) refl e
+      on_node (Some (ThisNode position)) e =
           absurd (let h : this_object ≡ the_variable v = some_inj this_object (the_variable v) e in cc (h))
       on_node (Some _) e = absurd (cc (e))
 
   -- an `if` that is a guard
   record GuardIf (number : ℕ) (guard : Guard) : Type 0 where
-    place : Pos
+    position : Pos
     condition : ℕ
     first : ℕ
     second : Option ℕ
-    there : slice_get forest.nodes number ≡ Some (If place condition first second)
+    there : slice_get forest.nodes number ≡ Some (If position condition first second)
     asked : AskedCall forest accepted whole sorted is_read condition guard
 
   guard_if : (number : ℕ) (guard : Guard) → guard_of code number ≡ Some guard → GuardIf number guard
@@ -155,15 +155,15 @@ module _ (forest : Forest) (accepted : IsAccepted forest) (whole : IsForest fore
 
       on_node : (o : Option Node) → slice_get forest.nodes number ≡ o → conditions o ≡ Some guard → GuardIf number guard
       on_node None there e = absurd (cc (e))
-      on_node (Some (If place condition first second)) there k =
+      on_node (Some (If position condition first second)) there k =
           record {
-            place = place;
+            position = position;
             condition = condition;
             first = first;
             second = second;
             there = there;
             asked =
-                asked_guard forest accepted whole sorted is_read number condition first place second guard there
+                asked_guard forest accepted whole sorted is_read number condition first position second guard there
                 (ap conditions there ∙ k);
           }
       on_node (Some _) there e = absurd (cc (e))
@@ -176,10 +176,10 @@ module _ (forest : Forest) (accepted : IsAccepted forest) (whole : IsForest fore
       f = guard_if number guard is
 
       node : Node
-      node = If f.place f.condition f.first f.second
+      node = If f.position f.condition f.first f.second
 
       call : Node
-      call = Call f.asked.place f.asked.name f.asked.object (f.asked.a ∷ f.asked.b ∷ [])
+      call = Call f.asked.position f.asked.name f.asked.object (f.asked.a ∷ f.asked.b ∷ [])
 
       -- what is in scope at a subject is in scope at the `if`
       known_there : (a : ℕ) → is_among a (children call) ≡ true → is_among x (known_variables p a) ≡ true → ⊥

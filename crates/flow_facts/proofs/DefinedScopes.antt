@@ -60,9 +60,9 @@ module _ (forest : Forest) (accepted : IsAccepted forest) where
       let two = both_empty (s1 p class d ++ s2 p class d) (s3 p class d) three.0 in
       let one = both_empty (s1 p class d) (s2 p class d) two.0 in
       record {
-        once = right (is_defined_already p class d) S1 d.scope.place one.0;
-        parent = right (has_unknown_parent p d) S2 d.parent.place one.1;
-        right_class = right (is_wrong_class p class) S4 d.scope.place three.1;
+        once = right (is_defined_already p class d) S1 d.scope.position one.0;
+        parent = right (has_unknown_parent p d) S2 d.parent.position one.1;
+        right_class = right (is_wrong_class p class) S4 d.scope.position three.1;
       }
 
   -- S1: a class defines the scope of its own number

@@ -115,7 +115,7 @@ numbered_node p node n e = go (position (λ other. node == other) (method_nodes 
 callable : (nodes : List Node) (id : ℕ) (node : Node) (m : DeclaredMethod) → method_of nodes id node ≡ Some m →
     option_map (λ (w : WrittenName). w.name) (callable_name node) ≡ Some m.declared.name
 unfolding method_of callable_name
-callable nodes id (MethodNode place name flags result_type parameters body) m e =
+callable nodes id (MethodNode position name flags result_type parameters body) m e =
     ap (λ (m : DeclaredMethod). Some m.declared.name) (some_inj _ m e)
 callable nodes id _ m e = absurd (cc (e))
 

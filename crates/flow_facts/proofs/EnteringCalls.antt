@@ -207,18 +207,18 @@ module _ (forest : Forest) (accepted : IsAccepted forest) (whole : IsForest fore
       (typed ∙ ap (λ (z : Ty). Some z) (kind_class t (scope_at_node p y) class s
       (sym (ap (λ o. kind_of o (scope_at_node p y)) typed) ∙ j)))
 
-  pub enter_fact : (b c : ℕ) (sig : Signature) (id : ℕ) (place : Pos) (name : List ℕ) (object : Option ℕ)
+  pub enter_fact : (b c : ℕ) (sig : Signature) (id : ℕ) (position : Pos) (name : List ℕ) (object : Option ℕ)
       (arguments : List ℕ) (f : FoundMethod) (d e : Declared) → IsBody p b c sig →
-      slice_get forest.nodes id ≡ Some (Call place name object arguments) → Inside p b c id →
+      slice_get forest.nodes id ≡ Some (Call position name object arguments) → Inside p b c id →
       method_called p types id object name ≡ Some f → f.method.builtin ≡ Some managed_memory_enter_private_memory →
       (x : CallParts forest accepted whole sorted b c id name object arguments) → declared_type_of p d ≡ Some Int →
       e.declared_type ≡ class_type runnable_name → Two forest accepted whole sorted arguments d e →
       f.on ≡ managed_memory →
       EnterFact code b c sig id managed_memory_enter_private_memory (called_on types x.r f arguments) arguments None
   unfolding code_of
-  enter_fact b c sig id place name object arguments f d e body there inside method number_is x int run h memory =
-      let x2 = enter_facts forest accepted whole sorted b c id h.first h.second place name object f
-      (there ∙ ap (λ xs. Some (Call place name object xs)) h.are) inside method number_is in
+  enter_fact b c sig id position name object arguments f d e body there inside method number_is x int run h memory =
+      let x2 = enter_facts forest accepted whole sorted b c id h.first h.second position name object f
+      (there ∙ ap (λ xs. Some (Call position name object xs)) h.are) inside method number_is in
       let now : x2.now ≡ sig.runs_in = is_current forest accepted whole sorted b c sig x2.now body x2.is_now in
       let given = x2.object_is in
       let sub = passed_runnable h.second x2.class x2.scope h.u e given.judged h.second_typed run h.second_taken in
@@ -285,8 +285,8 @@ module _ (forest : Forest) (accepted : IsAccepted forest) (whole : IsForest fore
         | inr h ↦ h ∙ k
       ]
 
-  pub execute_fact : (b c id : ℕ) (place : Pos) (name : List ℕ) (object : Option ℕ) (arguments : List ℕ)
-      (f : FoundMethod) (d e : Declared) → slice_get forest.nodes id ≡ Some (Call place name object arguments) →
+  pub execute_fact : (b c id : ℕ) (position : Pos) (name : List ℕ) (object : Option ℕ) (arguments : List ℕ)
+      (f : FoundMethod) (d e : Declared) → slice_get forest.nodes id ≡ Some (Call position name object arguments) →
       Inside p b c id → method_called p types id object name ≡ Some f →
       f.method.builtin ≡ Some managed_memory_execute_in_area_of →
       (x : CallParts forest accepted whole sorted b c id name object arguments) →
@@ -294,9 +294,9 @@ module _ (forest : Forest) (accepted : IsAccepted forest) (whole : IsForest fore
       Two forest accepted whole sorted arguments d e → f.on ≡ managed_memory →
       ExecuteInFact code b c id managed_memory_execute_in_area_of (called_on types x.r f arguments) arguments None
   unfolding code_of
-  execute_fact b c id place name object arguments f d e there inside method number_is x any run h memory =
-      let x2 = execute_facts forest accepted whole sorted b c id h.first h.second place name object f
-      (there ∙ ap (λ xs. Some (Call place name object xs)) h.are) inside method number_is in
+  execute_fact b c id position name object arguments f d e there inside method number_is x any run h memory =
+      let x2 = execute_facts forest accepted whole sorted b c id h.first h.second position name object f
+      (there ∙ ap (λ xs. Some (Call position name object xs)) h.are) inside method number_is in
       let given = x2.object_is in
       let sub = passed_runnable h.second x2.class x2.scope h.u e given.judged h.second_typed run h.second_taken in
       let among = first_among forest accepted whole sorted h.first (h.second ∷ []) arguments h.are in

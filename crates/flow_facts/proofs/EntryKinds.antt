@@ -72,84 +72,84 @@ module _ (forest : Forest) (accepted : IsAccepted forest) (whole : IsForest fore
 
   -- ---- a written constructor
 
-  plain_constructor : (b : ℕ) (place : Pos) (name : List ℕ) (flags parameters super_call : Option ℕ) (body : ℕ) →
-      slice_get nodes b ≡ Some (Constructor place name flags parameters super_call body) →
+  plain_constructor : (b : ℕ) (position : Pos) (name : List ℕ) (flags parameters super_call : Option ℕ) (body : ℕ) →
+      slice_get nodes b ≡ Some (Constructor position name flags parameters super_call body) →
       (method_at p.nodes b ≡ None) × (is_static_member p.nodes b ≡ false)
   unfolding constructor_of declarations_of
-  plain_constructor b place name flags parameters super_call body there =
+  plain_constructor b position name flags parameters super_call body there =
       let k =
       constructor_parts forest accepted whole sorted is_read b
-      (Constructor place name flags parameters super_call body) _ there refl in
+      (Constructor position name flags parameters super_call body) _ there refl in
       (k.no_method, k.plain)
 
-  none_written : (b c body : ℕ) (place : Pos) (name : List ℕ) (flags parameters : Option ℕ) →
-      slice_get nodes b ≡ Some (Constructor place name flags parameters None body) →
+  none_written : (b c body : ℕ) (position : Pos) (name : List ℕ) (flags parameters : Option ℕ) →
+      slice_get nodes b ≡ Some (Constructor position name flags parameters None body) →
       MemberAt forest accepted whole sorted b c → (context p b).class ≡ Some c →
       Unwritten forest accepted whole sorted is_read c
   unfolding constructor_of declarations_of
-  none_written b c body place name flags parameters there m class =
+  none_written b c body position name flags parameters there m class =
       ap (λ (o : Option DeclaredConstructor). holds o (λ (con : DeclaredConstructor). is_some con.super_call))
       (one_constructor forest accepted whole sorted b c _ (ap (option_and_then (constructor_of nodes b)) there) m
       class)
 
-  super_part : (b c body : ℕ) (sig : Signature) (place : Pos) (name : List ℕ) (flags parameters : Option ℕ)
-      (super_call : Option ℕ) → slice_get nodes b ≡ Some (Constructor place name flags parameters super_call body) →
+  super_part : (b c body : ℕ) (sig : Signature) (position : Pos) (name : List ℕ) (flags parameters : Option ℕ)
+      (super_call : Option ℕ) → slice_get nodes b ≡ Some (Constructor position name flags parameters super_call body) →
       MemberAt forest accepted whole sorted b c → (context p b).class ≡ Some c → this_in p c ≡ Some sig.runs_in →
       OptionSuperFact code b c sig super_call
-  super_part b c body sig place name flags parameters None there m class home =
+  super_part b c body sig position name flags parameters None there m class home =
       λ node is. unwritten_super_fact forest accepted whole sorted is_read b c m.k node sig m.at
-      (none_written b c body place name flags parameters there m class) home is
-  super_part b c body sig place name flags parameters (Some call) there m class home =
-      super_fact_at forest accepted whole sorted is_read b c call sig place name flags parameters body there m class
+      (none_written b c body position name flags parameters there m class) home is
+  super_part b c body sig position name flags parameters (Some call) there m class home =
+      super_fact_at forest accepted whole sorted is_read b c call sig position name flags parameters body there m class
       home
 
-  block_of : (b c body : ℕ) (place : Pos) (name : List ℕ) (flags parameters super_call : Option ℕ) →
-      slice_get nodes b ≡ Some (Constructor place name flags parameters super_call body) →
+  block_of : (b c body : ℕ) (position : Pos) (name : List ℕ) (flags parameters super_call : Option ℕ) →
+      slice_get nodes b ≡ Some (Constructor position name flags parameters super_call body) →
       (context p b).class ≡ Some c → BodyFact p b c body
   unfolding HasRightChildren children declared_before is_member parameter_list
-  block_of b c body place name flags parameters super_call there class =
-      let node : Node = Constructor place name flags parameters super_call body in
+  block_of b c body position name flags parameters super_call there class =
+      let node : Node = Constructor position name flags parameters super_call body in
       body_fact forest accepted whole sorted b c body node there refl class
       (among-behind body (optional flags) (optional parameters ++ (optional super_call ++ body ∷ []))
       (among-behind body (optional parameters) (optional super_call ++ body ∷ [])
       (among-behind body (optional super_call) (body ∷ []) (same_first forest accepted whole sorted body []))))
       (sorted.each b node there).3 refl
 
-  written_constructor_fact : (b c body : ℕ) (sig : Signature) (place : Pos) (name : List ℕ)
+  written_constructor_fact : (b c body : ℕ) (sig : Signature) (position : Pos) (name : List ℕ)
       (flags parameters super_call : Option ℕ) →
-      slice_get nodes b ≡ Some (Constructor place name flags parameters super_call body) → IsBody p b c sig →
+      slice_get nodes b ≡ Some (Constructor position name flags parameters super_call body) → IsBody p b c sig →
       ConstructorFact code b c sig super_call × BodyFact p b c body
   unfolding is_member
-  written_constructor_fact b c body sig place name flags parameters super_call there is =
-      let m = member_at forest accepted whole sorted b c (Constructor place name flags parameters super_call body) there
+  written_constructor_fact b c body sig position name flags parameters super_call there is =
+      let m = member_at forest accepted whole sorted b c (Constructor position name flags parameters super_call body) there
       refl is.is_class in
-      let plain = plain_constructor b place name flags parameters super_call body there in (
+      let plain = plain_constructor b position name flags parameters super_call body there in (
         constructor_fact b c sig super_call is (record { no_method = plain.0; plain = plain.1; k = m.0.k; at = m.0.at })
-            (super_part b c body sig place name flags parameters super_call there m.0 m.1 (home_is b c sig is plain.0)),
-        block_of b c body place name flags parameters super_call there m.1,
+            (super_part b c body sig position name flags parameters super_call there m.0 m.1 (home_is b c sig is plain.0)),
+        block_of b c body position name flags parameters super_call there m.1,
       )
 
   -- ---- a class whose constructor isn't written
 
-  plain_class : (b : ℕ) (place : Pos) (name : List ℕ) (flags header : Option ℕ) (members : List ℕ) →
-      slice_get nodes b ≡ Some (Class place name flags header members) → (method_at p.nodes b ≡ None) ×
+  plain_class : (b : ℕ) (position : Pos) (name : List ℕ) (flags header : Option ℕ) (members : List ℕ) →
+      slice_get nodes b ≡ Some (Class position name flags header members) → (method_at p.nodes b ≡ None) ×
       (is_static_member p.nodes b ≡ false)
   unfolding method_of member_flags declarations_of
-  plain_class b place name flags header members there = (
+  plain_class b position name flags header members there = (
     ap (option_and_then (method_of nodes b)) there,
     ap (λ (o : Option Node). holds (option_and_then member_flags o) (λ flags. (modifiers_at nodes flags).is_static))
         there,
   )
 
-  class_fact : (b c : ℕ) (sig : Signature) (place : Pos) (name : List ℕ) (flags header : Option ℕ) (members : List ℕ) →
-      slice_get nodes b ≡ Some (Class place name flags header members) → constructor_in p.classes c ≡ None →
+  class_fact : (b c : ℕ) (sig : Signature) (position : Pos) (name : List ℕ) (flags header : Option ℕ) (members : List ℕ) →
+      slice_get nodes b ≡ Some (Class position name flags header members) → constructor_in p.classes c ≡ None →
       IsBody p b c sig → ConstructorFact code b c sig None
   unfolding is_no_class
-  class_fact b c sig place name flags header members there none is =
+  class_fact b c sig position name flags header members there none is =
       let a =
-      class_body_at forest accepted whole sorted b c (Class place name flags header members) there refl is.is_class
+      class_body_at forest accepted whole sorted b c (Class position name flags header members) there refl is.is_class
       in
-      let plain = plain_class b place name flags header members there in
+      let plain = plain_class b position name flags header members there in
       constructor_fact b c sig None is (record { no_method = plain.0; plain = plain.1; k = b; at = a })
       (λ node e. unwritten_super_fact forest accepted whole sorted is_read b c b node sig a
       (ap (λ (o : Option DeclaredConstructor). holds o (λ (con : DeclaredConstructor). is_some con.super_call))
@@ -157,26 +157,26 @@ module _ (forest : Forest) (accepted : IsAccepted forest) (whole : IsForest fore
 
   -- ---- all bodies
 
-  method_entry : (b c result_type body : ℕ) (sig : Signature) (place : Pos) (name : List ℕ)
+  method_entry : (b c result_type body : ℕ) (sig : Signature) (position : Pos) (name : List ℕ)
       (flags parameters : Option ℕ) →
-      slice_get nodes b ≡ Some (MethodNode place name flags result_type parameters (Some body)) → IsBody p b c sig →
+      slice_get nodes b ≡ Some (MethodNode position name flags result_type parameters (Some body)) → IsBody p b c sig →
       MethodFact p b c sig result_type body
   unfolding is_member
-  method_entry b c result_type body sig place name flags parameters there is =
-      method_fact forest accepted whole sorted b c result_type body sig place name flags parameters there
-      (member_at forest accepted whole sorted b c (MethodNode place name flags result_type parameters (Some body))
+  method_entry b c result_type body sig position name flags parameters there is =
+      method_fact forest accepted whole sorted b c result_type body sig position name flags parameters there
+      (member_at forest accepted whole sorted b c (MethodNode position name flags result_type parameters (Some body))
       there refl is.is_class).1 is
 
   by_kind : (b c : ℕ) (sig : Signature) (node : Node) → slice_get nodes b ≡ Some node → may_run node ≡ true →
       (is_class node ≡ true → constructor_in p.classes c ≡ None) → IsBody p b c sig → EntryFact code b c sig node
   unfolding EntryFact may_run is_class
-  by_kind b c sig (MethodNode place name flags result_type parameters (Some body)) there e n is =
-      method_entry b c result_type body sig place name flags parameters there is
-  by_kind b c sig (MethodNode place name flags result_type parameters None) there e n is = absurd (true≢false (sym e))
-  by_kind b c sig (Constructor place name flags parameters super_call body) there e n is =
-      written_constructor_fact b c body sig place name flags parameters super_call there is
-  by_kind b c sig (Class place name flags header members) there e n is =
-      class_fact b c sig place name flags header members there (n refl) is
+  by_kind b c sig (MethodNode position name flags result_type parameters (Some body)) there e n is =
+      method_entry b c result_type body sig position name flags parameters there is
+  by_kind b c sig (MethodNode position name flags result_type parameters None) there e n is = absurd (true≢false (sym e))
+  by_kind b c sig (Constructor position name flags parameters super_call body) there e n is =
+      written_constructor_fact b c body sig position name flags parameters super_call there is
+  by_kind b c sig (Class position name flags header members) there e n is =
+      class_fact b c sig position name flags header members there (n refl) is
   by_kind b c sig _ there e n is = absurd (true≢false (sym e))
 
   pub entry_fact : (b c : ℕ) (sig : Signature) (body : IsBody p b c sig) → EntryFact code b c sig body.node

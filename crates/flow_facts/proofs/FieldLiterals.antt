@@ -55,12 +55,12 @@ abbrev name_of : Declared → List ℕ
 name_of f = f.name
 
 -- of a field that is declared with a value T7 alone is asked
-t7_alone : (p : Declarations) (types : Types) (id : ℕ) (place : Pos) (name : List ℕ) (flags : Option ℕ)
+t7_alone : (p : Declarations) (types : Types) (id : ℕ) (position : Pos) (name : List ℕ) (flags : Option ℕ)
     (declared_type value : ℕ) (equals : Pos) →
-    type_breaks p types id (Field place name flags declared_type (Some equals) (Some value)) ≡ [] →
+    type_breaks p types id (Field position name flags declared_type (Some equals) (Some value)) ≡ [] →
     misfits_initial_value p types declared_type value ≡ false
 unfolding type_breaks t1 t2 t3 t4 t5 t6 t7 t8 t9 t10 t11 t12 t13 t14
-t7_alone p types id place name flags declared_type value equals e =
+t7_alone p types id position name flags declared_type value equals e =
     right (misfits_initial_value p types declared_type value) T7 equals
     (both_empty (broken (misfits_initial_value p types declared_type value) T7 equals) [] e).0
 
@@ -84,12 +84,12 @@ module _ (forest : Forest) (accepted : IsAccepted forest) (whole : IsForest fore
   -- ---- a field with a literal, at its node
 
   record FieldWithLiteral (f : Declared) (value : ℕ) : Type 0 where
-    place : Pos
+    position : Pos
     name : List ℕ
     flags : Option ℕ
     declared_type : ℕ
     equals : Pos
-    is_there : slice_get nodes f.node ≡ Some (Field place name flags declared_type (Some equals) (Some value))
+    is_there : slice_get nodes f.node ≡ Some (Field position name flags declared_type (Some equals) (Some value))
     same_name : f.name ≡ name
     typed : declared_type_of p f ≡ written_type p declared_type
 
@@ -97,21 +97,21 @@ module _ (forest : Forest) (accepted : IsAccepted forest) (whole : IsForest fore
       field_of p.nodes f.node node ≡ Some f → literal_written node ≡ Some value → has_right_operator node ≡ true →
       FieldWithLiteral f value
   unfolding field_of literal_written has_right_operator
-  field_node f value (Field place name flags declared_type (Some equals) (Some own)) there is written e =
+  field_node f value (Field position name flags declared_type (Some equals) (Some own)) there is written e =
       let same : own ≡ value = some_inj own value written in
       record {
-        place = place;
+        position = position;
         name = name;
         flags = flags;
         declared_type = declared_type;
         equals = equals;
-        is_there = there ∙ ap (λ v. Some (Field place name flags declared_type (Some equals) (Some v))) same;
+        is_there = there ∙ ap (λ v. Some (Field position name flags declared_type (Some equals) (Some v))) same;
         same_name = sym (ap (λ (d : Declared). d.name) (some_inj _ f is));
         typed = ap (declared_type_of p) (sym (some_inj _ f is));
       }
-  field_node f value (Field place name flags declared_type None (Some own)) there is written e =
+  field_node f value (Field position name flags declared_type None (Some own)) there is written e =
       absurd (true≢false (sym e))
-  field_node f value (Field place name flags declared_type equals None) there is written e = absurd (cc (written))
+  field_node f value (Field position name flags declared_type equals None) there is written e = absurd (cc (written))
   field_node f value _ there is written e = absurd (cc (is))
 
   field_there : (f : Declared) (value : ℕ) → field_at p.nodes f.node ≡ Some f → field_literal p f ≡ Some value →
@@ -131,18 +131,18 @@ module _ (forest : Forest) (accepted : IsAccepted forest) (whole : IsForest fore
       not_false (assigns p.classes u t)
       (sym (ap (λ (o : Option Ty). holds o (λ t. holds (types value) (λ v. not (assigns p.classes v t))))
       (sym x.typed ∙ typed) ∙ ap (λ (o : Option Ty). holds o (λ v. not (assigns p.classes v t))) e)
-      ∙ t7_alone p types f.node x.place x.name x.flags x.declared_type value x.equals
+      ∙ t7_alone p types f.node x.position x.name x.flags x.declared_type value x.equals
       (unbroken forest accepted whole sorted f.node
-      (Field x.place x.name x.flags x.declared_type (Some x.equals) (Some value)) x.is_there))
+      (Field x.position x.name x.flags x.declared_type (Some x.equals) (Some value)) x.is_there))
 
   -- ---- the field that its binding names
 
   twice_none : (c k : ℕ) → (a : At c k) → named_twice name_of [] a.row.fields ≡ []
   unfolding c4
   twice_none c k a =
-      none_broken (λ (f : Declared). f.place) C4 (named_twice name_of [] a.row.fields)
-      (both_empty (broken_at_each (λ (f : Declared). f.place) C4 (named_twice name_of [] a.row.fields))
-      (flat_map (λ (f : Declared). broken (hides_field p c f) C4 f.place) a.row.fields)
+      none_broken (λ (f : Declared). f.position) C4 (named_twice name_of [] a.row.fields)
+      (both_empty (broken_at_each (λ (f : Declared). f.position) C4 (named_twice name_of [] a.row.fields))
+      (flat_map (λ (f : Declared). broken (hides_field p c f) C4 f.position) a.row.fields)
       (at_class_unbroken forest accepted c a.row a.class a.is_row a.written).field_twice).0
 
   named_field : (c k : ℕ) (f : Declared) → (a : At c k) → Element f a.row.fields →
@@ -167,7 +167,7 @@ module _ (forest : Forest) (accepted : IsAccepted forest) (whole : IsForest fore
   unfolding binding_of class_of_receiver
   bound_at c f value n x class named field =
       binding_is forest accepted whole sorted f.node
-      (Field x.place x.name x.flags x.declared_type (Some x.equals) (Some value)) x.is_there
+      (Field x.position x.name x.flags x.declared_type (Some x.equals) (Some value)) x.is_there
       ∙ ap (λ (o : Option ℕ). plain_or (λ (row : FoundField). field_binding p row.field)
       (option_and_then (λ class. accessed_field p (the_class class) x.name) o)) class
       ∙ ap (λ name. plain_or (λ (row : FoundField). field_binding p row.field) (field_named p.classes c name))
@@ -190,7 +190,7 @@ module _ (forest : Forest) (accepted : IsAccepted forest) (whole : IsForest fore
       let named = named_field c k f a h in
       let q = field_kind forest accepted whole sorted c f.name found named in
       let o =
-      (sorted.each f.node (Field x.place x.name x.flags x.declared_type (Some x.equals) (Some value)) x.is_there).2
+      (sorted.each f.node (Field x.position x.name x.flags x.declared_type (Some x.equals) (Some value)) x.is_there).2
       in
       let l =
       literal_of p types value o.node q.type o.passes

@@ -203,13 +203,13 @@ module _ (forest : Forest) (accepted : IsAccepted forest) (whole : IsForest fore
       label_not_judged y (Some k) e j =
           (let z : None ≡ Some k = sym (ap (λ (o : Option Ty). kind_of o (scopes y)) e) ∙ j in cc (z))
 
-      pub text_argument : (y : ℕ) → is_among y arguments ≡ true → types y ≡ Some Label → (place : Pos) × (text : List ℕ) ×
-          (slice_get forest.nodes y ≡ Some (Text place text))
+      pub text_argument : (y : ℕ) → is_among y arguments ≡ true → types y ≡ Some Label → (position : Pos) × (text : List ℕ) ×
+          (slice_get forest.nodes y ≡ Some (Text position text))
       text_argument y among e =
           let v = x.values y among in
           let w = v.value in
           elim (text_or_expression v.node w.is_argument) as
-          (λ z. (place : Pos) × (text : List ℕ) × (slice_get forest.nodes y ≡ Some (Text place text))) [
+          (λ z. (position : Pos) × (text : List ℕ) × (slice_get forest.nodes y ≡ Some (Text position text))) [
             | inl k ↦ absurd (let j = judged forest accepted whole sorted b c y v.node v.is_there v.inside w k in
                 label_not_judged y j.0 e j.1)
             | inr q ↦ (q.0, q.1, v.is_there ∙ ap (λ n. Some n) q.2)
@@ -241,21 +241,21 @@ module _ (forest : Forest) (accepted : IsAccepted forest) (whole : IsForest fore
       pub receiver_is : ReceiverIs p b c id object class scope
       pub named : method_named p.classes class name ≡ Some f
 
-    pub called_on_object : (b c id : ℕ) (place : Pos) (name : List ℕ) (object : Option ℕ) (arguments : List ℕ)
-        (f : FoundMethod) → slice_get forest.nodes id ≡ Some (Call place name object arguments) → Inside p b c id →
+    pub called_on_object : (b c id : ℕ) (position : Pos) (name : List ℕ) (object : Option ℕ) (arguments : List ℕ)
+        (f : FoundMethod) → slice_get forest.nodes id ≡ Some (Call position name object arguments) → Inside p b c id →
         method_called p types id object name ≡ Some f → f.method.declared.modifiers.is_static ≡ false →
         CalledOn b c id object name f
     unfolding children is_argument is_expression object_of takes_parts HasRightChildren declared_before call_receiver
         class_of_receiver object_of_own
-    called_on_object b c id place name None arguments f there inside method plain =
-        let x = call_parts forest accepted whole sorted b c id place name None arguments there inside in
+    called_on_object b c id position name None arguments f there inside method plain =
+        let x = call_parts forest accepted whole sorted b c id position name None arguments there inside in
         let e : call_receiver p types id None ≡ Some (own_object c) =
         ap (option_map (λ class. own_object class)) inside.class in
         let m : called_method p (own_object c) name ≡ Some f = sym (ap (option_and_then (λ r. called_method p r name)) e)
         ∙ method in
         let w =
-        right_call p types id place name None arguments
-        (unbroken forest accepted whole sorted id (Call place name None arguments) there) in
+        right_call p types id position name None arguments
+        (unbroken forest accepted whole sorted id (Call position name None arguments) there) in
         let rules = call_rules forest accepted whole sorted id name None arguments (own_object c) x.ts e x.typed w in
         let h = this_has_scope forest accepted whole sorted c in
         let own : OwnObject p b c =
@@ -266,16 +266,16 @@ module _ (forest : Forest) (accepted : IsAccepted forest) (whole : IsForest fore
           is_home = h.1;
         } in
         record { class = c; scope = h.0; receiver_is = (object_of_own p b c own, refl, refl); named = m }
-    called_on_object b c id place name (Some object) arguments f there inside method plain =
-        let node : Node = Call place name (Some object) arguments in
+    called_on_object b c id position name (Some object) arguments f there inside method plain =
+        let node : Node = Call position name (Some object) arguments in
         let s = sorted.each id node there in
         let o = of_expression forest accepted whole sorted object s.0 in
-        let x = call_parts forest accepted whole sorted b c id place name (Some object) arguments there inside in
+        let x = call_parts forest accepted whole sorted b c id position name (Some object) arguments there inside in
         let at : class_at_name p object o.node ≡ None → ValueAt forest accepted whole sorted b c id object =
         λ k. value_at forest accepted whole sorted b c id node there inside refl object
         (same_first forest accepted whole sorted object arguments) o k refl in
         let w =
-        right_call p types id place name (Some object) arguments (unbroken forest accepted whole sorted id node there)
+        right_call p types id position name (Some object) arguments (unbroken forest accepted whole sorted id node there)
         in
         elim (receiver_cases forest accepted whole sorted object o.node o.is_there
         (λ k. type_of_value forest accepted whole sorted b c id object (at k))) as

@@ -72,7 +72,7 @@ module _ (forest : Forest) (accepted : IsAccepted forest) (whole : IsForest fore
       (r.class ≡ q.class)
   unfolding code_of
   received b c id name object arguments f row x plain =
-      let q = called_on_object forest accepted whole sorted b c id x.place name object arguments f x.stands x.inside
+      let q = called_on_object forest accepted whole sorted b c id x.position name object arguments f x.stands x.inside
       x.method (plain_is forest accepted whole sorted is_read f row x.is ∙ plain) in
       (q, record { class = q.class; scope = q.scope; receiver_is = q.receiver_is; is_given = refl }, refl)
 
@@ -192,14 +192,14 @@ module _ (forest : Forest) (accepted : IsAccepted forest) (whole : IsForest fore
       let k = two forest accepted whole sorted arguments _ _ x.taken in
       subst (Cases b c sig id object arguments row (called_on types x.parts.r f arguments))
       (sym (judged_once p id o None j (nothing_judged forest accepted whole sorted is_read id x.given)))
-      (inl (enter_fact forest accepted whole sorted is_read b c sig id x.place name object arguments f _ _ body x.stands
+      (inl (enter_fact forest accepted whole sorted is_read b c sig id x.position name object arguments f _ _ body x.stands
       x.inside x.method (number_is forest accepted whole sorted is_read f row x.is) x.parts refl refl k x.on))
   by_row b c sig id name object arguments f row o body executes x j =
       let k = two forest accepted whole sorted arguments _ _ x.taken in
       subst (Cases b c sig id object arguments row (called_on types x.parts.r f arguments))
       (sym (judged_once p id o None j (nothing_judged forest accepted whole sorted is_read id x.given)))
       (inr (inl
-      (execute_fact forest accepted whole sorted is_read b c id x.place name object arguments f _ _ x.stands
+      (execute_fact forest accepted whole sorted is_read b c id x.position name object arguments f _ _ x.stands
       x.inside x.method (number_is forest accepted whole sorted is_read f row x.is) x.parts refl refl k x.on)))
   by_row b c sig id name object arguments f row o body sets_ceiling x j =
       let k = two forest accepted whole sorted arguments _ _ x.taken in
@@ -237,13 +237,13 @@ module _ (forest : Forest) (accepted : IsAccepted forest) (whole : IsForest fore
       (inr
       (inr (same_case forest accepted whole sorted is_read b c id name object arguments _ _ x.parts refl refl k)))))))))
 
-  pub builtin_bound : (id n : ℕ) (place : Pos) (name : List ℕ) (object : Option ℕ) (arguments : List ℕ) (f : FoundMethod)
-      (r : Receiver) → slice_get forest.nodes id ≡ Some (Call place name object arguments) →
+  pub builtin_bound : (id n : ℕ) (position : Pos) (name : List ℕ) (object : Option ℕ) (arguments : List ℕ) (f : FoundMethod)
+      (r : Receiver) → slice_get forest.nodes id ≡ Some (Call position name object arguments) →
       call_receiver p types id object ≡ Some r → called_method p r name ≡ Some f → f.method.builtin ≡ Some n →
       binding_at_node p id ≡ Builtin (target types r f arguments n)
   unfolding binding_of method_binding
-  builtin_bound id n place name object arguments f r there e m b =
-      binding_is forest accepted whole sorted id (Call place name object arguments) there
+  builtin_bound id n position name object arguments f r there e m b =
+      binding_is forest accepted whole sorted id (Call position name object arguments) there
       ∙ ap (λ (o : Option Receiver). plain_or
       (λ r. plain_or (method_binding p types r arguments) (called_method p r name)) o) e
       ∙ ap (λ (o : Option FoundMethod). plain_or (method_binding p types r arguments) o) m
@@ -257,21 +257,21 @@ module _ (forest : Forest) (accepted : IsAccepted forest) (whole : IsForest fore
   first_true true b e = refl
   first_true false b e = absurd (true≢false (sym e))
 
-  pub builtin_fact : (b c : ℕ) (sig : Signature) (id : ℕ) (place : Pos) (name : List ℕ) (object : Option ℕ)
+  pub builtin_fact : (b c : ℕ) (sig : Signature) (id : ℕ) (position : Pos) (name : List ℕ) (object : Option ℕ)
       (arguments : List ℕ) (o : Option Kind) (n : ℕ) → IsBody p b c sig →
-      slice_get forest.nodes id ≡ Some (Call place name object arguments) → Inside p b c id →
+      slice_get forest.nodes id ≡ Some (Call position name object arguments) → Inside p b c id →
       (m : Invoked forest accepted whole sorted is_read id name object) → m.method.method.builtin ≡ Some n →
       Judged p id o
       → BuiltinFact code b c sig id object arguments o
   unfolding code_of target framework_method
-  builtin_fact b c sig id place name object arguments o n body there inside v number_of j =
+  builtin_fact b c sig id position name object arguments o n body there inside v number_of j =
       let f = v.method in
-      let x = call_parts forest accepted whole sorted b c id place name object arguments there inside in
+      let x = call_parts forest accepted whole sorted b c id position name object arguments there inside in
       let m : called_method p x.r name ≡ Some f = sym (ap (option_and_then (λ r. called_method p r name)) x.is_receiver)
       ∙ v.is in
       let w =
-      right_call p types id place name object arguments
-      (unbroken forest accepted whole sorted id (Call place name object arguments) there) in
+      right_call p types id position name object arguments
+      (unbroken forest accepted whole sorted id (Call position name object arguments) there) in
       let rules = call_rules forest accepted whole sorted id name object arguments x.r x.ts x.is_receiver x.typed w in
       let t = method_there forest accepted whole sorted x.r name rules.of_reference rules.has_method in
       let callable : f.method.callable ≡ true =
@@ -279,12 +279,12 @@ module _ (forest : Forest) (accepted : IsAccepted forest) (whole : IsForest fore
       let q = of_class (class_of_receiver x.r) (λ class. method_named p.classes class name) f m in
       let y = own_found forest accepted whole sorted q.0 name f q.2 in
       let k = of_framework forest accepted whole sorted y.0 name f y.1 (ap is_some number_of) in
-      let a = argument_facts forest accepted whole sorted b c id place name object arguments f there inside v.is in
+      let a = argument_facts forest accepted whole sorted b c id position name object arguments f there inside v.is in
       let is_called = callable_is k.row k.among (ap (λ (m : DeclaredMethod). m.callable) k.is ∙ callable) in
       let same : k.row.number ≡ n =
       some_inj k.row.number n (sym (number_is forest accepted whole sorted is_read f k.row k.is) ∙ number_of) in
       let called : Called b c id name object arguments f k.row = record {
-        place = place;
+        position = position;
         stands = there;
         inside = inside;
         method = v.is;
@@ -299,7 +299,7 @@ module _ (forest : Forest) (accepted : IsAccepted forest) (whole : IsForest fore
       } in
       record {
         target = target types x.r f arguments n;
-        is = builtin_bound id n place name object arguments f x.r there x.is_receiver m number_of;
+        is = builtin_bound id n position name object arguments f x.r there x.is_receiver m number_of;
         cases = subst (λ n. BuiltinCases code b c sig id object arguments n (called_on types x.r f arguments) o) same
             (by_row b c sig id name object arguments f k.row o body is_called called j);
       }

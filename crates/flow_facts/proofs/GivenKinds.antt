@@ -101,19 +101,19 @@ void_holds_none e = true≢false (sym e)
 
 -- an expression that always has a value, by its kind
 unfoldable pub gives_value : Node → Bool
-gives_value (Number place value is_negative) = true
-gives_value (True place) = true
-gives_value (False place) = true
-gives_value (Null place) = true
-gives_value (ThisNode place) = true
-gives_value (SimpleName place name) = true
-gives_value (Binary place operator left right) = true
-gives_value (Unary place operator operand) = true
-gives_value (Cast place name_place name operand) = true
-gives_value (FieldAccess place name object) = true
-gives_value (Element place array index) = true
-gives_value (New place name_place name arguments) = true
-gives_value (NewArray place element length) = true
+gives_value (Number position value is_negative) = true
+gives_value (True position) = true
+gives_value (False position) = true
+gives_value (Null position) = true
+gives_value (ThisNode position) = true
+gives_value (SimpleName position name) = true
+gives_value (Binary position operator left right) = true
+gives_value (Unary position operator operand) = true
+gives_value (Cast position name_place name operand) = true
+gives_value (FieldAccess position name object) = true
+gives_value (Element position array index) = true
+gives_value (New position name_place name arguments) = true
+gives_value (NewArray position element length) = true
 gives_value _ = false
 
 module _ (forest : Forest) (accepted : IsAccepted forest) (whole : IsForest forest) (sorted : IsWellSorted forest.nodes)
@@ -172,34 +172,34 @@ module _ (forest : Forest) (accepted : IsAccepted forest) (whole : IsForest fore
 
     value_no_void : (id : ℕ) (node : Node) → gives_value node ≡ true → NoVoid (type_of p types id node)
     unfolding type_of gives_value
-    value_no_void id (Number place value is_negative) k e = int_no_void e
-    value_no_void id (True place) k e = boolean_no_void e
-    value_no_void id (False place) k e = boolean_no_void e
-    value_no_void id (Null place) k e = (let f : NullTy ≡ Void = some_inj NullTy Void e in cc (f))
-    value_no_void id (ThisNode place) k e = class_named_no_void (context p id).class e
-    value_no_void id (SimpleName place name) k e = meaning_no_void id name e
-    value_no_void id (Binary place operator left operand) k e =
+    value_no_void id (Number position value is_negative) k e = int_no_void e
+    value_no_void id (True position) k e = boolean_no_void e
+    value_no_void id (False position) k e = boolean_no_void e
+    value_no_void id (Null position) k e = (let f : NullTy ≡ Void = some_inj NullTy Void e in cc (f))
+    value_no_void id (ThisNode position) k e = class_named_no_void (context p id).class e
+    value_no_void id (SimpleName position name) k e = meaning_no_void id name e
+    value_no_void id (Binary position operator left operand) k e =
         let a = of_option (types left) (λ a. option_and_then (binary_type p.classes operator a) (types operand)) Void e in
         let b = of_option (types operand) (binary_type p.classes operator a.0) Void a.2 in
         binary_no_void p.classes operator a.0 b.0 b.2
-    value_no_void id (Unary place operator operand) k e =
+    value_no_void id (Unary position operator operand) k e =
         (let a = of_option (types operand) (unary_type operator) Void e in unary_no_void operator a.0 a.2)
-    value_no_void id (Cast place name_place name operand) k e =
+    value_no_void id (Cast position name_place name operand) k e =
         (let a = of_option (types operand) (λ t. option_map (λ class. ClassTy class) (class_number p.names name)) Void e
         in class_named_no_void (class_number p.names name) a.2)
-    value_no_void id (FieldAccess place name object) k e =
+    value_no_void id (FieldAccess position name object) k e =
         (let a = of_option (receiver p types object) (λ r. access_type p r name) Void e in access_no_void a.0 name a.2)
-    value_no_void id (Element place array index) k e =
+    value_no_void id (Element position array index) k e =
         let a = of_option (types array) (λ a. option_and_then (λ i. element_type a) (types index)) Void e in
         let b = of_option (types index) (λ i. element_type a.0) Void a.2 in element_no_void a.0 b.2
-    value_no_void id (New place name_place name arguments) k e =
+    value_no_void id (New position name_place name arguments) k e =
         if_no_void _ None (option_and_then (λ ts. option_map (λ class. ClassTy class) (class_number p.names name))
         (all_types types arguments)) none_no_void
         (λ e.
         (let a = of_option (all_types types arguments)
         (λ ts. option_map (λ class. ClassTy class) (class_number p.names name)) Void e in
         class_named_no_void (class_number p.names name) a.2)) e
-    value_no_void id (NewArray place element size) k e =
+    value_no_void id (NewArray position element size) k e =
         let a = of_option (types size) (λ n. option_and_then array_of (written_type p element)) Void e in
         let b = of_option (written_type p element) array_of Void a.2 in array_no_void b.0 b.2
     value_no_void id _ k e = absurd (true≢false (sym k))

@@ -58,7 +58,7 @@ module _ (forest : Forest) (accepted : IsAccepted forest) (whole : IsForest fore
 
   class_first : (y : ℕ) (node : Node) → is_no_class node ≡ false → is_first_part y node ≡ false
   unfolding is_no_class is_first_part
-  class_first y (Class place name flags header members) e = refl
+  class_first y (Class position name flags header members) e = refl
   class_first y _ e = absurd (true≢false e)
 
   class_around : (k : ℕ) (node : Node) → slice_get forest.nodes k ≡ Some node → is_no_class node ≡ false →
@@ -173,15 +173,15 @@ module _ (forest : Forest) (accepted : IsAccepted forest) (whole : IsForest fore
     written_super_adds sig (Some call) node there member class among f k =
         let m = among call refl in
         part_adds call node there member m.0 m.1 f.smaller
-        (inside_member forest accepted whole sorted b c call node (SuperCall f.place f.arguments) there member class m.0
+        (inside_member forest accepted whole sorted b c call node (SuperCall f.position f.arguments) there member class m.0
         f.is_there)
-        (record { node = SuperCall f.place f.arguments; is_there = f.is_there; passes = refl })
+        (record { node = SuperCall f.position f.arguments; is_there = f.is_there; passes = refl })
 
     entry_adds : (sig : Signature) (node : Node) → slice_get forest.nodes b ≡ Some node → may_run node ≡ true →
         IsBody p b c sig → EntryFact code b c sig node → A (node_ops code sub b node)
     unfolding node_ops method_ops may_run EntryFact children is_member is_first_part
-    entry_adds sig (MethodNode place name flags result_type parameters (Some body)) there e is f =
-        let node : Node = MethodNode place name flags result_type parameters (Some body) in
+    entry_adds sig (MethodNode position name flags result_type parameters (Some body)) there e is f =
+        let node : Node = MethodNode position name flags result_type parameters (Some body) in
         let a =
         body_adds body node there refl
         (among-behind body (optional flags) (result_type ∷ (optional parameters ++ body ∷ []))
@@ -190,9 +190,9 @@ module _ (forest : Forest) (accepted : IsAccepted forest) (whole : IsForest fore
         either code (Written b) [] sub b (is_same_type (type_at p.nodes result_type) void_type) (sub body ++ LEAVE ∷ [])
         (sub body)
         (leaving (sub body) a) a
-    entry_adds sig (MethodNode place name flags result_type parameters None) there e is f = absurd (true≢false (sym e))
-    entry_adds sig (Constructor place name flags parameters super_call body) there e is f =
-        let node : Node = Constructor place name flags parameters super_call body in
+    entry_adds sig (MethodNode position name flags result_type parameters None) there e is f = absurd (true≢false (sym e))
+    entry_adds sig (Constructor position name flags parameters super_call body) there e is f =
+        let node : Node = Constructor position name flags parameters super_call body in
         let m = member_at forest accepted whole sorted b c node there refl is.is_class in
         constructor_adds super_call (sub body)
         (written_super_adds sig super_call node there refl m.1 (λ call is_call. (
@@ -205,7 +205,7 @@ module _ (forest : Forest) (accepted : IsAccepted forest) (whole : IsForest fore
         (among-behind body (optional flags) (optional parameters ++ (optional super_call ++ body ∷ []))
         (among-behind body (optional parameters) (optional super_call ++ body ∷ [])
         (among-behind body (optional super_call) (body ∷ []) (here body [])))) refl f.1)
-    entry_adds sig (Class place name flags header members) there e is f =
+    entry_adds sig (Class position name flags header members) there e is f =
         constructor_adds None [] (λ k. unwritten_super_adds k) none
     entry_adds sig _ there e is f = absurd (true≢false (sym e))
 

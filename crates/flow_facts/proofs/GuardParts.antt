@@ -61,19 +61,19 @@ module _ (forest : Forest) (accepted : IsAccepted forest) (whole : IsForest fore
       go : (o : Option Node) → slice_get forest.nodes id ≡ o → option_and_then right_operand o ≡ Some right →
           Adds code (Written b) (around id) (ops_of code right)
       go None there e = absurd (cc (e))
-      go (Some (Binary place operator left r)) there e =
+      go (Some (Binary position operator left r)) there e =
           let same : r ≡ right = some_inj r right e in
-          let node : Node = Binary place operator left r in
+          let node : Node = Binary position operator left r in
           subst (λ x. Adds code (Written b) (around id) (ops_of code x)) same
           (beside b c id r node there (later r left (r ∷ []) (here r [])) refl (subst (Inside p b c) (sym same) inside)
           (of_sort _ inner_expression r (sorted.each id node there).1))
       go (Some _) there e = absurd (cc (e))
 
   -- the second part of an `if` is another than the first
-  apart : (id condition first second : ℕ) (place : _) →
-      slice_get forest.nodes id ≡ Some (If place condition first (Some second)) → (second == first) ≡ false
+  apart : (id condition first second : ℕ) (position : _) →
+      slice_get forest.nodes id ≡ Some (If position condition first (Some second)) → (second == first) ≡ false
   unfolding children times
-  apart id condition first second place there = go (second == first) refl
+  apart id condition first second position there = go (second == first) refl
     where
       go : (t : Bool) → (second == first) ≡ t → (second == first) ≡ false
       go false e = e
@@ -81,7 +81,7 @@ module _ (forest : Forest) (accepted : IsAccepted forest) (whole : IsForest fore
           let same : second ≡ first = same_number second first e in
           let ids : List ℕ = condition ∷ first ∷ second ∷ [] in
           let once : times second ids ≤ 1 =
-          children_apart forest whole id (If place condition first (Some second)) there second in
+          children_apart forest whole id (If position condition first (Some second)) there second in
           let one : (second == second) ≡ true = is_same_number second second refl in
           let counted : (if second == condition then 1 else 0) + ((if true then 1 else 0) + ((if true then 1 else 0) + 0)) ≤ 1 =
           subst (λ t. (if second == condition then 1 else 0) + ((if t then 1 else 0) + ((if true then 1 else 0) + 0)) ≤ 1) e
@@ -95,25 +95,25 @@ module _ (forest : Forest) (accepted : IsAccepted forest) (whole : IsForest fore
   unfolding if_parts children is_first_part HasRightChildren
   second_adds b c id first second e inside = go (slice_get forest.nodes id) refl e
     where
-      with_second : (place : _) (condition : ℕ) →
-          slice_get forest.nodes id ≡ Some (If place condition first (Some second)) →
+      with_second : (position : _) (condition : ℕ) →
+          slice_get forest.nodes id ≡ Some (If position condition first (Some second)) →
           Adds code (Written b) (around id) (ops_of code second)
-      with_second place condition there =
-          let node : Node = If place condition first (Some second) in
+      with_second position condition there =
+          let node : Node = If position condition first (Some second) in
           beside b c id second node there
           (later second condition (first ∷ second ∷ []) (later second first (second ∷ []) (here second [])))
-          (apart id condition first second place there) inside
+          (apart id condition first second position there) inside
           (of_sort _ inner_statement second (sorted.each id node there).2)
 
       go : (o : Option Node) → slice_get forest.nodes id ≡ o → option_and_then if_parts o ≡ Some (first, Some second) →
           Adds code (Written b) (around id) (ops_of code second)
       go None there e = absurd (cc (e))
-      go (Some (If place condition f s)) there e =
+      go (Some (If position condition f s)) there e =
           let h : (f, s) ≡ (first, Some second) = some_inj (f, s) (first, Some second) e in
           let one : f ≡ first = ap (λ (q : ℕ × Option ℕ). q.0) h in
           let two : s ≡ Some second = ap (λ (q : ℕ × Option ℕ). q.1) h in
-          with_second place condition
-          (there ∙ (ap (λ f. Some (If place condition f s)) one ∙ ap (λ s. Some (If place condition first s)) two))
+          with_second position condition
+          (there ∙ (ap (λ f. Some (If position condition f s)) one ∙ ap (λ s. Some (If position condition first s)) two))
       go (Some _) there e = absurd (cc (e))
 
   first_adds : (b c id : ℕ) (parts : ℕ × Option ℕ) →
@@ -125,8 +125,8 @@ module _ (forest : Forest) (accepted : IsAccepted forest) (whole : IsForest fore
       go : (o : Option Node) → slice_get forest.nodes id ≡ o → option_and_then if_parts o ≡ Some parts →
           Adds code (Written b) (id ∷ around id) (ops_of code parts.0)
       go None there e = absurd (cc (e))
-      go (Some (If place condition f s)) there e =
-          let node : Node = If place condition f s in
+      go (Some (If position condition f s)) there e =
+          let node : Node = If position condition f s in
           let one : f ≡ parts.0 = ap (λ (q : ℕ × Option ℕ). q.0) (some_inj (f, s) parts e) in
           subst (λ x. Adds code (Written b) (id ∷ around id) (ops_of code x)) one
           (subst (λ a. Adds code (Written b) a (ops_of code f))
@@ -139,8 +139,8 @@ module _ (forest : Forest) (accepted : IsAccepted forest) (whole : IsForest fore
   turn_adds : (b c id : ℕ) (known : List ℕ) (node : Node) (turn : List Op) → slice_get forest.nodes id ≡ Some node →
       AreLoopParts p b c known node → turn_ops code id node ≡ Some turn → Adds code (Written b) (around id) turn
   unfolding AreLoopParts turn_ops children is_first_part HasRightChildren IsPlain StandsIn declarations_of
-  turn_adds b c id known (While place condition body) turn there parts e =
-      let node : Node = While place condition body in
+  turn_adds b c id known (While position condition body) turn there parts e =
+      let node : Node = While position condition body in
       let sorts = sorted.each id node there in
       let k =
       beside b c id condition node there (here condition (body ∷ [])) refl parts.0.inside
@@ -152,8 +152,8 @@ module _ (forest : Forest) (accepted : IsAccepted forest) (whole : IsForest fore
       (some_inj (ops_of code body ++ (ops_of code condition ++ LOOP id ∷ [])) turn e)
       (adds_both code (Written b) (around id) (ops_of code body) (ops_of code condition ++ LOOP id ∷ []) s
       (adds_behind code (Written b) (around id) (ops_of code condition) (LOOP id) k tt refl))
-  turn_adds b c id known (For place first condition step body) turn there parts e =
-      let node : Node = For place first condition step body in
+  turn_adds b c id known (For position first condition step body) turn there parts e =
+      let node : Node = For position first condition step body in
       let sorts = sorted.each id node there in
       let k =
       beside b c id condition node there

@@ -120,12 +120,12 @@ module _ (forest : Forest) (accepted : IsAccepted forest) (whole : IsForest fore
       same : sub y ≡ ops_of code y
       adds : A (sub y)
 
-    below_target : (place : Pos) (target value y : ℕ) (node : Node) →
-        slice_get forest.nodes x ≡ Some (Assign place target value) → slice_get forest.nodes target ≡ Some node →
+    below_target : (position : Pos) (target value y : ℕ) (node : Node) →
+        slice_get forest.nodes x ≡ Some (Assign position target value) → slice_get forest.nodes target ≡ Some node →
         is_inner node ≡ true → is_among y (children node) ≡ true → is_first_part y node ≡ false → BelowTarget y
     unfolding children is_inner is_first_part
-    below_target place target value y node there named inner among none =
-        let assign : Node = Assign place target value in
+    below_target position target value y node there named inner among none =
+        let assign : Node = Assign position target value in
         let t = child assign there refl target (here target (value ∷ [])) in
         let o =
         among_of forest.nodes is_inner y (children node)
@@ -144,13 +144,13 @@ module _ (forest : Forest) (accepted : IsAccepted forest) (whole : IsForest fore
               ∙ other_around x target assign there (here target (value ∷ [])) refl) (hyp y l i o));
         }
 
-    assign_adds : (place : Pos) (target value : ℕ) → slice_get forest.nodes x ≡ Some (Assign place target value) →
-        A (node_ops code sub x (Assign place target value))
+    assign_adds : (position : Pos) (target value : ℕ) → slice_get forest.nodes x ≡ Some (Assign position target value) →
+        A (node_ops code sub x (Assign position target value))
     unfolding node_ops assign_ops children is_inner is_first_part IsPlain StandsIn declarations_of
-    assign_adds place target value there = go (slice_get forest.nodes target) refl
+    assign_adds position target value there = go (slice_get forest.nodes target) refl
       where
         assign : Node
-        assign = Assign place target value
+        assign = Assign position target value
 
         v : (value < x) × Inside p b c value × (sub value ≡ ops_of code value) ×
             Adds code (Written b) (around value) (sub value)
@@ -162,22 +162,22 @@ module _ (forest : Forest) (accepted : IsAccepted forest) (whole : IsForest fore
         by_target : (n : Node) → slice_get forest.nodes target ≡ Some n → (o : Binding) → A (assign_ops sub x value o n)
         by_target (SimpleName place2 name) named (LocalVariable k) = behind (sub value) (STORE x) value_adds tt refl
         by_target (SimpleName place2 name) named (InstanceField k) =
-            own_put forest accepted whole sorted is_read b c x sub place place2 name target value there named v.1 v.2 value_adds
+            own_put forest accepted whole sorted is_read b c x sub position place2 name target value there named v.1 v.2 value_adds
         by_target (SimpleName place2 name) named (Static k) = behind (sub value) (PUTSTATIC x) value_adds tt tt
         by_target (SimpleName place2 name) named _ = none
         by_target (FieldAccess place2 name object) named (InstanceField k) =
             let o =
-            below_target place target value object (FieldAccess place2 name object) there named refl (here object []) refl
+            below_target position target value object (FieldAccess place2 name object) there named refl (here object []) refl
             in
-            field_put forest accepted whole sorted is_read b c x sub place place2 name target value object there named v.1 v.2 o.within o.same o.adds value_adds
+            field_put forest accepted whole sorted is_read b c x sub position place2 name target value object there named v.1 v.2 o.within o.same o.adds value_adds
         by_target (FieldAccess place2 name object) named (Static k) = behind (sub value) (PUTSTATIC x) value_adds tt tt
         by_target (FieldAccess place2 name object) named _ = none
         by_target (Element place2 array index) named (Static k) = behind (sub value) (PUTSTATIC x) value_adds tt tt
         by_target (Element place2 array index) named _ =
             let n : Node = Element place2 array index in
-            let a = below_target place target value array n there named refl (here array (index ∷ [])) refl in
+            let a = below_target position target value array n there named refl (here array (index ∷ [])) refl in
             let i =
-            below_target place target value index n there named refl (later index array (index ∷ []) (here index [])) refl
+            below_target position target value index n there named refl (later index array (index ∷ []) (here index [])) refl
             in
             both (sub array) (sub index ++ (sub value ++ PUTELEM x ∷ [])) a.adds
             (both (sub index) (sub value ++ PUTELEM x ∷ []) i.adds (behind (sub value) (PUTELEM x) value_adds tt tt))
@@ -191,13 +191,13 @@ module _ (forest : Forest) (accepted : IsAccepted forest) (whole : IsForest fore
 
     -- ---- `if`
 
-    if_adds : (place : Pos) (condition first : ℕ) (second : Option ℕ) →
-        slice_get forest.nodes x ≡ Some (If place condition first second) → A (sub condition ++ IF x ∷ [])
+    if_adds : (position : Pos) (condition first : ℕ) (second : Option ℕ) →
+        slice_get forest.nodes x ≡ Some (If position condition first second) → A (sub condition ++ IF x ∷ [])
     unfolding children is_inner is_first_part IsPlain StandsIn declarations_of
-    if_adds place condition first second there = by_guard (guard_of code x) refl
+    if_adds position condition first second there = by_guard (guard_of code x) refl
       where
         node : Node
-        node = If place condition first second
+        node = If position condition first second
 
         among : is_among condition (children node) ≡ true
         among = here condition (first ∷ optional second)
@@ -215,7 +215,7 @@ module _ (forest : Forest) (accepted : IsAccepted forest) (whole : IsForest fore
         by_guard : (o : Option Guard) → guard_of code x ≡ o → A (sub condition ++ IF x ∷ [])
         by_guard None e = behind (sub condition) (IF x) condition_adds e refl
         by_guard (Some guard) e =
-            let q = guard_asks forest accepted whole sorted is_read b c x condition first place second guard there k.1 e in
+            let q = guard_asks forest accepted whole sorted is_read b c x condition first position second guard there k.1 e in
             (λ rest r.
             subst (λ xs. Rest code (Written b) (around x) ((xs ++ IF x ∷ []) ++ rest)) (sym (k.2 ∙ q.ops))
             (asking (around x) x condition q.first q.second rest q.asks refl r))
@@ -225,70 +225,70 @@ module _ (forest : Forest) (accepted : IsAccepted forest) (whole : IsForest fore
     node_adds : (node : Node) → slice_get forest.nodes x ≡ Some node → is_inner node ≡ true →
         A (node_ops code sub x node)
     unfolding node_ops return_ops children is_inner is_first_part IsPlain StandsIn declarations_of
-    node_adds (Number place value is_negative) there e = op (PUSH x) tt tt
-    node_adds (True place) there e = op (PUSH x) tt tt
-    node_adds (False place) there e = op (PUSH x) tt tt
-    node_adds (Null place) there e = op (PUSH x) tt tt
-    node_adds (ThisNode place) there e = op (THIS x) tt tt
-    node_adds (SimpleName place name) there e = name_adds code (Written b) (around x) sub x (binding code x)
-    node_adds (FieldAccess place name object) there e =
+    node_adds (Number position value is_negative) there e = op (PUSH x) tt tt
+    node_adds (True position) there e = op (PUSH x) tt tt
+    node_adds (False position) there e = op (PUSH x) tt tt
+    node_adds (Null position) there e = op (PUSH x) tt tt
+    node_adds (ThisNode position) there e = op (THIS x) tt tt
+    node_adds (SimpleName position name) there e = name_adds code (Written b) (around x) sub x (binding code x)
+    node_adds (FieldAccess position name object) there e =
         access_adds code (Written b) (around x) sub x object (binding code x)
-        (other (FieldAccess place name object) there refl object (here object []) refl)
-    node_adds (Element place array index) there e =
-        let k = other (Element place array index) there refl in
+        (other (FieldAccess position name object) there refl object (here object []) refl)
+    node_adds (Element position array index) there e =
+        let k = other (Element position array index) there refl in
         both (sub array) (sub index ++ ELEM x ∷ []) (k array (here array (index ∷ [])) refl)
         (behind (sub index) (ELEM x) (k index (later index array (index ∷ []) (here index [])) refl) tt tt)
-    node_adds (Parenthesized place inner) there e =
-        other (Parenthesized place inner) there refl inner (here inner []) refl
-    node_adds (Unary place operator operand) there e =
+    node_adds (Parenthesized position inner) there e =
+        other (Parenthesized position inner) there refl inner (here inner []) refl
+    node_adds (Unary position operator operand) there e =
         behind (sub operand) (UNARY x)
-        (other (Unary place operator operand) there refl operand (here operand []) refl) tt tt
-    node_adds (Binary place operator left right) there e =
-        let k = other (Binary place operator left right) there refl in
+        (other (Unary position operator operand) there refl operand (here operand []) refl) tt tt
+    node_adds (Binary position operator left right) there e =
+        let k = other (Binary position operator left right) there refl in
         binary_adds code (Written b) (around x) sub x operator left right refl (k left (here left (right ∷ [])) refl)
         (k right (later right left (right ∷ []) (here right [])) refl)
-    node_adds (New place name_place name arguments) there e =
-        new_adds code (Written b) (around x) sub x arguments (binding code x) (λ y a. other (New place name_place name arguments) there refl y a refl)
-    node_adds (NewArray place element count) there e =
+    node_adds (New position name_place name arguments) there e =
+        new_adds code (Written b) (around x) sub x arguments (binding code x) (λ y a. other (New position name_place name arguments) there refl y a refl)
+    node_adds (NewArray position element count) there e =
         behind (sub count) (ALLOCARRAY x)
-        (other (NewArray place element count) there refl count (later count element (count ∷ []) (here count [])) refl) tt
+        (other (NewArray position element count) there refl count (later count element (count ∷ []) (here count [])) refl) tt
         tt
-    node_adds (CallNode place name object arguments) there e =
+    node_adds (CallNode position name object arguments) there e =
         call_adds code (Written b) (around x) sub x object arguments (binding code x)
-        (λ y a. other (CallNode place name object arguments) there refl y a refl)
-    node_adds (Cast place name_place name operand) there e =
+        (λ y a. other (CallNode position name object arguments) there refl y a refl)
+    node_adds (Cast position name_place name operand) there e =
         behind (sub operand) (CAST x)
-        (other (Cast place name_place name operand) there refl operand (here operand []) refl) tt tt
-    node_adds (LocalNode place name flags declared_type) there e = op (ZERO x) tt refl
-    node_adds (LocalWithValue place name_place name flags declared_type value) there e =
+        (other (Cast position name_place name operand) there refl operand (here operand []) refl) tt tt
+    node_adds (LocalNode position name flags declared_type) there e = op (ZERO x) tt refl
+    node_adds (LocalWithValue position name_place name flags declared_type value) there e =
         behind (sub value) (STORE x)
-        (other (LocalWithValue place name_place name flags declared_type value) there refl value
+        (other (LocalWithValue position name_place name flags declared_type value) there refl value
         (among-behind value (optional flags) (declared_type ∷ value ∷ [])
         (later value declared_type (value ∷ []) (here value []))) refl) tt refl
-    node_adds (Assign place target value) there e = assign_adds place target value there
-    node_adds (ExpressionStatement place expression) there e =
-        both (sub expression) _ (other (ExpressionStatement place expression) there refl expression (here expression []) refl)
+    node_adds (Assign position target value) there e = assign_adds position target value there
+    node_adds (ExpressionStatement position expression) there e =
+        both (sub expression) _ (other (ExpressionStatement position expression) there refl expression (here expression []) refl)
         (either code (Written b) (around x) sub x (leaves_value (binding code expression)) (DROP x ∷ []) [] (op (DROP x) tt tt) none)
-    node_adds (Block place statements) there e =
-        all statements (λ y a. other (Block place statements) there refl y a refl)
-    node_adds (If place condition first second) there e = if_adds place condition first second there
-    node_adds (While place condition body) there e =
+    node_adds (Block position statements) there e =
+        all statements (λ y a. other (Block position statements) there refl y a refl)
+    node_adds (If position condition first second) there e = if_adds position condition first second there
+    node_adds (While position condition body) there e =
         behind (sub condition) (LOOP x)
-        (other (While place condition body) there refl condition (here condition (body ∷ [])) refl) tt refl
-    node_adds (For place first condition step body) there e =
-        let k = other (For place first condition step body) there refl in
+        (other (While position condition body) there refl condition (here condition (body ∷ [])) refl) tt refl
+    node_adds (For position first condition step body) there e =
+        let k = other (For position first condition step body) there refl in
         both (sub first) (sub condition ++ LOOP x ∷ []) (k first (here first (condition ∷ step ∷ body ∷ [])) refl)
         (behind (sub condition) (LOOP x)
         (k condition (later condition first (condition ∷ step ∷ body ∷ []) (here condition (step ∷ body ∷ []))) refl) tt
         refl)
-    node_adds (Return place None) there e = op LEAVE tt tt
-    node_adds (Return place (Some value)) there e =
-        behind (sub value) (LEAVEWITH x) (other (Return place (Some value)) there refl value (here value []) refl) tt tt
-    node_adds (SuperCall place arguments) there e =
-        super_adds code (Written b) (around x) sub x arguments (binding code x) (λ y a. other (SuperCall place arguments) there refl y a refl)
-    node_adds (Class place name flags header members) there e = absurd (true≢false (sym e))
-    node_adds (MethodNode place name flags result_type parameters body) there e = absurd (true≢false (sym e))
-    node_adds (Constructor place name flags parameters super_call body) there e = absurd (true≢false (sym e))
+    node_adds (Return position None) there e = op LEAVE tt tt
+    node_adds (Return position (Some value)) there e =
+        behind (sub value) (LEAVEWITH x) (other (Return position (Some value)) there refl value (here value []) refl) tt tt
+    node_adds (SuperCall position arguments) there e =
+        super_adds code (Written b) (around x) sub x arguments (binding code x) (λ y a. other (SuperCall position arguments) there refl y a refl)
+    node_adds (Class position name flags header members) there e = absurd (true≢false (sym e))
+    node_adds (MethodNode position name flags result_type parameters body) there e = absurd (true≢false (sym e))
+    node_adds (Constructor position name flags parameters super_call body) there e = absurd (true≢false (sym e))
     node_adds _ there e = none
 
   -- ---- all nodes of a body, by induction

@@ -44,18 +44,18 @@ module _ (forest : Forest) (accepted : IsAccepted forest) (whole : IsForest fore
   A ops = Adds code (Written b) (around x) ops
 
   -- a store that no guard allows, and one that a guard allows
-  plain_put : (place : Pos) (target value : ℕ) → slice_get forest.nodes x ≡ Some (Assign place target value) →
+  plain_put : (position : Pos) (target value : ℕ) → slice_get forest.nodes x ≡ Some (Assign position target value) →
       is_guarded_store p (type_at_node p) x target value ≡ false → (objects : List Op) → A objects → A (sub value) →
       A (objects ++ (sub value ++ PUT x ∷ []))
   unfolding IsPlain StandsIn declarations_of
-  plain_put place target value there none objects o v =
+  plain_put position target value there none objects o v =
       adds_both code (Written b) (around x) objects (sub value ++ PUT x ∷ []) o
       (adds_behind code (Written b) (around x) (sub value) (PUT x) v not_guarded refl)
     where
       not_guarded : IsGuardedAssign p x → ⊥
       not_guarded g =
-          let e : Assign g.place g.target g.value ≡ Assign place target value =
-          some_inj (Assign g.place g.target g.value) (Assign place target value) (sym g.is_there ∙ there) in
+          let e : Assign g.position g.target g.value ≡ Assign position target value =
+          some_inj (Assign g.position g.target g.value) (Assign position target value) (sym g.is_there ∙ there) in
           let t : g.target ≡ target = cc (e) in
           let v : g.value ≡ value = cc (e) in
           absurd (true≢false
@@ -74,12 +74,12 @@ module _ (forest : Forest) (accepted : IsAccepted forest) (whole : IsForest fore
       (record { holder = holder; stored = stored; object_is = pushes; value_is = v.pushes; is_guarded = guarded }) refl
       r))
 
-  pub own_put : (place place2 : Pos) (name : List ℕ) (target value : ℕ) →
-      slice_get forest.nodes x ≡ Some (Assign place target value) →
+  pub own_put : (position place2 : Pos) (name : List ℕ) (target value : ℕ) →
+      slice_get forest.nodes x ≡ Some (Assign position target value) →
       slice_get forest.nodes target ≡ Some (SimpleName place2 name) → Inside p b c value → sub value ≡ ops_of code value →
       A (sub value) → A (THIS x ∷ sub value ++ PUT x ∷ [])
   unfolding stored_field field_of_this IsPlain StandsIn
-  own_put place place2 name target value there named inside_value same v =
+  own_put position place2 name target value there named inside_value same v =
       by_guard (is_guarded_store p (type_at_node p) x target value) refl
     where
       holder_is : (m : Meaning) (s : Subject) (f : FoundField) → field_of_this m ≡ Some (Some s, f) → this_object ≡ s
@@ -90,7 +90,7 @@ module _ (forest : Forest) (accepted : IsAccepted forest) (whole : IsForest fore
 
       by_guard : (t : Bool) → is_guarded_store p (type_at_node p) x target value ≡ t →
           A (THIS x ∷ sub value ++ PUT x ∷ [])
-      by_guard false e = plain_put place target value there e (THIS x ∷ [])
+      by_guard false e = plain_put position target value there e (THIS x ∷ [])
           (adds_op code (Written b) (around x) (THIS x) tt tt) v
       by_guard true e =
           let g = guarded_subjects forest accepted whole sorted x target value (SimpleName place2 name) named e in
@@ -99,13 +99,13 @@ module _ (forest : Forest) (accepted : IsAccepted forest) (whole : IsForest fore
           (ap (λ s. is_guarded p (type_at_node p) x s g.stored) (holder_is (meaning p target name) g.holder g.field g.is)
           ∙ g.guarded)
 
-  pub field_put : (place place2 : Pos) (name : List ℕ) (target value object : ℕ) →
-      slice_get forest.nodes x ≡ Some (Assign place target value) →
+  pub field_put : (position place2 : Pos) (name : List ℕ) (target value object : ℕ) →
+      slice_get forest.nodes x ≡ Some (Assign position target value) →
       slice_get forest.nodes target ≡ Some (FieldAccess place2 name object) → Inside p b c value →
       sub value ≡ ops_of code value → Inside p b c object → sub object ≡ ops_of code object → A (sub object) →
       A (sub value) → A (sub object ++ (sub value ++ PUT x ∷ []))
   unfolding stored_field
-  field_put place place2 name target value object there named inside_value same inside_object same_object o v =
+  field_put position place2 name target value object there named inside_value same inside_object same_object o v =
       by_guard (is_guarded_store p (type_at_node p) x target value) refl
     where
       of_field : (m : Option FoundField) (s : Subject) (f : FoundField) →
@@ -123,7 +123,7 @@ module _ (forest : Forest) (accepted : IsAccepted forest) (whole : IsForest fore
 
       by_guard : (t : Bool) → is_guarded_store p (type_at_node p) x target value ≡ t →
           A (sub object ++ (sub value ++ PUT x ∷ []))
-      by_guard false e = plain_put place target value there e (sub object) o v
+      by_guard false e = plain_put position target value there e (sub object) o v
       by_guard true e =
           let g = guarded_subjects forest accepted whole sorted x target value (FieldAccess place2 name object) named e in
           let q =

@@ -190,11 +190,11 @@ module _ (forest : Forest) (accepted : IsAccepted forest) (whole : IsForest fore
         (field_reached forest accepted whole sorted c class name f.field sub f.named) f.named f.plain f.numbered in
         record {
           is_no_array = class_no_array c l;
-          slot = hidden_fields p.classes c + s.place;
+          slot = hidden_fields p.classes c + s.index;
           is = s.slot;
-          within = within_slots c s.place f.field.field s.declares;
-          holds = in_object c (hidden_fields p.classes c + s.place) l
-              ∙ own_slot c s.place f.field.field k s.declares f.kind;
+          within = within_slots c s.index f.field.field s.declares;
+          holds = in_object c (hidden_fields p.classes c + s.index) l
+              ∙ own_slot c s.index f.field.field k s.declares f.kind;
         }
 
     -- the kind of a field that is found, by its type and its scope
@@ -267,7 +267,7 @@ module _ (forest : Forest) (accepted : IsAccepted forest) (whole : IsForest fore
         some_inj y.0 d (sym stands ∙ ap (field_at p.nodes) (same_number y.0.node d.node y.2)
         ∙ (field_found forest accepted whole sorted class name f.field f.named).is_there) in (
           record {
-            place = j.0;
+            index = j.0;
             is = ap (λ m. option_and_then (place_among statics) (slice_get (declared_fields p) m)) (sym same)
                 ∙ ap (option_and_then (place_among statics)) q.numbers ∙ j.1;
             kind = k;

@@ -42,14 +42,14 @@ use Rattle.accepted_laws.proofs.Contexts.{known_same}
 
 invocation_is_argument : (n : Node) → is_invocation n ≡ true → is_argument n ≡ true
 unfolding is_invocation is_argument is_expression
-invocation_is_argument (Call place name object arguments) e = refl
-invocation_is_argument (New place name_place name arguments) e = refl
+invocation_is_argument (Call position name object arguments) e = refl
+invocation_is_argument (New position name_place name arguments) e = refl
 invocation_is_argument _ e = absurd (true≢false (sym e))
 
 invocation_is_expression : (n : Node) → is_invocation n ≡ true → is_expression n ≡ true
 unfolding is_invocation is_expression
-invocation_is_expression (Call place name object arguments) e = refl
-invocation_is_expression (New place name_place name arguments) e = refl
+invocation_is_expression (Call position name object arguments) e = refl
+invocation_is_expression (New position name_place name arguments) e = refl
 invocation_is_expression _ e = absurd (true≢false (sym e))
 
 class_no_void : (o : Option ℕ) → option_map (λ class. ClassTy class) o ≡ Some Void → ⊥
@@ -127,11 +127,11 @@ module _ (forest : Forest) (accepted : IsAccepted forest) (whole : IsForest fore
       leaves : leaves_value (binding_at_node p x) ≡ not (is_same_type method.method.declared.declared_type void_type)
       typed : declared_type_of p method.method.declared ≡ Some t
 
-    call_leaves : (x : ℕ) (place : Pos) (name : List ℕ) (object : Option ℕ) (arguments : List ℕ) (t : Ty) →
-        slice_get forest.nodes x ≡ Some (Call place name object arguments) → types x ≡ Some t → CallLeaves x t
+    call_leaves : (x : ℕ) (position : Pos) (name : List ℕ) (object : Option ℕ) (arguments : List ℕ) (t : Ty) →
+        slice_get forest.nodes x ≡ Some (Call position name object arguments) → types x ≡ Some t → CallLeaves x t
     unfolding type_of call_type binding_of
-    call_leaves x place name object arguments t there typed =
-        let node : Node = Call place name object arguments in
+    call_leaves x position name object arguments t there typed =
+        let node : Node = Call position name object arguments in
         let r =
         of_option (call_receiver p types x object)
         (λ r. option_and_then (λ ts. call_type p r name) (all_types types arguments)) t
@@ -152,21 +152,21 @@ module _ (forest : Forest) (accepted : IsAccepted forest) (whole : IsForest fore
           typed = f.2;
         }
 
-    new_leaves : (x : ℕ) (place name_place : Pos) (name arguments : List ℕ) →
-        slice_get forest.nodes x ≡ Some (New place name_place name arguments) → is_form_part p x ≡ false →
+    new_leaves : (x : ℕ) (position name_place : Pos) (name arguments : List ℕ) →
+        slice_get forest.nodes x ≡ Some (New position name_place name arguments) → is_form_part p x ≡ false →
         leaves_value (binding_at_node p x) ≡ true
     unfolding binding_of leaves_value
-    new_leaves x place name_place name arguments there part =
-        let n = new_names_class forest accepted sorted x place name_place name arguments
-        (at_p forest accepted whole sorted x (New place name_place name arguments) there) in
-        ap leaves_value (binding_is forest accepted whole sorted x (New place name_place name arguments) there
+    new_leaves x position name_place name arguments there part =
+        let n = new_names_class forest accepted sorted x position name_place name arguments
+        (at_p forest accepted whole sorted x (New position name_place name arguments) there) in
+        ap leaves_value (binding_is forest accepted whole sorted x (New position name_place name arguments) there
         ∙ ap (λ t. if t then Plain else class_binding (class_number p.names name)) part ∙ ap class_binding n.1)
 
-    new_no_void : (x : ℕ) (place name_place : Pos) (name arguments : List ℕ) →
-        slice_get forest.nodes x ≡ Some (New place name_place name arguments) → types x ≡ Some Void → ⊥
+    new_no_void : (x : ℕ) (position name_place : Pos) (name arguments : List ℕ) →
+        slice_get forest.nodes x ≡ Some (New position name_place name arguments) → types x ≡ Some Void → ⊥
     unfolding type_of
-    new_no_void x place name_place name arguments there e =
-        go (is_form_part p x) (sym (type_is forest accepted whole sorted x (New place name_place name arguments) there)
+    new_no_void x position name_place name arguments there e =
+        go (is_form_part p x) (sym (type_is forest accepted whole sorted x (New position name_place name arguments) there)
         ∙ e)
       where
         go : (t : Bool) →
@@ -191,35 +191,35 @@ module _ (forest : Forest) (accepted : IsAccepted forest) (whole : IsForest fore
               (sym (ap (λ (o : Option Ty). kind_of o (scope_at_node p x)) (t.1 ∙ ap (λ t. Some t) v)) ∙ j),
         )
 
-    pub call_value : (x : ℕ) (place : Pos) (name : List ℕ) (object : Option ℕ) (arguments : List ℕ)
-        (gives : Option Kind) → slice_get forest.nodes x ≡ Some (Call place name object arguments) →
+    pub call_value : (x : ℕ) (position : Pos) (name : List ℕ) (object : Option ℕ) (arguments : List ℕ)
+        (gives : Option Kind) → slice_get forest.nodes x ≡ Some (Call position name object arguments) →
         Judged p x gives → leaves_value (binding_at_node p x) ≡ is_some gives
-    call_value x place name object arguments None there j =
-        let q = call_leaves x place name object arguments Void there (void_of x j) in
+    call_value x position name object arguments None there j =
+        let q = call_leaves x position name object arguments Void there (void_of x j) in
         q.leaves ∙ ap not (void_written p.names q.method.method.declared.declared_type q.typed)
-    call_value x place name object arguments (Some k) there j =
+    call_value x position name object arguments (Some k) there j =
         let t = value_of x k j in
-        let q = call_leaves x place name object arguments t.0 there t.1 in
+        let q = call_leaves x position name object arguments t.0 there t.1 in
         q.leaves ∙ ap not (written_void p.names q.method.method.declared.declared_type t.0 q.typed t.2)
 
     leaves : (x : ℕ) (node : Node) (gives : Option Kind) → slice_get forest.nodes x ≡ Some node →
         is_invocation node ≡ true → IsValue p x node → Judged p x gives →
         leaves_value (binding_at_node p x) ≡ is_some gives
     unfolding is_invocation
-    leaves x (Call place name object arguments) gives there k v j =
-        call_value x place name object arguments gives there j
-    leaves x (New place name_place name arguments) None there k v j =
-        absurd (new_no_void x place name_place name arguments there (void_of x j))
-    leaves x (New place name_place name arguments) (Some k2) there k v j =
-        new_leaves x place name_place name arguments there v.no_form_part
+    leaves x (Call position name object arguments) gives there k v j =
+        call_value x position name object arguments gives there j
+    leaves x (New position name_place name arguments) None there k v j =
+        absurd (new_no_void x position name_place name arguments there (void_of x j))
+    leaves x (New position name_place name arguments) (Some k2) there k v j =
+        new_leaves x position name_place name arguments there v.no_form_part
     leaves x _ gives there k v j = absurd (true≢false (sym k))
 
-    pub invocation_fact : (b c id expression : ℕ) (place : Pos) →
-        slice_get forest.nodes id ≡ Some (ExpressionStatement place expression) → Inside p b c id →
+    pub invocation_fact : (b c id expression : ℕ) (position : Pos) →
+        slice_get forest.nodes id ≡ Some (ExpressionStatement position expression) → Inside p b c id →
         InvocationFact code b c id expression
     unfolding HasRightChildren children is_inner object_of takes_parts declared_before
-    invocation_fact b c id expression place there inside =
-        let node : Node = ExpressionStatement place expression in
+    invocation_fact b c id expression position there inside =
+        let node : Node = ExpressionStatement position expression in
         let o = sorted.each id node there in
         let first = same_first forest accepted whole sorted expression [] in
         let v = statement_value forest accepted whole sorted b c id expression node there inside refl first

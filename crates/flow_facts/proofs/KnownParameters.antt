@@ -27,9 +27,9 @@ of_some test nodes o q e h = subst (OptionOf test nodes) e h
 
 -- the list of parameters of a member
 pub record ParameterList (nodes : List Node) (node : Node) (q : ℕ) : Type 0 where
-  pub place : Pos
+  pub position : Pos
   pub list : List ℕ
-  pub is_there : slice_get nodes q ≡ Some (Parameters place list)
+  pub is_there : slice_get nodes q ≡ Some (Parameters position list)
   pub all : AllOf is_parameter nodes list
   pub among : is_among q (children node) ≡ true
   pub alone : declared_before nodes node q ≡ parameters_before nodes (Some q) q
@@ -45,17 +45,17 @@ module _ (forest : Forest) (accepted : IsAccepted forest) (whole : IsForest fore
     -- ---- the list
 
     list_at : (q : ℕ) (node : Node) → slice_get nodes q ≡ Some node → is_parameter_list node ≡ true →
-        HasRightChildren nodes node → (place : Pos) × (list : List ℕ) ×
-        (slice_get nodes q ≡ Some (Parameters place list)) × AllOf is_parameter nodes list
+        HasRightChildren nodes node → (position : Pos) × (list : List ℕ) ×
+        (slice_get nodes q ≡ Some (Parameters position list)) × AllOf is_parameter nodes list
     unfolding is_parameter_list HasRightChildren
-    list_at q (Parameters place list) there e h = (place, list, there, h)
+    list_at q (Parameters position list) there e h = (position, list, there, h)
     list_at q _ there e h = absurd (true≢false (sym e))
 
     as_list : (node : Node) (q : ℕ) → Of is_parameter_list nodes q → is_among q (children node) ≡ true →
         declared_before nodes node q ≡ parameters_before nodes (Some q) q → ParameterList nodes node q
     as_list node q o among alone =
         let l = list_at q o.node o.is_there o.passes (sorted.each q o.node o.is_there) in
-        record { place = l.0; list = l.1; is_there = l.2; all = l.3; among = among; alone = alone }
+        record { position = l.0; list = l.1; is_there = l.2; all = l.3; among = among; alone = alone }
 
     optional_there : (o : Option ℕ) (q : ℕ) → o ≡ Some q → is_among q (optional o) ≡ true
     optional_there o q e = ap (λ o. is_among q (optional o)) e ∙ same_first forest accepted whole sorted q []
@@ -63,15 +63,15 @@ module _ (forest : Forest) (accepted : IsAccepted forest) (whole : IsForest fore
     pub list_of : (b : ℕ) (node : Node) (q : ℕ) → slice_get nodes b ≡ Some node → parameter_list node ≡ Some q →
         ParameterList nodes node q
     unfolding parameter_list HasRightChildren children declared_before
-    list_of b (MethodNode place name flags result_type parameters body) q there e =
-        let s = sorted.each b (MethodNode place name flags result_type parameters body) there in
+    list_of b (MethodNode position name flags result_type parameters body) q there e =
+        let s = sorted.each b (MethodNode position name flags result_type parameters body) there in
         as_list _ q (of_some is_parameter_list nodes parameters q e s.2)
         (among-behind q (optional flags) _
         (or_right (q == result_type) _
         (among-front q (optional parameters) (optional body) (optional_there parameters q e))))
         (ap (λ (o : Option ℕ). parameters_before nodes o q) e)
-    list_of b (Constructor place name flags parameters super_call body) q there e =
-        let s = sorted.each b (Constructor place name flags parameters super_call body) there in
+    list_of b (Constructor position name flags parameters super_call body) q there e =
+        let s = sorted.each b (Constructor position name flags parameters super_call body) there in
         as_list _ q (of_some is_parameter_list nodes parameters q e s.1)
         (among-behind q (optional flags) _
         (among-front q (optional parameters) (optional super_call ++ body ∷ []) (optional_there parameters q e)))
@@ -142,16 +142,16 @@ module _ (forest : Forest) (accepted : IsAccepted forest) (whole : IsForest fore
     unfolding last_variable
     own_list last q = (let self : (q == q) ≡ true = is_same_number q q refl in rw self refl)
 
-    parameter_row : (q : ℕ) (place : Pos) (list : List ℕ) → slice_get nodes q ≡ Some (Parameters place list) →
+    parameter_row : (q : ℕ) (position : Pos) (list : List ℕ) → slice_get nodes q ≡ Some (Parameters position list) →
         Follow forest accepted whole sorted (context p q).last list
     unfolding children declared_before
-    parameter_row q place list there = row_follows forest accepted whole sorted q (Parameters place list) list there refl
+    parameter_row q position list there = row_follows forest accepted whole sorted q (Parameters position list) list there refl
         (λ x. refl)
 
-    of_parameters : (place : Pos) (list : List ℕ) →
-        (elim (parameter_nodes (Parameters place list)) as (λ _. List ℕ) [ None ↦ [] | Some list ↦ list ]) ≡ list
+    of_parameters : (position : Pos) (list : List ℕ) →
+        (elim (parameter_nodes (Parameters position list)) as (λ _. List ℕ) [ None ↦ [] | Some list ↦ list ]) ≡ list
     unfolding parameter_nodes
-    of_parameters place list = refl
+    of_parameters position list = refl
 
     -- a child of a member knows nothing but parameters
     pub member_child_known : (b x : ℕ) (node : Node) → slice_get nodes b ≡ Some node → is_member node ≡ true →
@@ -176,7 +176,7 @@ module _ (forest : Forest) (accepted : IsAccepted forest) (whole : IsForest fore
             ap (λ (c : Context). c.last) (child_context_is forest whole b q node there l.among)
             ∙ ap (last_variable nodes (context p b).last) l.alone
             ∙ own_list (context p b).last q ∙ member_knows_none forest whole sorted b node there member in
-            let f = parameter_row q l.place l.list l.is_there in
+            let f = parameter_row q l.position l.list l.is_there in
             subst (Among (known_variables p x)) (sym (listed_nodes b node q there e l))
             (behind_row l.list l.list (context p q).last (λ v a. a) f (λ z g. none_known l.list z (g ∙ at_list)) x
             (h ∙ ap (λ (o : Option ℕ). last_variable nodes o l.list) (sym at_list)))
@@ -192,4 +192,4 @@ module _ (forest : Forest) (accepted : IsAccepted forest) (whole : IsForest fore
             ∙ ap (λ (o : Option Node). last_variable nodes None
             (if x == q then [] else (elim (option_and_then parameter_nodes o) as (λ _. List ℕ)
             [ None ↦ [] | Some list ↦ list ]))) l.is_there
-            ∙ ap (λ ids. last_variable nodes None (if x == q then [] else ids)) (of_parameters l.place l.list))
+            ∙ ap (λ ids. last_variable nodes None (if x == q then [] else ids)) (of_parameters l.position l.list))

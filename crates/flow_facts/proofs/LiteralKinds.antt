@@ -56,7 +56,7 @@ boolean_kind s k e = some_inj truth k e
 pub literal_of : (p : Declarations) (types : Types) (x : ℕ) (node : Node) (t : Ty) → is_literal node ≡ true →
     ((u : Ty) → type_of p types x node ≡ Some u → assigns p.classes u t ≡ true) → LiteralOf node t
 unfolding is_literal type_of kind_of_literal assigns
-literal_of p types x (Number place value is_negative) t l h =
+literal_of p types x (Number position value is_negative) t l h =
     record {
       kind = number;
       is = refl;
@@ -64,7 +64,7 @@ literal_of p types x (Number place value is_negative) t l h =
           λ q home s k e. subst (Fits q home Caller number)
           (int_kind s k (ap (λ t. kind_of (Some t) s) (sym (same_int t (h Int refl))) ∙ e)) tt;
     }
-literal_of p types x (True place) t l h =
+literal_of p types x (True position) t l h =
     record {
       kind = yes;
       is = refl;
@@ -72,7 +72,7 @@ literal_of p types x (True place) t l h =
           λ q home s k e. subst (Fits q home Caller yes)
           (boolean_kind s k (ap (λ t. kind_of (Some t) s) (sym (same_boolean t (h Boolean refl))) ∙ e)) tt;
     }
-literal_of p types x (False place) t l h =
+literal_of p types x (False position) t l h =
     record {
       kind = truth;
       is = refl;
@@ -80,6 +80,6 @@ literal_of p types x (False place) t l h =
           λ q home s k e. subst (Fits q home Caller truth)
           (boolean_kind s k (ap (λ t. kind_of (Some t) s) (sym (same_boolean t (h Boolean refl))) ∙ e)) tt;
     }
-literal_of p types x (Null place) t l h =
+literal_of p types x (Null position) t l h =
     record { kind = reference NullTy Any; is = refl; fits = null_fits t (h NullTy refl) }
 literal_of p types x _ t l h = absurd (true≢false (sym l))

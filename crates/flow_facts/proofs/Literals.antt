@@ -46,45 +46,45 @@ module _ (forest : Forest) (accepted : IsAccepted forest) (whole : IsForest fore
     abbrev p : Declarations
     p = declarations_of forest
 
-    pub number_fact : (id : ℕ) (place : Pos) (value : ℕ) (is_negative : Bool) (o : Option Kind) →
-        slice_get forest.nodes id ≡ Some (Number place value is_negative) → Judged p id o → o ≡ Some number
+    pub number_fact : (id : ℕ) (position : Pos) (value : ℕ) (is_negative : Bool) (o : Option Kind) →
+        slice_get forest.nodes id ≡ Some (Number position value is_negative) → Judged p id o → o ≡ Some number
     unfolding type_of
-    number_fact id place value is_negative o there j =
+    number_fact id position value is_negative o there j =
         judged_once p id o (Some number) j
         (int_judged forest accepted whole sorted id
-        (type_is forest accepted whole sorted id (Number place value is_negative) there))
+        (type_is forest accepted whole sorted id (Number position value is_negative) there))
 
-    pub true_fact : (id : ℕ) (place : Pos) (o : Option Kind) → slice_get forest.nodes id ≡ Some (True place) →
+    pub true_fact : (id : ℕ) (position : Pos) (o : Option Kind) → slice_get forest.nodes id ≡ Some (True position) →
         Judged p id o → o ≡ Some truth
     unfolding type_of
-    true_fact id place o there j =
+    true_fact id position o there j =
         judged_once p id o (Some truth) j
-        (boolean_judged forest accepted whole sorted id (type_is forest accepted whole sorted id (True place) there))
+        (boolean_judged forest accepted whole sorted id (type_is forest accepted whole sorted id (True position) there))
 
-    pub false_fact : (id : ℕ) (place : Pos) (o : Option Kind) → slice_get forest.nodes id ≡ Some (False place) →
+    pub false_fact : (id : ℕ) (position : Pos) (o : Option Kind) → slice_get forest.nodes id ≡ Some (False position) →
         Judged p id o → o ≡ Some truth
     unfolding type_of
-    false_fact id place o there j =
+    false_fact id position o there j =
         judged_once p id o (Some truth) j
-        (boolean_judged forest accepted whole sorted id (type_is forest accepted whole sorted id (False place) there))
+        (boolean_judged forest accepted whole sorted id (type_is forest accepted whole sorted id (False position) there))
 
     null_judged : (id : ℕ) → type_at_node p id ≡ Some NullTy → Judged p id (Some (reference NullTy Any))
     unfolding Judged kind_of
     null_judged id e = ap (λ (o : Option Ty). kind_of o (scope_at_node p id)) e
 
-    pub null_fact : (id : ℕ) (place : Pos) (o : Option Kind) → slice_get forest.nodes id ≡ Some (Null place) →
+    pub null_fact : (id : ℕ) (position : Pos) (o : Option Kind) → slice_get forest.nodes id ≡ Some (Null position) →
         Judged p id o → o ≡ Some (reference NullTy Any)
     unfolding type_of
-    null_fact id place o there j =
+    null_fact id position o there j =
         judged_once p id o (Some (reference NullTy Any)) j
-        (null_judged id (type_is forest accepted whole sorted id (Null place) there))
+        (null_judged id (type_is forest accepted whole sorted id (Null position) there))
 
-    pub this_fact : (b c id : ℕ) (place : Pos) (o : Option Kind) → slice_get forest.nodes id ≡ Some (ThisNode place) →
+    pub this_fact : (b c id : ℕ) (position : Pos) (o : Option Kind) → slice_get forest.nodes id ≡ Some (ThisNode position) →
         Inside p b c id → Judged p id o → ThisFact p b c o
-    this_fact b c id place o there inside j =
+    this_fact b c id position o there inside j =
         let t =
-        this_is_own forest accepted whole sorted b c id place
-        (at_p forest accepted whole sorted id (ThisNode place) there) inside in
+        this_is_own forest accepted whole sorted b c id position
+        (at_p forest accepted whole sorted id (ThisNode position) there) inside in
         let own = t.0 in
         record {
           own = record { for_object = ap not own.has_object; home = own.home; is_home = own.is_home };
@@ -98,12 +98,12 @@ module _ (forest : Forest) (accepted : IsAccepted forest) (whole : IsForest fore
     child_of b c id x node there among none v =
         record { smaller = v.less; inside = v.inside; known = known_same forest whole id x node there among none }
 
-    pub parenthesized_fact : (b c id inner : ℕ) (place : Pos) (o : Option Kind) →
-        slice_get forest.nodes id ≡ Some (Parenthesized place inner) → Inside p b c id → Judged p id o →
+    pub parenthesized_fact : (b c id inner : ℕ) (position : Pos) (o : Option Kind) →
+        slice_get forest.nodes id ≡ Some (Parenthesized position inner) → Inside p b c id → Judged p id o →
         HasValue p b c id inner o
     unfolding children is_argument is_expression object_of takes_parts HasRightChildren declared_before type_of scope_of
-    parenthesized_fact b c id inner place o there inside j =
-        let node : Node = Parenthesized place inner in
+    parenthesized_fact b c id inner position o there inside j =
+        let node : Node = Parenthesized position inner in
         let first = same_first forest accepted whole sorted inner [] in
         let x = child_at forest accepted whole sorted b c id node there inside refl inner first
         (of_expression forest accepted whole sorted inner (sorted.each id node there)) refl refl in (

@@ -32,7 +32,7 @@ use Rattle.scj_base.specs.declared.findings.Rule.TheVariants.{T10}
 
 block_is_statement : (n : Node) → is_block n ≡ true → is_statement n ≡ true
 unfolding is_block is_statement
-block_is_statement (Block place statements) e = refl
+block_is_statement (Block position statements) e = refl
 block_is_statement _ e = absurd (true≢false (sym e))
 
 second_of_and : (a b : Bool) → (not a && not b) ≡ false → a ≡ false → b ≡ true
@@ -79,23 +79,23 @@ module _ (forest : Forest) (accepted : IsAccepted forest) (whole : IsForest fore
           known = member_child_known forest accepted whole sorted b body node there member among (sym declares);
         }
 
-    always_ends : (b result_type body : ℕ) (place : Pos) (name : List ℕ) (flags parameters : Option ℕ) →
-        slice_get nodes b ≡ Some (MethodNode place name flags result_type parameters (Some body)) →
+    always_ends : (b result_type body : ℕ) (position : Pos) (name : List ℕ) (flags parameters : Option ℕ) →
+        slice_get nodes b ≡ Some (MethodNode position name flags result_type parameters (Some body)) →
         ends_without_return p result_type body ≡ false
     unfolding type_breaks t1 t2 t3 t4 t5 t6 t7 t8 t9 t10 t11 t12 t13
-    always_ends b result_type body place name flags parameters there =
-        let node : Node = MethodNode place name flags result_type parameters (Some body) in
-        right (ends_without_return p result_type body) T10 place
-        (both_empty (broken (ends_without_return p result_type body) T10 place) (t14 p (type_at_node p) b node)
+    always_ends b result_type body position name flags parameters there =
+        let node : Node = MethodNode position name flags result_type parameters (Some body) in
+        right (ends_without_return p result_type body) T10 position
+        (both_empty (broken (ends_without_return p result_type body) T10 position) (t14 p (type_at_node p) b node)
         (unbroken forest accepted whole sorted b node there)).0
 
-    pub method_fact : (b c result_type body : ℕ) (sig : Signature) (place : Pos) (name : List ℕ)
+    pub method_fact : (b c result_type body : ℕ) (sig : Signature) (position : Pos) (name : List ℕ)
         (flags parameters : Option ℕ) →
-        slice_get nodes b ≡ Some (MethodNode place name flags result_type parameters (Some body)) →
+        slice_get nodes b ≡ Some (MethodNode position name flags result_type parameters (Some body)) →
         (context p b).class ≡ Some c → IsBody p b c sig → MethodFact p b c sig result_type body
     unfolding HasRightChildren children declared_before is_member parameter_list method_of
-    method_fact b c result_type body sig place name flags parameters there class is_body =
-        let node : Node = MethodNode place name flags result_type parameters (Some body) in
+    method_fact b c result_type body sig position name flags parameters there class is_body =
+        let node : Node = MethodNode position name flags result_type parameters (Some body) in
         let s = sorted.each b node there in
         let among : is_among body (optional flags ++ (result_type ∷ optional parameters ++ body ∷ [])) ≡ true
         = among-behind body (optional flags) _
@@ -109,5 +109,5 @@ module _ (forest : Forest) (accepted : IsAccepted forest) (whole : IsForest fore
               (sym is_body.gives ∙ void_given forest accepted whole sorted b c _ method
               (same_type (type_at p.nodes result_type) void_type e));
           returns = λ e. second_of_and (is_same_type (type_at p.nodes result_type) void_type) (always_returns p body)
-              (always_ends b result_type body place name flags parameters there) e;
+              (always_ends b result_type body position name flags parameters there) e;
         }

@@ -127,16 +127,16 @@ module _ (forest : Forest) (accepted : IsAccepted forest) (whole : IsForest fore
         }
 
     -- a name that has a type names no class
-    no_class : (id : ℕ) (place : Pos) (name : List ℕ) (k : Kind) →
-        slice_get forest.nodes id ≡ Some (SimpleName place name) → Judged p id (Some k) →
-        class_at_name p id (SimpleName place name) ≡ None
+    no_class : (id : ℕ) (position : Pos) (name : List ℕ) (k : Kind) →
+        slice_get forest.nodes id ≡ Some (SimpleName position name) → Judged p id (Some k) →
+        class_at_name p id (SimpleName position name) ≡ None
     unfolding class_at_name class_in Judged type_of type_of_meaning
-    no_class id place name k there j = go (meaning p id name) refl
+    no_class id position name k there j = go (meaning p id name) refl
       where
         typed : (t : Ty) × (type_of_meaning p (meaning p id name) ≡ Some t)
         typed =
             (let t = typed_of (type_at_node p id) (scope_at_node p id) k j in
-            (t.0, sym (type_is forest accepted whole sorted id (SimpleName place name) there) ∙ t.1))
+            (t.0, sym (type_is forest accepted whole sorted id (SimpleName position name) there) ∙ t.1))
 
         go : (m : Meaning) → meaning p id name ≡ m → class_in m ≡ None
         go (a_variable v) e = refl
@@ -144,16 +144,16 @@ module _ (forest : Forest) (accepted : IsAccepted forest) (whole : IsForest fore
         go nothing e = refl
         go (a_class c) e = absurd (let z : None ≡ Some typed.0 = sym (ap (type_of_meaning p) e) ∙ typed.1 in cc (z))
 
-    is_value : (id : ℕ) (place : Pos) (name : List ℕ) (k : Kind) →
-        slice_get forest.nodes id ≡ Some (SimpleName place name) → Judged p id (Some k) →
-        IsValue p id (SimpleName place name)
+    is_value : (id : ℕ) (position : Pos) (name : List ℕ) (k : Kind) →
+        slice_get forest.nodes id ≡ Some (SimpleName position name) → Judged p id (Some k) →
+        IsValue p id (SimpleName position name)
     unfolding is_argument is_expression is_new_node
-    is_value id place name k there j =
+    is_value id position name k there j =
         record {
           is_argument = refl;
-          no_class = no_class id place name k there j;
+          no_class = no_class id position name k there j;
           no_form_part = no_form_part forest
-              accepted whole id (SimpleName place name) (at_p forest accepted whole sorted id (SimpleName place name) there)
+              accepted whole id (SimpleName position name) (at_p forest accepted whole sorted id (SimpleName position name) there)
               refl;
         }
 
@@ -170,21 +170,21 @@ module _ (forest : Forest) (accepted : IsAccepted forest) (whole : IsForest fore
     of_name b c id name k (inr (inr f)) = inr (inr (static_fact c id name k f))
 
     -- what a name stands for, with the declaration of a field
-    pub named_fact : (b c id : ℕ) (place : Pos) (name : List ℕ) (o : Option Kind) →
-        slice_get forest.nodes id ≡ Some (SimpleName place name) → Inside p b c id → Judged p id o →
+    pub named_fact : (b c id : ℕ) (position : Pos) (name : List ℕ) (o : Option Kind) →
+        slice_get forest.nodes id ≡ Some (SimpleName position name) → Inside p b c id → Judged p id o →
         NameFact b c id name o
     unfolding gives_value
-    named_fact b c id place name o there inside j =
-        let v = valued forest accepted whole sorted id (SimpleName place name) o there refl j in
+    named_fact b c id position name o there inside j =
+        let v = valued forest accepted whole sorted id (SimpleName position name) o there refl j in
         subst (NameFact b c id name) (sym v.1)
         (of_name b c id name v.0
-        (name_facts forest accepted whole sorted b c id place name v.0 there inside
-        (is_value id place name v.0 there v.2) v.2))
+        (name_facts forest accepted whole sorted b c id position name v.0 there inside
+        (is_value id position name v.0 there v.2) v.2))
 
-    pub name_fact : (b c id : ℕ) (place : Pos) (name : List ℕ) (o : Option Kind) →
-        slice_get forest.nodes id ≡ Some (SimpleName place name) → Inside p b c id → Judged p id o →
+    pub name_fact : (b c id : ℕ) (position : Pos) (name : List ℕ) (o : Option Kind) →
+        slice_get forest.nodes id ≡ Some (SimpleName position name) → Inside p b c id → Judged p id o →
         LocalFact code b id o ⊎ (OwnFieldFact code b c id o ⊎ StaticFact code id o)
-    name_fact b c id place name o there inside j = go (named_fact b c id place name o there inside j)
+    name_fact b c id position name o there inside j = go (named_fact b c id position name o there inside j)
       where
         go : NameFact b c id name o → LocalFact code b id o ⊎ (OwnFieldFact code b c id o ⊎ StaticFact code id o)
         go (inl l) = inl l
@@ -198,20 +198,20 @@ module _ (forest : Forest) (accepted : IsAccepted forest) (whole : IsForest fore
     of_access b c id object name k (inr (inr s)) = inr (inl (static_fact s.0 id name k s.1))
 
     -- what an access stands for, with the declaration of a field
-    pub accessed_fact : (b c id object : ℕ) (place : Pos) (name : List ℕ) (o : Option Kind) →
-        slice_get forest.nodes id ≡ Some (FieldAccess place name object) → Inside p b c id → Judged p id o →
+    pub accessed_fact : (b c id object : ℕ) (position : Pos) (name : List ℕ) (o : Option Kind) →
+        slice_get forest.nodes id ≡ Some (FieldAccess position name object) → Inside p b c id → Judged p id o →
         AccessFact b c id object name o
     unfolding gives_value
-    accessed_fact b c id object place name o there inside j =
-        let v = valued forest accepted whole sorted id (FieldAccess place name object) o there refl j in
+    accessed_fact b c id object position name o there inside j =
+        let v = valued forest accepted whole sorted id (FieldAccess position name object) o there refl j in
         subst (AccessFact b c id object name) (sym v.1)
         (of_access b c id object name v.0
-        (access_facts forest accepted whole sorted b c id object place name v.0 there inside v.2))
+        (access_facts forest accepted whole sorted b c id object position name v.0 there inside v.2))
 
-    pub access_fact : (b c id object : ℕ) (place : Pos) (name : List ℕ) (o : Option Kind) →
-        slice_get forest.nodes id ≡ Some (FieldAccess place name object) → Inside p b c id → Judged p id o →
+    pub access_fact : (b c id object : ℕ) (position : Pos) (name : List ℕ) (o : Option Kind) →
+        slice_get forest.nodes id ≡ Some (FieldAccess position name object) → Inside p b c id → Judged p id o →
         FieldFact code b c id object o ⊎ (StaticFact code id o ⊎ LengthFact code b c id object o)
-    access_fact b c id object place name o there inside j = go (accessed_fact b c id object place name o there inside j)
+    access_fact b c id object position name o there inside j = go (accessed_fact b c id object position name o there inside j)
       where
         go : AccessFact b c id object name o →
             FieldFact code b c id object o ⊎ (StaticFact code id o ⊎ LengthFact code b c id object o)

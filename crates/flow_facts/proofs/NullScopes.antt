@@ -94,8 +94,8 @@ array_not _ e = none_not e
 
 -- `null` or an expression in parentheses
 unfoldable is_null_or_inner : Node → Bool
-is_null_or_inner (Null place) = true
-is_null_or_inner (Parenthesized place inner) = true
+is_null_or_inner (Null position) = true
+is_null_or_inner (Parenthesized position inner) = true
 is_null_or_inner _ = false
 
 -- a kind has the scope of its node, unless it is that of null
@@ -157,42 +157,42 @@ module _ (forest : Forest) (accepted : IsAccepted forest) (whole : IsForest fore
     expression_not : (id : ℕ) (node : Node) → is_argument node ≡ true → is_null_or_inner node ≡ false →
         NotNull (type_of p types id node)
     unfolding type_of is_argument is_expression is_null_or_inner
-    expression_not id (Null place) k n e = true≢false n
-    expression_not id (Parenthesized place inner) k n e = true≢false n
-    expression_not id (Number place value is_negative) k n e = int_not e
-    expression_not id (True place) k n e = boolean_not e
-    expression_not id (False place) k n e = boolean_not e
-    expression_not id (Text place text) k n e = (let f : Label ≡ NullTy = some_inj Label NullTy e in cc (f))
-    expression_not id (ThisNode place) k n e = class_named_not (context p id).class e
-    expression_not id (SimpleName place name) k n e = meaning_not (meaning p id name) e
-    expression_not id (Binary place operator left operand) k n e =
+    expression_not id (Null position) k n e = true≢false n
+    expression_not id (Parenthesized position inner) k n e = true≢false n
+    expression_not id (Number position value is_negative) k n e = int_not e
+    expression_not id (True position) k n e = boolean_not e
+    expression_not id (False position) k n e = boolean_not e
+    expression_not id (Text position text) k n e = (let f : Label ≡ NullTy = some_inj Label NullTy e in cc (f))
+    expression_not id (ThisNode position) k n e = class_named_not (context p id).class e
+    expression_not id (SimpleName position name) k n e = meaning_not (meaning p id name) e
+    expression_not id (Binary position operator left operand) k n e =
         let a = of_option (types left) (λ a. option_and_then (binary_type p.classes operator a) (types operand)) NullTy e
         in
         let b = of_option (types operand) (binary_type p.classes operator a.0) NullTy a.2 in
         binary_not p.classes operator a.0 b.0 b.2
-    expression_not id (Unary place operator operand) k n e =
+    expression_not id (Unary position operator operand) k n e =
         (let a = of_option (types operand) (unary_type operator) NullTy e in unary_not operator a.0 a.2)
-    expression_not id (Cast place name_place name operand) k n e =
+    expression_not id (Cast position name_place name operand) k n e =
         (let a = of_option (types operand) (λ t. option_map (λ class. ClassTy class) (class_number p.names name)) NullTy e
         in class_named_not (class_number p.names name) a.2)
-    expression_not id (FieldAccess place name object) k n e =
+    expression_not id (FieldAccess position name object) k n e =
         (let a = of_option (receiver p types object) (λ r. access_type p r name) NullTy e in access_not a.0 name a.2)
-    expression_not id (Call place name object arguments) k n e =
+    expression_not id (Call position name object arguments) k n e =
         let a =
         of_option (call_receiver p types id object)
         (λ r. option_and_then (λ ts. call_type p r name) (all_types types arguments)) NullTy e in
         let b = of_option (all_types types arguments) (λ ts. call_type p a.0 name) NullTy a.2 in call_not a.0 name b.2
-    expression_not id (Element place array index) k n e =
+    expression_not id (Element position array index) k n e =
         let a = of_option (types array) (λ a. option_and_then (λ i. element_type a) (types index)) NullTy e in
         let b = of_option (types index) (λ i. element_type a.0) NullTy a.2 in element_not a.0 b.2
-    expression_not id (New place name_place name arguments) k n e =
+    expression_not id (New position name_place name arguments) k n e =
         if_not _ None (option_and_then (λ ts. option_map (λ class. ClassTy class) (class_number p.names name))
         (all_types types arguments)) none_not
         (λ e.
         (let a = of_option (all_types types arguments)
         (λ ts. option_map (λ class. ClassTy class) (class_number p.names name)) NullTy e in
         class_named_not (class_number p.names name) a.2)) e
-    expression_not id (NewArray place element size) k n e =
+    expression_not id (NewArray position element size) k n e =
         let a = of_option (types size) (λ n. option_and_then array_of (written_type p element)) NullTy e in
         let b = of_option (written_type p element) array_of NullTy a.2 in array_not b.0 b.2
     expression_not id _ k n e = true≢false (sym k)
@@ -204,9 +204,9 @@ module _ (forest : Forest) (accepted : IsAccepted forest) (whole : IsForest fore
     null_step : (x : ℕ) (node : Node) → slice_get forest.nodes x ≡ Some node → is_argument node ≡ true →
         types x ≡ Some NullTy → LiesBelow x → scopes x ≡ Some Any
     unfolding type_of scope_of is_null_or_inner HasRightChildren children is_argument
-    null_step x (Null place) there k e ih = scope_is forest accepted whole sorted x (Null place) there
-    null_step x (Parenthesized place inner) there k e ih =
-        let node : Node = Parenthesized place inner in
+    null_step x (Null position) there k e ih = scope_is forest accepted whole sorted x (Null position) there
+    null_step x (Parenthesized position inner) there k e ih =
+        let node : Node = Parenthesized position inner in
         let o = sorted.each x node there in
         let less = child-less forest whole x inner node there (same_first forest accepted whole sorted inner []) in
         scope_is forest accepted whole sorted x node there ∙ ih inner o.node less o.is_there (wide o.node o.passes)

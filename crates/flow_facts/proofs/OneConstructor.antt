@@ -124,11 +124,11 @@ module _ (forest : Forest) (accepted : IsAccepted forest) (whole : IsForest fore
         slice_get p.nodes b ≡ Some node → constructor_of p.nodes b node ≡ Some con → (context p b).class ≡ Some c →
         slice_get p.classes c ≡ Some row → NamedAsClass b c row
     unfolding constructor_of node_breaks c9 c11 callable_name declarations_of
-    named_as_class b c row (Constructor place name flags parameters super_call body) con there is class e =
+    named_as_class b c row (Constructor position name flags parameters super_call body) con there is class e =
         let m : Modifiers = modifiers_at p.nodes flags in
         let h =
-        right (is_misplaced_on_constructor p b name m) C11 place
-        (no_break_at_node forest accepted b (Constructor place name flags parameters super_call body)
+        right (is_misplaced_on_constructor p b name m) C11 position
+        (no_break_at_node forest accepted b (Constructor position name flags parameters super_call body)
         there).no_class_rule in
         record {
           name = _;
@@ -149,7 +149,7 @@ module _ (forest : Forest) (accepted : IsAccepted forest) (whole : IsForest fore
     members_once : (b c : ℕ) (m : MemberAt forest accepted whole sorted b c) →
         named_twice name_of [] (callable_names p m.at.class) ≡ []
     unfolding c5
-    members_once b c m = none_broken (λ (w : Written). w.place) C5 (named_twice name_of [] (callable_names p m.at.class))
+    members_once b c m = none_broken (λ (w : Written). w.position) C5 (named_twice name_of [] (callable_names p m.at.class))
         (at_class_unbroken forest accepted c m.at.row m.at.class m.at.is_row m.at.written).method_twice
 
     -- the constructor that stands at a node of a class is the class's

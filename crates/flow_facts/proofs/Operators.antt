@@ -122,33 +122,33 @@ module _ (forest : Forest) (accepted : IsAccepted forest) (whole : IsForest fore
       ∙ ap (λ t. Some t)
       (int_of_number t.0 (scope_at_node p id) (ap (λ o. kind_of o (scope_at_node p id)) (sym t.1) ∙ j)))
 
-  unary_case : (id operator operand : ℕ) (place : Pos) (k : Kind) →
-      slice_get forest.nodes id ≡ Some (Unary place operator operand) → Judged p id (Some k) →
+  unary_case : (id operator operand : ℕ) (position : Pos) (k : Kind) →
+      slice_get forest.nodes id ≡ Some (Unary position operator operand) → Judged p id (Some k) →
       ((operator ≡ sign_not) × (k ≡ truth)) ⊎ (k ≡ number) →
       ((operator ≡ sign_not) × (k ≡ truth)) ⊎ ((k ≡ number) × (operator ≡ sign_not → ⊥))
   unfolding type_of
-  unary_case id operator operand place k there j (inl q) = inl q
-  unary_case id operator operand place k there j (inr q) =
+  unary_case id operator operand position k there j (inl q) = inl q
+  unary_case id operator operand position k there j (inr q) =
       inr (
         q,
         λ n. (
             let t = typed_int id (subst (λ k. Judged p id (Some k)) q j) in
             let a =
             of_option (types operand) (unary_type operator) Int
-            (sym (type_is forest accepted whole sorted id (Unary place operator operand) there) ∙ t) in
+            (sym (type_is forest accepted whole sorted id (Unary position operator operand) there) ∙ t) in
             not_gives_truth a.0 (ap (λ n. unary_type n a.0) (sym n) ∙ a.2)),
       )
 
-  pub unary_fact : (b c id operator operand : ℕ) (place : Pos) (o : Option Kind) →
-      slice_get forest.nodes id ≡ Some (Unary place operator operand) → Inside p b c id → Judged p id o →
+  pub unary_fact : (b c id operator operand : ℕ) (position : Pos) (o : Option Kind) →
+      slice_get forest.nodes id ≡ Some (Unary position operator operand) → Inside p b c id → Judged p id o →
       UnaryFact p b c id operator operand o
   unfolding gives_value has_right_operator
-  unary_fact b c id operator operand place o there inside j =
-      let v = valued forest accepted whole sorted id (Unary place operator operand) o there refl j in
-      let f = unary_facts forest accepted whole sorted b c id operator operand place v.0 there inside v.2 in
+  unary_fact b c id operator operand position o there inside j =
+      let v = valued forest accepted whole sorted id (Unary position operator operand) o there refl j in
+      let f = unary_facts forest accepted whole sorted b c id operator operand position v.0 there inside v.2 in
       let sign : is_among operator unary_operators ≡ true =
-      operators_right forest is_read id (Unary place operator operand) there in
-      let kind = unary_kind operator v.0 sign (unary_case id operator operand place v.0 there v.2 f.operates) in
+      operators_right forest is_read id (Unary position operator operand) there in
+      let kind = unary_kind operator v.0 sign (unary_case id operator operand position v.0 there v.2 f.operates) in
       record {
         kind = v.0;
         operand_is = value_of p b c id operand v.0 f.operand_is;
@@ -193,47 +193,47 @@ module _ (forest : Forest) (accepted : IsAccepted forest) (whole : IsForest fore
         is_given = refl;
       })
 
-  int_given : (id operator left right : ℕ) (place : Pos) →
-      slice_get forest.nodes id ≡ Some (Binary place operator left right) → Judged p id (Some number) →
+  int_given : (id operator left right : ℕ) (position : Pos) →
+      slice_get forest.nodes id ≡ Some (Binary position operator left right) → Judged p id (Some number) →
       GivesInt operator
   unfolding type_of
-  int_given id operator left right place there j =
+  int_given id operator left right position there j =
       let a = of_option (types left) (λ a. option_and_then (binary_type p.classes operator a) (types right)) Int
-      (sym (type_is forest accepted whole sorted id (Binary place operator left right) there) ∙ typed_int id j) in
+      (sym (type_is forest accepted whole sorted id (Binary position operator left right) there) ∙ typed_int id j) in
       let d = of_option (types right) (binary_type p.classes operator a.0) Int a.2 in
       gives_int p.classes operator a.0 d.0 d.2
 
-  by_operator : (b c id operator left right : ℕ) (place : Pos) (j k l : Kind) →
-      slice_get forest.nodes id ≡ Some (Binary place operator left right) → HasValue p b c id left (Some j) →
+  by_operator : (b c id operator left right : ℕ) (position : Pos) (j k l : Kind) →
+      slice_get forest.nodes id ≡ Some (Binary position operator left right) → HasValue p b c id left (Some j) →
       HasValue p b c id right (Some k) → Operates operator j k l → Judged p id (Some l) →
       BinaryCases b c id operator left right (Some l)
   unfolding has_right_operator
-  by_operator b c id operator left right place j k l there x y (conditional h) judged =
+  by_operator b c id operator left right position j k l there x y (conditional h) judged =
       inl (h, record { left_is = x; right_is = y; is_given = refl })
-  by_operator b c id operator left right place j k l there x y (relational h) judged =
+  by_operator b c id operator left right position j k l there x y (relational h) judged =
       compared b c id operator left right number number x y (relational_sign operator h)
-  by_operator b c id operator left right place j k l there x y (equality_of_numbers h) judged =
+  by_operator b c id operator left right position j k l there x y (equality_of_numbers h) judged =
       compared b c id operator left right number number x y (equal_numbers operator h)
-  by_operator b c id operator left right place j k l there x y (equality_of_truths h) judged =
+  by_operator b c id operator left right position j k l there x y (equality_of_truths h) judged =
       compared b c id operator left right truth truth x y (equal_truths operator h)
-  by_operator b c id operator left right place j k l there x y
+  by_operator b c id operator left right position j k l there x y
       (equality_of_references {t = t} {u = u} {s = s} {r = r} h) judged =
       compared b c id operator left right (reference t s) (reference u r) x y (equal_references operator t u s r h)
-  by_operator b c id operator left right place j k l there x y arithmetic judged =
-      let g = int_given id operator left right place there judged in
-      let sign : is_binary operator ≡ true = operators_right forest is_read id (Binary place operator left right) there
+  by_operator b c id operator left right position j k l there x y arithmetic judged =
+      let g = int_given id operator left right position there judged in
+      let sign : is_binary operator ≡ true = operators_right forest is_read id (Binary position operator left right) there
       in
       computed b c id operator left right x y
       (arithmetic_sign operator sign g.no_conditional g.no_relational g.no_equality)
 
-  pub binary_fact : (b c id operator left right : ℕ) (place : Pos) (o : Option Kind) →
-      slice_get forest.nodes id ≡ Some (Binary place operator left right) → Inside p b c id → Judged p id o →
+  pub binary_fact : (b c id operator left right : ℕ) (position : Pos) (o : Option Kind) →
+      slice_get forest.nodes id ≡ Some (Binary position operator left right) → Inside p b c id → Judged p id o →
       BinaryCases b c id operator left right o
   unfolding gives_value
-  binary_fact b c id operator left right place o there inside j =
-      let v = valued forest accepted whole sorted id (Binary place operator left right) o there refl j in
-      let f = binary_facts forest accepted whole sorted b c id operator left right place v.0 there inside v.2 in
+  binary_fact b c id operator left right position o there inside j =
+      let v = valued forest accepted whole sorted id (Binary position operator left right) o there refl j in
+      let f = binary_facts forest accepted whole sorted b c id operator left right position v.0 there inside v.2 in
       subst (BinaryCases b c id operator left right) (sym v.1)
-      (by_operator b c id operator left right place f.first f.second v.0 there
+      (by_operator b c id operator left right position f.first f.second v.0 there
       (value_of p b c id left f.first f.left_operand) (value_of p b c id right f.second f.right_operand) f.operates
       v.2)

@@ -109,7 +109,7 @@ module _ (forest : Forest) (whole : IsForest forest) where
       (node : Node) × (read_ ≡ Some node) × Element x (children node)
   unfolding parameter_nodes children
   listed None x i = absurd (nowhere x i)
-  listed (Some (Parameters place list)) x i = (Parameters place list, refl, i)
+  listed (Some (Parameters position list)) x i = (Parameters position list, refl, i)
   listed (Some _) x i = absurd (nowhere x i)
 
   parameters_apart : (k y x : ℕ) (node : Node) (parameters : Option ℕ) → slice_get nodes k ≡ Some node →
@@ -135,22 +135,22 @@ module _ (forest : Forest) (whole : IsForest forest) where
   declared_apart : (k y x : ℕ) (node : Node) → slice_get nodes k ≡ Some node → is_among y (children node) ≡ true →
       Element x (declared_before nodes node y) → Follows next x y → ⊥
   unfolding declared_before children
-  declared_apart k y x (Block place statements) there among i h =
-      sibling_apart k y x (Block place statements) there among
+  declared_apart k y x (Block position statements) there among i h =
+      sibling_apart k y x (Block position statements) there among
       (among_in x statements (stands_before x y statements i)) h
-  declared_apart k y x (For place first condition step body) there among i h =
-      sibling_apart k y x (For place first condition step body) there among
+  declared_apart k y x (For position first condition step body) there among i h =
+      sibling_apart k y x (For position first condition step body) there among
       (among_in x (first ∷ condition ∷ step ∷ body ∷ [])
       (stands_before x y (first ∷ condition ∷ step ∷ body ∷ []) i)) h
-  declared_apart k y x (Parameters place list) there among i h =
-      sibling_apart k y x (Parameters place list) there among (among_in x list (stands_before x y list i)) h
-  declared_apart k y x (MethodNode place name flags result_type parameters body) there among i h =
-      parameters_apart k y x (MethodNode place name flags result_type parameters body) parameters there among
+  declared_apart k y x (Parameters position list) there among i h =
+      sibling_apart k y x (Parameters position list) there among (among_in x list (stands_before x y list i)) h
+  declared_apart k y x (MethodNode position name flags result_type parameters body) there among i h =
+      parameters_apart k y x (MethodNode position name flags result_type parameters body) parameters there among
       (λ q e. among-behind q (optional flags) _
       (later q result_type (optional parameters ++ optional body)
       (among-front q (optional parameters) (optional body) (optional_there parameters q e)))) i h
-  declared_apart k y x (Constructor place name flags parameters super_call body) there among i h =
-      parameters_apart k y x (Constructor place name flags parameters super_call body) parameters there among
+  declared_apart k y x (Constructor position name flags parameters super_call body) there among i h =
+      parameters_apart k y x (Constructor position name flags parameters super_call body) parameters there among
       (λ q e. among-behind q (optional flags) _
       (among-front q (optional parameters) (optional super_call ++ (body ∷ [])) (optional_there parameters q e))) i h
   declared_apart k y x _ there among i h = elim i [ ]

@@ -40,7 +40,7 @@ row_right (define_scope_flag_parent_first d e s r) w =
 
 flags_right : (N : List Node) (flags : FlagSet) → OperatorsRight N → OperatorsRight (with_flags N flags)
 unfolding with_flags flags_node flags_at has_right_operator
-flags_right N flags w = go (has_effect flags) flags.place
+flags_right N flags w = go (has_effect flags) flags.position
   where
     go : (t : Bool) (o : Option Pos) →
         OperatorsRight

@@ -90,21 +90,21 @@ module _ (forest : Forest) (accepted : IsAccepted forest) (whole : IsForest fore
 
     -- ---- returns
 
-    pub return_none_fact : (b c id : ℕ) (sig : Signature) (place : Pos) → IsBody p b c sig →
-        slice_get forest.nodes id ≡ Some (Return place None) → Inside p b c id → sig.gives ≡ None
-    return_none_fact b c id sig place body there inside = sym body.gives ∙ go (method_at p.nodes b) refl
+    pub return_none_fact : (b c id : ℕ) (sig : Signature) (position : Pos) → IsBody p b c sig →
+        slice_get forest.nodes id ≡ Some (Return position None) → Inside p b c id → sig.gives ≡ None
+    return_none_fact b c id sig position body there inside = sym body.gives ∙ go (method_at p.nodes b) refl
       where
         go : (o : Option DeclaredMethod) → method_at p.nodes b ≡ o → kind_given p c b ≡ None
         go None e = none_given b c e
-        go (Some m) e = void_given b c m e (returns_nothing forest accepted whole sorted b c id place m there inside e)
+        go (Some m) e = void_given b c m e (returns_nothing forest accepted whole sorted b c id position m there inside e)
 
-    pub return_value_fact : (b c id value : ℕ) (sig : Signature) (place : Pos) → IsBody p b c sig →
-        slice_get forest.nodes id ≡ Some (Return place (Some value)) → Inside p b c id →
+    pub return_value_fact : (b c id value : ℕ) (sig : Signature) (position : Pos) → IsBody p b c sig →
+        slice_get forest.nodes id ≡ Some (Return position (Some value)) → Inside p b c id →
         ReturnValueFact p b c sig id value
-    return_value_fact b c id value sig place body there inside = by_fit r.fit
+    return_value_fact b c id value sig position body there inside = by_fit r.fit
       where
         r : ReturnFacts p b c id value
-        r = return_facts forest accepted whole sorted b c id value place there inside
+        r = return_facts forest accepted whole sorted b c id value position there inside
 
         m : DeclaredMethod
         m = r.method

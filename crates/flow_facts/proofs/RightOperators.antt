@@ -15,9 +15,9 @@ unary_operators = sign_minus ∷ (sign_not ∷ (sign_tilde ∷ []))
 
 -- the operator of a node is one of the grammar's, and a field has its `=` exactly where it has a value
 unfoldable pub has_right_operator : Node → Bool
-has_right_operator (Binary place operator left right) = is_binary operator
-has_right_operator (Unary place operator inner) = is_among operator unary_operators
-has_right_operator (Field place name flags declared_type equals value) =
+has_right_operator (Binary position operator left right) = is_binary operator
+has_right_operator (Unary position operator inner) = is_among operator unary_operators
+has_right_operator (Field position name flags declared_type equals value) =
     if is_some equals then is_some value else not (is_some value)
 has_right_operator _ = true
 

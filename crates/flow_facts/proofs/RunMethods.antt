@@ -144,9 +144,9 @@ module _ (forest : Forest) (accepted : IsAccepted forest) (whole : IsForest fore
       let n = at_class_unbroken forest accepted on w.row w.declared w.stands w.is in
       let left : list_any (is_left_open p on) (abstract_methods p.classes on) ≡ false =
       sym (ap (λ t. not t && list_any (is_left_open p on) (abstract_methods p.classes on)) w.plain)
-      ∙ right (leaves_open p on w.declared) C7 w.declared.place
-      (both_empty (broken (leaves_open p on w.declared) C7 w.declared.place)
-      (flat_map (λ (m : DeclaredMethod). broken (has_wrong_body m) C7 m.declared.place) w.row.methods)
+      ∙ right (leaves_open p on w.declared) C7 w.declared.position
+      (both_empty (broken (leaves_open p on w.declared) C7 w.declared.position)
+      (flat_map (λ (m : DeclaredMethod). broken (has_wrong_body m) C7 m.declared.position) w.row.methods)
       n.left_open).0 in
       none_passes (is_left_open p on) (abstract_methods p.classes on) run_method left
       (in_flat (own_abstract_methods p.classes) run_method runnable

@@ -37,28 +37,28 @@ module _ (forest : Forest) (accepted : IsAccepted forest) (whole : IsForest fore
   by_kind : (b c : ℕ) (sig : Signature) (id : ℕ) (node : Node) → IsBody p b c sig → Inside p b c id →
       slice_get forest.nodes id ≡ Some node → is_statement node ≡ true → StatementFact code b c sig id node
   unfolding StatementFact ReturnFact is_statement code_of
-  by_kind b c sig id (Block place statements) body inside there e =
-      block_statements forest accepted whole sorted b c id place statements there inside
-  by_kind b c sig id (EmptyStatement place) body inside there e = tt
-  by_kind b c sig id (LocalNode place name flags declared_type) body inside there e =
-      local_fact forest accepted whole sorted b c id declared_type place name flags there inside (spares id)
-  by_kind b c sig id (LocalWithValue place name_place name flags declared_type value) body inside there e =
-      initial_value_fact forest accepted whole sorted b c id value declared_type place name_place name flags there
+  by_kind b c sig id (Block position statements) body inside there e =
+      block_statements forest accepted whole sorted b c id position statements there inside
+  by_kind b c sig id (EmptyStatement position) body inside there e = tt
+  by_kind b c sig id (LocalNode position name flags declared_type) body inside there e =
+      local_fact forest accepted whole sorted b c id declared_type position name flags there inside (spares id)
+  by_kind b c sig id (LocalWithValue position name_place name flags declared_type value) body inside there e =
+      initial_value_fact forest accepted whole sorted b c id value declared_type position name_place name flags there
       inside (spares id)
-  by_kind b c sig id (Assign place target value) body inside there e =
-      assign_fact forest accepted whole sorted b c id target value place there inside
-  by_kind b c sig id (ExpressionStatement place expression) body inside there e =
-      invocation_fact forest accepted whole sorted b c id expression place there inside
-  by_kind b c sig id (If place condition then_part else_part) body inside there e =
-      if_fact forest accepted whole sorted b c id condition then_part place else_part there inside
-  by_kind b c sig id (While place condition body_part) body inside there e =
-      while_fact forest accepted whole sorted b c id condition body_part place there inside
-  by_kind b c sig id (For place first condition step body_part) body inside there e =
-      for_fact forest accepted whole sorted b c id first condition step body_part place there inside
-  by_kind b c sig id (Return place None) body inside there e =
-      return_none_fact forest accepted whole sorted b c id sig place body there inside
-  by_kind b c sig id (Return place (Some value)) body inside there e =
-      return_value_fact forest accepted whole sorted b c id value sig place body there inside
+  by_kind b c sig id (Assign position target value) body inside there e =
+      assign_fact forest accepted whole sorted b c id target value position there inside
+  by_kind b c sig id (ExpressionStatement position expression) body inside there e =
+      invocation_fact forest accepted whole sorted b c id expression position there inside
+  by_kind b c sig id (If position condition then_part else_part) body inside there e =
+      if_fact forest accepted whole sorted b c id condition then_part position else_part there inside
+  by_kind b c sig id (While position condition body_part) body inside there e =
+      while_fact forest accepted whole sorted b c id condition body_part position there inside
+  by_kind b c sig id (For position first condition step body_part) body inside there e =
+      for_fact forest accepted whole sorted b c id first condition step body_part position there inside
+  by_kind b c sig id (Return position None) body inside there e =
+      return_none_fact forest accepted whole sorted b c id sig position body there inside
+  by_kind b c sig id (Return position (Some value)) body inside there e =
+      return_value_fact forest accepted whole sorted b c id value sig position body there inside
   by_kind b c sig id _ body inside there e = absurd (true≢false (sym e))
 
   pub statement_fact : (b c : ℕ) (sig : Signature) (id : ℕ) (node : Node) → IsBody p b c sig → IsStatement p b c id →

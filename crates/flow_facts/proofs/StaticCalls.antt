@@ -96,16 +96,16 @@ module _ (forest : Forest) (accepted : IsAccepted forest) (whole : IsForest fore
   abbrev code : Code
   code = code_of forest
 
-  static_bound : (id : ℕ) (place : Pos) (name : List ℕ) (object : Option ℕ) (arguments : List ℕ) (f : FoundMethod)
-      (r : Receiver) (n : ℕ) → slice_get forest.nodes id ≡ Some (Call place name object arguments) →
+  static_bound : (id : ℕ) (position : Pos) (name : List ℕ) (object : Option ℕ) (arguments : List ℕ) (f : FoundMethod)
+      (r : Receiver) (n : ℕ) → slice_get forest.nodes id ≡ Some (Call position name object arguments) →
       call_receiver p types id object ≡ Some r → called_method p r name ≡ Some f → f.method.builtin ≡ None →
       f.method.declared.modifiers.is_static ≡ true
       → method_number p.nodes p.users f.method.declared.node ≡ Some n → (f.on == managed_memory) ≡ false →
       binding_at_node p id ≡ StaticMethod
       (record { id = n; on = f.on; gives = not (is_same_type f.method.declared.declared_type void_type) })
   unfolding binding_of method_binding target called_on
-  static_bound id place name object arguments f r n there e m b plain k on =
-      binding_is forest accepted whole sorted id (Call place name object arguments) there
+  static_bound id position name object arguments f r n there e m b plain k on =
+      binding_is forest accepted whole sorted id (Call position name object arguments) there
       ∙ ap (λ (o : Option Receiver). plain_or
       (λ r. plain_or (method_binding p types r arguments) (called_method p r name)) o) e
       ∙ ap (λ (o : Option FoundMethod). plain_or (method_binding p types r arguments) o) m
@@ -133,17 +133,17 @@ module _ (forest : Forest) (accepted : IsAccepted forest) (whole : IsForest fore
             (is_same_type f.method.declared.declared_type void_type);
       })) plain
 
-  static_gives : (id : ℕ) (place : Pos) (name : List ℕ) (object : Option ℕ) (arguments : List ℕ) (f : FoundMethod)
+  static_gives : (id : ℕ) (position : Pos) (name : List ℕ) (object : Option ℕ) (arguments : List ℕ) (f : FoundMethod)
       (r : Receiver) (now : Scope) (o : Option Kind) →
-      slice_get forest.nodes id ≡ Some (Call place name object arguments) → call_receiver p types id object ≡ Some r →
+      slice_get forest.nodes id ≡ Some (Call position name object arguments) → call_receiver p types id object ≡ Some r →
       called_method p r name ≡ Some f
       → f.method.declared.modifiers.is_static ≡ true → current_at p id ≡ Some now →
       types id ≡ declared_type_of p f.method.declared → Judged p id o → o ≡ seen_option Any now (kind_given_by p f)
   unfolding scope_of scope_of_call kind_given_by Judged
-  static_gives id place name object arguments f r now o there e m static h typed judged = by_kind o judged
+  static_gives id position name object arguments f r now o there e m static h typed judged = by_kind o judged
     where
       node : Node
-      node = Call place name object arguments
+      node = Call position name object arguments
 
       scoped : scopes id ≡ option_and_then (substitute (Some Any) (Some now)) (result_scope p f.on f.method)
       scoped =
@@ -205,16 +205,16 @@ module _ (forest : Forest) (accepted : IsAccepted forest) (whole : IsForest fore
   unfolding kinds_taken
   takes_without f ks s e = all_without forest accepted whole sorted f f.method.parameters ks s e
 
-  pub static_call_fact : (b c : ℕ) (sig : Signature) (id : ℕ) (place : Pos) (name : List ℕ) (object : Option ℕ)
+  pub static_call_fact : (b c : ℕ) (sig : Signature) (id : ℕ) (position : Pos) (name : List ℕ) (object : Option ℕ)
       (arguments : List ℕ) (o : Option Kind) → IsBody p b c sig →
-      slice_get forest.nodes id ≡ Some (Call place name object arguments) → Inside p b c id →
+      slice_get forest.nodes id ≡ Some (Call position name object arguments) → Inside p b c id →
       (m : Invoked forest accepted whole sorted is_read id name object)
       → m.method.method.builtin ≡ None → m.method.method.declared.modifiers.is_static ≡ true → Judged p id o →
       StaticCallFact code b c sig id arguments o
   unfolding code_of
-  static_call_fact b c sig id place name object arguments o body there inside v not_builtin static j =
+  static_call_fact b c sig id position name object arguments o body there inside v not_builtin static j =
       let f = v.method in
-      let x = call_parts forest accepted whole sorted b c id place name object arguments there inside in
+      let x = call_parts forest accepted whole sorted b c id position name object arguments there inside in
       let m : called_method p x.r name ≡ Some f = sym (ap (option_and_then (λ r. called_method p r name)) x.is_receiver)
       ∙ v.is in
       let q = of_class (class_of_receiver x.r) (λ class. method_named p.classes class name) f m in
@@ -231,11 +231,11 @@ module _ (forest : Forest) (accepted : IsAccepted forest) (whole : IsForest fore
       let e3_at =
       static_scoped id name object arguments f now
       (user_called forest accepted whole sorted id name object f v.is not_builtin) static here
-      (passed_rightly forest accepted whole sorted id place name object arguments
-      (use_unbroken forest accepted whole sorted id (Call place name object arguments) there)) in
+      (passed_rightly forest accepted whole sorted id position name object arguments
+      (use_unbroken forest accepted whole sorted id (Call position name object arguments) there)) in
       let w =
-      right_call p types id place name object arguments
-      (unbroken forest accepted whole sorted id (Call place name object arguments) there) in
+      right_call p types id position name object arguments
+      (unbroken forest accepted whole sorted id (Call position name object arguments) there) in
       let rules = call_rules forest accepted whole sorted id name object arguments x.r x.ts x.is_receiver x.typed w in
       let accepts =
       arguments_accepted forest accepted whole sorted id name object arguments x.r x.ts f x.is_receiver m x.typed
@@ -250,7 +250,7 @@ module _ (forest : Forest) (accepted : IsAccepted forest) (whole : IsForest fore
       (not_long forest accepted whole sorted is_read f v.type v.typed) runs in
       record {
         target = _;
-        is = static_bound id place name object arguments f x.r n.0 there x.is_receiver m not_builtin static n.1
+        is = static_bound id position name object arguments f x.r n.0 there x.is_receiver m not_builtin static n.1
             (user_not_memory f.on user.on_user_class);
         body = f.method.declared.node;
         is_body = body_found forest accepted whole sorted is_read f.on n.0 f f user user n.1
@@ -267,7 +267,7 @@ module _ (forest : Forest) (accepted : IsAccepted forest) (whole : IsForest fore
         takes_no_this = takes_without f taken static takes.are;
         gives_no_this = result_without forest accepted whole sorted f static;
         gives_itself = result_itself forest accepted whole sorted f static;
-        is_given = static_gives id place name object arguments f x.r now o there x.is_receiver m static here
+        is_given = static_gives id position name object arguments f x.r now o there x.is_receiver m static here
             (v.given ∙ sym v.typed) j;
-        is_left = call_value forest accepted whole sorted id place name object arguments o there j;
+        is_left = call_value forest accepted whole sorted id position name object arguments o there j;
       }

@@ -193,13 +193,13 @@ module _ (forest : Forest) (accepted : IsAccepted forest) (whole : IsForest fore
         method_of p.nodes b node ≡ Some m → m.declared.modifiers.is_static ≡ true →
         m.declared.modifiers.is_abstract ≡ false
     unfolding method_of node_breaks c9 c11
-    not_abstract b (MethodNode place name flags result_type parameters body) m stands is s =
+    not_abstract b (MethodNode position name flags result_type parameters body) m stands is s =
         let w : Modifiers = modifiers_at p.nodes flags in
         let same : w ≡ m.declared.modifiers = ap (λ (m : DeclaredMethod). m.declared.modifiers) (some_inj _ m is) in
         let e =
-        right (is_misplaced_on_method p b name w) C11 place
-        (both_empty (at_node p (c9_type p) result_type) (broken (is_misplaced_on_method p b name w) C11 place)
-        (no_break_at_node forest accepted b (MethodNode place name flags result_type parameters body)
+        right (is_misplaced_on_method p b name w) C11 position
+        (both_empty (at_node p (c9_type p) result_type) (broken (is_misplaced_on_method p b name w) C11 position)
+        (no_break_at_node forest accepted b (MethodNode position name flags result_type parameters body)
         stands).no_class_rule).1 in
         ap (λ (w : Modifiers). w.is_abstract) (sym same)
         ∙ and_second w.is_static w.is_abstract (ap (λ (w : Modifiers). w.is_static) same ∙ s)
@@ -228,10 +228,10 @@ module _ (forest : Forest) (accepted : IsAccepted forest) (whole : IsForest fore
               let c =
               at_class_unbroken forest accepted y d.row w.2.class d.is_row
               (written_of forest accepted whole sorted w.0 d.row w.2) in
-              let wrong = right (has_wrong_body f.method) C7 f.method.declared.place
-              (flat_none (λ (m : DeclaredMethod). broken (has_wrong_body m) C7 m.declared.place) f.method d.row.methods
-              (both_empty (broken (leaves_open p y w.2.class) C7 w.2.class.place)
-              (flat_map (λ (m : DeclaredMethod). broken (has_wrong_body m) C7 m.declared.place) d.row.methods)
+              let wrong = right (has_wrong_body f.method) C7 f.method.declared.position
+              (flat_none (λ (m : DeclaredMethod). broken (has_wrong_body m) C7 m.declared.position) f.method d.row.methods
+              (both_empty (broken (leaves_open p y w.2.class) C7 w.2.class.position)
+              (flat_map (λ (m : DeclaredMethod). broken (has_wrong_body m) C7 m.declared.position) d.row.methods)
               c.left_open).1 d.among) in
               body_there f.method (not_abstract f.method.declared.node n.node f.method n.is_there n.is s) wrong)
         ]
@@ -256,7 +256,7 @@ module _ (forest : Forest) (accepted : IsAccepted forest) (whole : IsForest fore
     static_at : (b : ℕ) (node : Node) (m : DeclaredMethod) → slice_get p.nodes b ≡ Some node →
         method_of p.nodes b node ≡ Some m → is_static_member p.nodes b ≡ m.declared.modifiers.is_static
     unfolding method_of member_flags
-    static_at b (MethodNode place name flags result_type parameters body) m stands is =
+    static_at b (MethodNode position name flags result_type parameters body) m stands is =
         ap (λ (o : Option Node). holds (option_and_then member_flags o) (λ flags. (modifiers_at p.nodes flags).is_static))
         stands ∙ ap (λ (m : DeclaredMethod). m.declared.modifiers.is_static) (some_inj _ m is)
     static_at b _ m stands is = absurd (cc (is))

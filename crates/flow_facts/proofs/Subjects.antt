@@ -86,8 +86,8 @@ module _ (forest : Forest) (accepted : IsAccepted forest) (whole : IsForest fore
       go None None true None e = absurd (cc (e))
       go None None false o e = absurd (cc (e))
 
-  variable_pushed : (b c y v : ℕ) (place : Pos) (name : List ℕ) →
-      slice_get forest.nodes y ≡ Some (SimpleName place name) → Inside p b c y → meaning p y name ≡ a_variable v →
+  variable_pushed : (b c y v : ℕ) (position : Pos) (name : List ℕ) →
+      slice_get forest.nodes y ≡ Some (SimpleName position name) → Inside p b c y → meaning p y name ≡ a_variable v →
       Pushed b y (the_variable v)
   unfolding binding_of meaning_binding variable_binding node_ops name_ops bound_local declarations_of
   variable_pushed b c y v place name there inside meant =
@@ -109,19 +109,19 @@ module _ (forest : Forest) (accepted : IsAccepted forest) (whole : IsForest fore
   unfolding subject_of subject_of_meaning node_ops declarations_of
   subject_pushed b c y s inside e = on_node (slice_get forest.nodes y) refl e
     where
-      by_meaning : (place : Pos) (name : List ℕ) → slice_get forest.nodes y ≡ Some (SimpleName place name) →
+      by_meaning : (position : Pos) (name : List ℕ) → slice_get forest.nodes y ≡ Some (SimpleName position name) →
           (m : Meaning) → meaning p y name ≡ m → subject_of_meaning m ≡ Some s → Pushed b y s
-      by_meaning place name there (a_variable v) meant e =
-          subst (Pushed b y) (some_inj (the_variable v) s e) (variable_pushed b c y v place name there inside meant)
-      by_meaning place name there _ meant e = absurd (cc (e))
+      by_meaning position name there (a_variable v) meant e =
+          subst (Pushed b y) (some_inj (the_variable v) s e) (variable_pushed b c y v position name there inside meant)
+      by_meaning position name there _ meant e = absurd (cc (e))
 
       on_node : (o : Option Node) → slice_get forest.nodes y ≡ o → option_and_then (subject_of p y) o ≡ Some s →
           Pushed b y s
       on_node None there e = absurd (cc (e))
-      on_node (Some (ThisNode place)) there e =
+      on_node (Some (ThisNode position)) there e =
           subst (Pushed b y) (some_inj this_object s e)
-          (record { op = THIS y; ops = ops_at code y (ThisNode place) there; pushes = pushes_this y })
-      on_node (Some (SimpleName place name)) there e = by_meaning place name there (meaning p y name) refl e
+          (record { op = THIS y; ops = ops_at code y (ThisNode position) there; pushes = pushes_this y })
+      on_node (Some (SimpleName position name)) there e = by_meaning position name there (meaning p y name) refl e
       on_node (Some _) there e = absurd (cc (e))
 
   -- ---- a condition that asks
@@ -130,12 +130,12 @@ module _ (forest : Forest) (accepted : IsAccepted forest) (whole : IsForest fore
   asking_of x y = record { first = x; second = y }
 
   pub record AskedCall (condition : ℕ) (guard : Guard) : Type 0 where
-    pub place : Pos
+    pub position : Pos
     pub name : List ℕ
     pub object : Option ℕ
     pub a : ℕ
     pub b : ℕ
-    pub there : slice_get forest.nodes condition ≡ Some (Call place name object (a ∷ b ∷ []))
+    pub there : slice_get forest.nodes condition ≡ Some (Call position name object (a ∷ b ∷ []))
     pub called : called_builtin p (type_at_node p) condition object name ≡ Some managed_memory_alloc_in_same
     pub first : subject_at p a ≡ Some guard.first
     pub second : subject_at p b ≡ Some guard.second
@@ -162,17 +162,17 @@ module _ (forest : Forest) (accepted : IsAccepted forest) (whole : IsForest fore
       called_is None e = absurd (true≢false (sym e))
       called_is (Some n) e = ap (λ n. Some n) (same_number n managed_memory_alloc_in_same e)
 
-      by_test : (place : Pos) (name : List ℕ) (object : Option ℕ) (a b : ℕ) →
-          slice_get forest.nodes condition ≡ Some (Call place name object (a ∷ b ∷ [])) → (t : Bool) →
+      by_test : (position : Pos) (name : List ℕ) (object : Option ℕ) (a b : ℕ) →
+          slice_get forest.nodes condition ≡ Some (Call position name object (a ∷ b ∷ [])) → (t : Bool) →
           test (called_builtin p (type_at_node p) condition object name) ≡ t →
           (if t then option_and_then
           (λ x. option_map {U = Guard} (λ y. asking_of x y) (subject_at p b)) (subject_at p a)
           else None) ≡ Some guard → AskedCall condition guard
-      by_test place name object a b there false t e = absurd (cc (e))
-      by_test place name object a b there true t e =
+      by_test position name object a b there false t e = absurd (cc (e))
+      by_test position name object a b there true t e =
           let s = both (subject_at p a) (subject_at p b) e in
           record {
-            place = place;
+            position = position;
             name = name;
             object = object;
             a = a;
@@ -186,12 +186,12 @@ module _ (forest : Forest) (accepted : IsAccepted forest) (whole : IsForest fore
       on_node : (o : Option Node) → slice_get forest.nodes condition ≡ o →
           option_and_then (asked_by p (type_at_node p) condition) o ≡ Some guard → AskedCall condition guard
       on_node None there e = absurd (cc (e))
-      on_node (Some (Call place name object (a ∷ b ∷ []))) there e =
-          by_test place name object a b there
+      on_node (Some (Call position name object (a ∷ b ∷ []))) there e =
+          by_test position name object a b there
           (test (called_builtin p (type_at_node p) condition object name)) refl e
-      on_node (Some (Call place name object [])) there e = absurd (cc (e))
-      on_node (Some (Call place name object (a ∷ []))) there e = absurd (cc (e))
-      on_node (Some (Call place name object (a ∷ b ∷ d ∷ rest))) there e = absurd (cc (e))
+      on_node (Some (Call position name object [])) there e = absurd (cc (e))
+      on_node (Some (Call position name object (a ∷ []))) there e = absurd (cc (e))
+      on_node (Some (Call position name object (a ∷ b ∷ d ∷ rest))) there e = absurd (cc (e))
       on_node (Some _) there e = absurd (cc (e))
 
   -- the call is bound to the method of the framework
@@ -221,17 +221,17 @@ module _ (forest : Forest) (accepted : IsAccepted forest) (whole : IsForest fore
       go None is e = absurd (cc (e))
       go (Some r) is e = by_method r is (called_method p r name) refl e
 
-  asked_ops : (condition a b : ℕ) (place : Pos) (name : List ℕ) (object : Option ℕ) →
-      slice_get forest.nodes condition ≡ Some (Call place name object (a ∷ b ∷ [])) →
+  asked_ops : (condition a b : ℕ) (position : Pos) (name : List ℕ) (object : Option ℕ) →
+      slice_get forest.nodes condition ≡ Some (Call position name object (a ∷ b ∷ [])) →
       called_builtin p (type_at_node p) condition object name ≡ Some managed_memory_alloc_in_same →
       ops_of code condition
       ≡ (below [] condition (ops_of code) a ++ (below [] condition (ops_of code) b ++ [])) ++ SAME condition ∷ []
   unfolding node_ops call_ops builtin_ops target declarations_of
-  asked_ops condition a b place name object there called =
+  asked_ops condition a b position name object there called =
       let k = builtin_called condition name object called in
-      ops_at code condition (Call place name object (a ∷ b ∷ [])) there
+      ops_at code condition (Call position name object (a ∷ b ∷ [])) there
       ∙ ap (call_ops (below [] condition (ops_of code)) condition object (a ∷ b ∷ []))
-      (builtin_bound forest accepted whole sorted is_read condition managed_memory_alloc_in_same place name object
+      (builtin_bound forest accepted whole sorted is_read condition managed_memory_alloc_in_same position name object
       (a ∷ b ∷ []) k.f k.r there k.is_receiver k.is_method k.is_builtin)
 
   -- ---- the condition of an `if` that is a guard
@@ -261,11 +261,11 @@ module _ (forest : Forest) (accepted : IsAccepted forest) (whole : IsForest fore
     pub ops : ops_of code condition ≡ first ∷ (second ∷ (SAME condition ∷ []))
     pub asks : AsksGuard code (Written b) x first second
 
-  pub asked_guard : (x condition part : ℕ) (place : Pos) (other : Option ℕ) (guard : Guard) →
-      slice_get forest.nodes x ≡ Some (If place condition part other) → guard_of code x ≡ Some guard →
+  pub asked_guard : (x condition part : ℕ) (position : Pos) (other : Option ℕ) (guard : Guard) →
+      slice_get forest.nodes x ≡ Some (If position condition part other) → guard_of code x ≡ Some guard →
       AskedCall condition guard
   unfolding guard_at condition_of declarations_of
-  asked_guard x condition part place other guard there e =
+  asked_guard x condition part position other guard there e =
       asked_call condition guard
       (sym (ap (λ (o : Option Node). option_and_then (λ condition.
       option_and_then (asked_by p (type_at_node p) condition) (slice_get forest.nodes condition))
@@ -280,13 +280,13 @@ module _ (forest : Forest) (accepted : IsAccepted forest) (whole : IsForest fore
       asked None e = absurd (cc (e))
       asked (Some g) e = kept (is_undone p x g) g e
 
-  pub guard_asks : (b c x condition part : ℕ) (place : Pos) (other : Option ℕ) (guard : Guard) →
-      slice_get forest.nodes x ≡ Some (If place condition part other) → Inside p b c condition →
+  pub guard_asks : (b c x condition part : ℕ) (position : Pos) (other : Option ℕ) (guard : Guard) →
+      slice_get forest.nodes x ≡ Some (If position condition part other) → Inside p b c condition →
       guard_of code x ≡ Some guard → Asking b x condition
   unfolding children is_inner HasRightChildren declarations_of
-  guard_asks b c x condition part place other guard there inside is =
-      let q = asked_guard x condition part place other guard there is in
-      let node : Node = Call q.place q.name q.object (q.a ∷ q.b ∷ []) in
+  guard_asks b c x condition part position other guard there inside is =
+      let q = asked_guard x condition part position other guard there is in
+      let node : Node = Call q.position q.name q.object (q.a ∷ q.b ∷ []) in
       let arguments : List ℕ = q.a ∷ q.b ∷ [] in
       let among_first : is_among q.a (children node) ≡ true =
       among-behind q.a (optional q.object) arguments (same_first forest accepted whole sorted q.a (q.b ∷ [])) in
@@ -301,7 +301,7 @@ module _ (forest : Forest) (accepted : IsAccepted forest) (whole : IsForest fore
         first = first.op;
         second = second.op;
         ops =
-            asked_ops condition q.a q.b q.place q.name q.object q.there q.called
+            asked_ops condition q.a q.b q.position q.name q.object q.there q.called
             ∙ (ap (λ xs. (xs ++ (below [] condition (ops_of code) q.b ++ [])) ++ SAME condition ∷ []) first.ops
             ∙ ap (λ xs. (first.op ∷ (xs ++ [])) ++ SAME condition ∷ []) second.ops);
         asks = record { guard = guard; is = is; first_is = first.pushes; second_is = second.pushes };

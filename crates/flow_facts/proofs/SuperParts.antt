@@ -60,10 +60,10 @@ some_there : {A : Type 0} (o : Option A) → is_some o ≡ true → (x : A) × (
 some_there None e = absurd (true≢false (sym e))
 some_there (Some x) e = (x, refl)
 
-class_no_other : (place : Pos) (name : List ℕ) (flags header : Option ℕ) (members : List ℕ) →
-    is_no_class (Class place name flags header members) ≡ false
+class_no_other : (position : Pos) (name : List ℕ) (flags header : Option ℕ) (members : List ℕ) →
+    is_no_class (Class position name flags header members) ≡ false
 unfolding is_no_class
-class_no_other place name flags header members = refl
+class_no_other position name flags header members = refl
 
 module _ (forest : Forest) (accepted : IsAccepted forest) (whole : IsForest forest) (sorted : IsWellSorted forest.nodes)
     (is_read : IsReadFromTexts forest) where
@@ -125,25 +125,25 @@ module _ (forest : Forest) (accepted : IsAccepted forest) (whole : IsForest fore
     fits : misfits_class p c ≡ false
     form : lacks_form p c ≡ false
 
-  class_breaks_none : (k : ℕ) (place : Pos) (name : List ℕ) (flags header : Option ℕ) (members : List ℕ) →
-      type_breaks p (type_at_node p) k (Class place name flags header members) ≡ [] →
+  class_breaks_none : (k : ℕ) (position : Pos) (name : List ℕ) (flags header : Option ℕ) (members : List ℕ) →
+      type_breaks p (type_at_node p) k (Class position name flags header members) ≡ [] →
       (holds (class_number p.names name) (misfits_class p) ≡ false) ×
       (holds (class_number p.names name) (lacks_form p) ≡ false)
   unfolding type_breaks t1 t2 t3 t4 t5 t6 t7 t8 t9 t10 t11 t12 t13 t14
-  class_breaks_none k place name flags header members e =
-      let both = both_empty (broken (holds (class_number p.names name) (misfits_class p)) T6 place)
-      (broken (holds (class_number p.names name) (lacks_form p)) T14 place) e in (
-        right (holds (class_number p.names name) (misfits_class p)) T6 place both.0,
-        right (holds (class_number p.names name) (lacks_form p)) T14 place both.1,
+  class_breaks_none k position name flags header members e =
+      let both = both_empty (broken (holds (class_number p.names name) (misfits_class p)) T6 position)
+      (broken (holds (class_number p.names name) (lacks_form p)) T14 position) e in (
+        right (holds (class_number p.names name) (misfits_class p)) T6 position both.0,
+        right (holds (class_number p.names name) (lacks_form p)) T14 position both.1,
       )
 
   class_rules : (c k : ℕ) → At c k → ClassRules c
   class_rules c k a =
       let n = a.user.node in
       let name = name_denotes forest whole accepted sorted c a.row a.class a.is_row a.written in
-      let e = class_breaks_none a.class.node n.place a.class.name n.flags n.header a.class.members
+      let e = class_breaks_none a.class.node n.position a.class.name n.flags n.header a.class.members
       (unbroken forest accepted whole sorted a.class.node
-      (Class n.place a.class.name n.flags n.header a.class.members) n.is_there) in
+      (Class n.position a.class.name n.flags n.header a.class.members) n.is_there) in
       record {
         fits = sym (ap (λ (o : Option ℕ). holds o (misfits_class p)) name)
             ∙ e.0;
@@ -197,7 +197,7 @@ module _ (forest : Forest) (accepted : IsAccepted forest) (whole : IsForest fore
       let n = a.user.node in
       let name = name_denotes forest whole accepted sorted c a.row a.class a.is_row a.written in
       ap (binding_at_node p) (sym a.node) ∙ binding_is forest accepted whole sorted a.class.node
-      (Class n.place a.class.name n.flags n.header a.class.members) n.is_there
+      (Class n.position a.class.name n.flags n.header a.class.members) n.is_there
       ∙ ap (λ (o : Option ℕ). class_binding (option_and_then (superclass_in p.classes) o)) name ∙ ap class_binding up
 
   no_count : (c k : ℕ) → At c k → super_count code k ≡ 0
@@ -230,8 +230,8 @@ module _ (forest : Forest) (accepted : IsAccepted forest) (whole : IsForest fore
           (let n = a.user.node in ap (λ k. (context p k).last) (sym a.node)
           ∙ ap (λ (c : Context). c.last)
           (class_outermost forest whole sorted a.class.node
-          (Class n.place a.class.name n.flags n.header a.class.members) n.is_there
-          (class_no_other n.place a.class.name n.flags n.header a.class.members)))
+          (Class n.position a.class.name n.flags n.header a.class.members) n.is_there
+          (class_no_other n.position a.class.name n.flags n.header a.class.members)))
 
       user_part : is_user_class s.superclass ≡ true → SuperCallFact code b c sig k [] s.superclass
       user_part user =

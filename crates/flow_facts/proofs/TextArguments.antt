@@ -9,9 +9,9 @@ use Rattle.accepted_laws.proofs.Tools.{some_inj}
 
 -- an argument is an expression, or a text
 pub text_or_expression : (n : Node) → is_argument n ≡ true →
-    (is_expression n ≡ true) ⊎ ((place : Pos) × (text : List ℕ) × (n ≡ Text place text))
+    (is_expression n ≡ true) ⊎ ((position : Pos) × (text : List ℕ) × (n ≡ Text position text))
 unfolding is_argument is_expression
-text_or_expression (Text place text) e = inr (place, text, refl)
+text_or_expression (Text position text) e = inr (position, text, refl)
 text_or_expression (Binary a b c d) e = inl refl
 text_or_expression (Unary a b c) e = inl refl
 text_or_expression (Cast a b c d) e = inl refl

@@ -56,30 +56,30 @@ module _ (forest : Forest) (accepted : IsAccepted forest) (whole : IsForest fore
   Member b c = MemberAt forest accepted whole sorted b c
 
   call_node : (call : ℕ) (node : Node) → slice_get nodes call ≡ Some node → is_super_call node ≡ true →
-      (place : Pos) × (arguments : List ℕ) × (slice_get nodes call ≡ Some (SuperCall place arguments))
+      (position : Pos) × (arguments : List ℕ) × (slice_get nodes call ≡ Some (SuperCall position arguments))
   unfolding is_super_call
-  call_node call (SuperCall place arguments) there e = (place, arguments, there)
+  call_node call (SuperCall position arguments) there e = (position, arguments, there)
   call_node call _ there e = absurd (true≢false (sym e))
 
   -- the constructor of the class, with its super call
-  written_constructor : (b c call : ℕ) (place place2 : Pos) (name arguments : List ℕ) (flags parameters : Option ℕ)
-      (body : ℕ) → slice_get nodes b ≡ Some (Constructor place name flags parameters (Some call) body) →
+  written_constructor : (b c call : ℕ) (position place2 : Pos) (name arguments : List ℕ) (flags parameters : Option ℕ)
+      (body : ℕ) → slice_get nodes b ≡ Some (Constructor position name flags parameters (Some call) body) →
       slice_get nodes call ≡ Some (SuperCall place2 arguments) → Member b c → (context p b).class ≡ Some c
       → (con : DeclaredConstructor) × (constructor_in p.classes c ≡ Some con) × (con.super_call ≡ Some arguments)
   unfolding constructor_of super_arguments declarations_of
-  written_constructor b c call place place2 name arguments flags parameters body there at m class = (
+  written_constructor b c call position place2 name arguments flags parameters body there at m class = (
     _,
     one_constructor forest accepted whole sorted b c _ (ap (option_and_then (constructor_of nodes b)) there) m
         class,
     ap (option_and_then super_arguments) at,
   )
 
-  module _ (b c call : ℕ) (sig : Signature) (place place2 : Pos) (name arguments : List ℕ) (flags parameters : Option ℕ)
-      (body : ℕ) (there : slice_get nodes b ≡ Some (Constructor place name flags parameters (Some call) body))
+  module _ (b c call : ℕ) (sig : Signature) (position place2 : Pos) (name arguments : List ℕ) (flags parameters : Option ℕ)
+      (body : ℕ) (there : slice_get nodes b ≡ Some (Constructor position name flags parameters (Some call) body))
       (at : slice_get nodes call ≡ Some (SuperCall place2 arguments))
       (m : Member b c) (class : (context p b).class ≡ Some c) (home : this_in p c ≡ Some sig.runs_in) where
     abbrev node : Node
-    node = Constructor place name flags parameters (Some call) body
+    node = Constructor position name flags parameters (Some call) body
 
     among : is_among call (children node) ≡ true
     unfolding children
@@ -128,14 +128,14 @@ module _ (forest : Forest) (accepted : IsAccepted forest) (whole : IsForest fore
     form_part_of form =
         let parts = form_there forest accepted whole sorted is_read c m.k s.superclass m.at s.up form in
         let f = form_of forest whole accepted c parts.0 parts.1 in
-        let con = written_constructor b c call place place2 name arguments flags parameters body there at m class in
+        let con = written_constructor b c call position place2 name arguments flags parameters body there at m class in
         let one : f.constructor ≡ con.0 = some_inj f.constructor con.0 (sym f.is_constructor ∙ con.1) in
         let same : f.arguments ≡ arguments =
         some_inj f.arguments arguments (sym f.are_arguments ∙ ap (λ (c : DeclaredConstructor). c.super_call) one
         ∙ con.2) in
         let up : f.superclass ≡ s.superclass = some_inj f.superclass s.superclass (sym f.is_superclass ∙ s.up) in
         form_fact forest accepted whole sorted b c call s.superclass arguments parts.0 s.within s.up form
-        (record { place = place2; is_there = at; inside = inside; form = parts.1 })
+        (record { position = place2; is_there = at; inside = inside; form = parts.1 })
         (ap (λ n. form_parts p n arguments) (sym up) ∙ ap (form_parts p f.superclass) (sym same) ∙ f.parts_are)
 
     pub written_super_fact : WrittenSuperFact code b c sig call
@@ -143,7 +143,7 @@ module _ (forest : Forest) (accepted : IsAccepted forest) (whole : IsForest fore
     written_super_fact =
         record {
           smaller = child-less forest whole b call node there among;
-          place = place2;
+          position = place2;
           arguments = arguments;
           is_there = at;
           are_smaller =
@@ -160,11 +160,11 @@ module _ (forest : Forest) (accepted : IsAccepted forest) (whole : IsForest fore
               };
         }
 
-  pub super_fact_at : (b c call : ℕ) (sig : Signature) (place : Pos) (name : List ℕ) (flags parameters : Option ℕ)
-      (body : ℕ) → slice_get nodes b ≡ Some (Constructor place name flags parameters (Some call) body) → Member b c →
+  pub super_fact_at : (b c call : ℕ) (sig : Signature) (position : Pos) (name : List ℕ) (flags parameters : Option ℕ)
+      (body : ℕ) → slice_get nodes b ≡ Some (Constructor position name flags parameters (Some call) body) → Member b c →
       (context p b).class ≡ Some c → this_in p c ≡ Some sig.runs_in → WrittenSuperFact code b c sig call
   unfolding HasRightChildren
-  super_fact_at b c call sig place name flags parameters body there m class home =
-      let o = (sorted.each b (Constructor place name flags parameters (Some call) body) there).2 in
+  super_fact_at b c call sig position name flags parameters body there m class home =
+      let o = (sorted.each b (Constructor position name flags parameters (Some call) body) there).2 in
       let n = call_node call o.node o.is_there o.passes in
-      written_super_fact b c call sig place n.0 name n.1 flags parameters body there n.2 m class home
+      written_super_fact b c call sig position n.0 name n.1 flags parameters body there n.2 m class home

@@ -97,8 +97,8 @@ OptionStatement code None d = Unit {0}
 OptionStatement code (Some x) d = Statement code x d
 
 abbrev pub LoopParts : Code → Node → ℕ → Type 0
-LoopParts code (While place condition body) d = Statement code body d × Value code condition d
-LoopParts code (For place first condition step body) d =
+LoopParts code (While position condition body) d = Statement code body d × Value code condition d
+LoopParts code (For position first condition step body) d =
     Statement code body d × Statement code step d × Value code condition d
 LoopParts code _ d = Unit {0}
 

@@ -71,11 +71,11 @@ super_front N M (Some id) body h = (ap (λ (n : ℕ). 1 + n) (height_front N M i
 body_front : (N M : List Node) (node : Node) → AllBelow (length N) (children node) →
     body_height (N ++ M) node ≡ body_height N node
 unfolding body_height children AllBelow
-body_front N M (Method place name flags result_type parameters None) h = refl
-body_front N M (Method place name flags result_type parameters (Some body)) h =
+body_front N M (Method position name flags result_type parameters None) h = refl
+body_front N M (Method position name flags result_type parameters (Some body)) h =
     let behind = below-right (length N) (optional flags) (result_type ∷ (optional parameters ++ body ∷ [])) h in
     height_front N M body (below-right (length N) (optional parameters) (body ∷ []) behind.1).0
-body_front N M (Constructor place name flags parameters super_call body) h =
+body_front N M (Constructor position name flags parameters super_call body) h =
     let parts = optional super_call ++ body ∷ [] in
     let behind = below-right (length N) (optional flags) (optional parameters ++ parts) h in
     let b = super_front N M super_call body (below-right (length N) (optional parameters) parts behind) in
@@ -110,9 +110,9 @@ low_here : (n : ℕ) (nodes : List Node) (id : ℕ) (node : Node) → too_deep n
     slice_get nodes id ≡ Some node → body_height nodes node ≤ 64
 unfolding too_deep
 low_here n nodes id node e l there =
-    let place : n + (id - n) ≡ id = omega (arith, l) in
+    let index : n + (id - n) ≡ id = omega (arith, l) in
     deep_none nodes (drop n nodes) (id - n) node e
-    (get_drop n nodes (id - n) ∙ ap (slice_get nodes) place ∙ there)
+    (get_drop n nodes (id - n) ∙ ap (slice_get nodes) index ∙ there)
 
 -- ---- files are read one behind the other
 

@@ -53,17 +53,17 @@ module _ (code : Code) (at : Place code) (o : Option Kind) where
   receiver_brings None class scope r z h = brings_op code (THIS id) d (alone code at d 0 (omega arith) z) tt
   receiver_brings (Some x) class scope r z h = value code at x _ h d (with_more code at d (H x) (omega arith) r.0)
 
-  pub call_brings : (place : Pos) (name : List ℕ) (object : Option ℕ) (xs : List ℕ) →
-      slice_get code.program.nodes id ≡ Some (Call place name object xs) → AllRoomy code at (optional object) →
+  pub call_brings : (position : Pos) (name : List ℕ) (object : Option ℕ) (xs : List ℕ) →
+      slice_get code.program.nodes id ≡ Some (Call position name object xs) → AllRoomy code at (optional object) →
       AllRoomy code at xs → Roomy code at 0 → length xs ≤ 8 → CallFact code b c sig id object xs o →
       B (call_ops sub id object xs (binding code id)) d (with_kind o d)
   unfolding call_ops after argument_count
-  call_brings place name object xs there q r z few f =
+  call_brings position name object xs there q r z few f =
       subst (λ (y : Binding). Brings code (call_ops sub id object xs y) d (with_kind o d)) (sym f.is)
       (subst (λ e. Brings code (receiver_ops sub id object ++ (flat_map sub xs ++ CALL id ∷ [])) d e)
       (ap (λ g. with_result g (fewer (dropped (super_count code id) (more (length xs) (suc d))))) f.is_left
       ∙ ap (λ n. with_result (is_some o) (fewer (dropped n (more (length xs) (suc d)))))
-      (counted code at (Call place name object xs) (length xs) there refl)
+      (counted code at (Call position name object xs) (length xs) there refl)
       ∙ ap (λ n. with_result (is_some o) (fewer n)) (dropped_more (length xs) (suc d)))
       (brings_then code (receiver_ops sub id object) (flat_map sub xs ++ CALL id ∷ []) d (suc d)
       (after code (CALL id) (more (length xs) (suc d)))
@@ -72,17 +72,17 @@ module _ (code : Code) (at : Place code) (o : Option Kind) where
       (arguments code at xs f.kinds f.arguments_are r (suc d) (omega (arith, few)))
       (alone code at (more (length xs) (suc d)) 0 (omega (arith, few, more_is (length xs) (suc d))) z) tt)))
 
-  pub static_brings : (place : Pos) (name : List ℕ) (object : Option ℕ) (xs : List ℕ) →
-      slice_get code.program.nodes id ≡ Some (Call place name object xs) → AllRoomy code at xs → Roomy code at 0 →
+  pub static_brings : (position : Pos) (name : List ℕ) (object : Option ℕ) (xs : List ℕ) →
+      slice_get code.program.nodes id ≡ Some (Call position name object xs) → AllRoomy code at xs → Roomy code at 0 →
       length xs ≤ 8 → StaticCallFact code b c sig id xs o →
       B (call_ops sub id object xs (binding code id)) d (with_kind o d)
   unfolding call_ops after argument_count
-  static_brings place name object xs there r z few f =
+  static_brings position name object xs there r z few f =
       subst (λ (y : Binding). Brings code (call_ops sub id object xs y) d (with_kind o d)) (sym f.is)
       (subst (λ e. Brings code (flat_map sub xs ++ CALLSTATIC id ∷ []) d e)
       (ap (λ g. with_result g (dropped (super_count code id) (more (length xs) d))) f.is_left
       ∙ ap (λ n. with_result (is_some o) (dropped n (more (length xs) d)))
-      (counted code at (Call place name object xs) (length xs) there refl)
+      (counted code at (Call position name object xs) (length xs) there refl)
       ∙ ap (λ n. with_result (is_some o) n) (dropped_more (length xs) d))
       (behind code (flat_map sub xs) (CALLSTATIC id) d (more (length xs) d)
       (arguments code at xs f.kinds f.arguments_are r d (omega (arith, few)))
@@ -117,13 +117,13 @@ module _ (code : Code) (at : Place code) (o : Option Kind) where
       (behind code (receiver_ops sub id object) op d (suc d)
       (receiver_brings object f.class f.scope q z f.receiver_is) (alone code at (suc d) 0 (omega arith) z) a))
 
-  pub of_print : (label x : ℕ) (place : Pos) (text : List ℕ) → label < id →
-      slice_get code.program.nodes label ≡ Some (Text place text) → AllRoomy code at (label ∷ x ∷ []) →
+  pub of_print : (label x : ℕ) (position : Pos) (text : List ℕ) → label < id →
+      slice_get code.program.nodes label ≡ Some (Text position text) → AllRoomy code at (label ∷ x ∷ []) →
       HasValue code.program b c id x (Some number) → B (flat_map sub (label ∷ x ∷ []) ++ PRINT id ∷ []) d d
   unfolding after
-  of_print label x place text l there r h =
+  of_print label x position text l there r h =
       behind code (flat_map sub (label ∷ x ∷ [])) (PRINT id) d (suc d)
-      (subst (λ ys. Brings code (ys ++ (sub x ++ [])) d (suc d)) (sym (at.hyp.texts label l place text there))
+      (subst (λ ys. Brings code (ys ++ (sub x ++ [])) d (suc d)) (sym (at.hyp.texts label l position text there))
       (arguments code at (x ∷ []) (number ∷ []) (h, tt) r.1 d (omega arith)))
       (alone code at (suc d) (H x) (omega arith) r.1.0) tt
 
@@ -139,7 +139,7 @@ module _ (code : Code) (at : Place code) (o : Option Kind) where
       subst (λ k. Framed object xs k) (sym f.is_method)
       (subst (λ ys. Framed object ys managed_memory_execute_in_area_of) (sym f.are)
       (done_void code at _ o f.is_given
-      (of_two f.place f.object _ _ (EXECUTEIN id) (subst (AllRoomy code at) f.are r) f.place_is f.object_is tt)))
+      (of_two f.position f.object _ _ (EXECUTEIN id) (subst (AllRoomy code at) f.are r) f.place_is f.object_is tt)))
   framed object xs m on q r z (inr (inr (inl f))) =
       subst (λ k. Framed object xs k) (sym f.is_method)
       (subst (λ ys. Framed object ys services_set_ceiling) (sym f.are)
@@ -149,7 +149,7 @@ module _ (code : Code) (at : Place code) (o : Option Kind) where
       subst (λ k. Framed object xs k) (sym f.is_method)
       (subst (λ ys. Framed object ys trace_print) (sym f.are)
       (done_void code at _ o f.is_given
-      (of_print f.label f.value f.place f.text f.is_smaller f.is_text (subst (AllRoomy code at) f.are r) f.value_is)))
+      (of_print f.label f.value f.position f.text f.is_smaller f.is_text (subst (AllRoomy code at) f.are r) f.value_is)))
   framed object xs m on q r z (inr (inr (inr (inr (inl f))))) =
       subst (λ k. Framed object xs k) (sym f.is_method)
       (subst (λ ys. Framed object ys device_read) (sym f.are)

@@ -63,7 +63,7 @@ module _ (code : Code) (G : Body → Bool → Type 0) where
   KeepsBody body (Prints h label value) = h.body ≡ body
   KeepsBody body (Makes h class slots) = h.body ≡ body
   KeepsBody body (Stores h r slot value) = h.body ≡ body
-  KeepsBody body (StoresStatic h place value) = h.body ≡ body
+  KeepsBody body (StoresStatic h position value) = h.body ≡ body
   KeepsBody body (SetsHidden h r values) = h.body ≡ body
   KeepsBody body (SetsCeiling h r ceiling) = h.body ≡ body
   KeepsBody body (Calls h g) = h.body ≡ body
@@ -76,9 +76,9 @@ module _ (code : Code) (G : Body → Bool → Type 0) where
   KeepsBody body Stuck = Unit {0}
 
   module _ (s : State) (held : Jobs Frames s) (job : Job) (activity : Activity) (body : Body) (below : List Frame)
-      (under : Under body below) (place : Pos) where
+      (under : Under body below) (position : Pos) where
     abbrev Kept : Effect → Type 0
-    Kept e = Lead Frames (applied code s job activity below place e)
+    Kept e = Lead Frames (applied code s job activity below position e)
 
     with_top : (m : State) → Jobs Frames m → (a : Activity) (k : Frame) → a.frames ≡ k ∷ below → k.body ≡ body →
         Explained code k → Jobs Frames (with_activity m job a)
@@ -90,8 +90,8 @@ module _ (code : Code) (G : Body → Bool → Type 0) where
         Jobs Frames (with_frame m job activity k below)
     goes_on m h k same x = with_top m h (record activity { frames = k ∷ below }) k refl same x
 
-    faulted : (fault : RunFault) → Jobs Frames (fault_in s job activity place fault).state
-    faulted fault = jobs_faulted Frames s job activity place fault held
+    faulted : (fault : RunFault) → Jobs Frames (fault_in s job activity position fault).state
+    faulted fault = jobs_faulted Frames s job activity position fault held
 
     made : (h : Frame) (class : ℕ) (values : List Value) → h.body ≡ body →
         ((r : ℕ) → Explained code (record h { operands = At r ∷ h.operands })) → Kept (Makes h class values)
@@ -101,7 +101,7 @@ module _ (code : Code) (G : Body → Bool → Type 0) where
         go : (t : Bool) → Lead Frames
             (Some (if t then silently (with_frame (with_object s class h.area values) job activity
             (record h { operands = At (length s.objects) ∷ h.operands }) below)
-            else fault_in s job activity place MemoryFull))
+            else fault_in s job activity position MemoryFull))
         go true =
             leads Frames _
             (goes_on (with_object s class h.area values) (jobs_still Frames s (with_object s class h.area values) refl refl held)
@@ -116,7 +116,7 @@ module _ (code : Code) (G : Body → Bool → Type 0) where
             (if t then Some
             (silently
             (with_frame (record s { objects = changed (with_ceiling ceiling) r s.objects }) job activity h below))
-            else Some (fault_in s job activity place NotInitializing))
+            else Some (fault_in s job activity position NotInitializing))
         go true =
             leads Frames _
             (goes_on (record s { objects = changed (with_ceiling ceiling) r s.objects })
@@ -132,7 +132,7 @@ module _ (code : Code) (G : Body → Bool → Type 0) where
     calls_on h g same w x = go (is_full (h ∷ below)) (ceiling_entered code s g)
       where
         by_ceiling : (ceiling : ℕ) (t : Bool) (events : List Event) → Jobs Frames
-            (if t then fault_in s job activity place CeilingViolation
+            (if t then fault_in s job activity position CeilingViolation
             else telling
             (with_activity s job (record activity {
               frames = record g { saved = Some activity.priority } ∷ (h ∷ below);
@@ -148,11 +148,11 @@ module _ (code : Code) (G : Body → Bool → Type 0) where
             (explained_with g _ refl refl refl x) w) held
 
         go : (t : Bool) (o : Option ℕ) → Lead Frames (Some
-            (if t then fault_in s job activity place DepthFull
+            (if t then fault_in s job activity position DepthFull
             else (elim o as (λ z. Step) [
               | None ↦ silently (with_activity s job (record activity { frames = g ∷ (h ∷ below) }))
               | Some ceiling ↦
-                  if nat_lt ceiling activity.priority then fault_in s job activity place CeilingViolation
+                  if nat_lt ceiling activity.priority then fault_in s job activity position CeilingViolation
                   else telling
                   (with_activity s job (record activity {
                     frames = record g { saved = Some activity.priority } ∷ (h ∷ below);
@@ -180,10 +180,10 @@ module _ (code : Code) (G : Body → Bool → Type 0) where
             }
 
         go : (t u v : Bool) → Lead Frames (Some
-            (if t then fault_in s job activity place ScopedCycle
-            else (if u then fault_in s job activity place DepthFull
+            (if t then fault_in s job activity position ScopedCycle
+            else (if u then fault_in s job activity position DepthFull
             else (if v then silently (with_activity (with_area s scope (Some g.area) bytes) job opened)
-            else fault_in s job activity place StoreFull))))
+            else fault_in s job activity position StoreFull))))
         go true u v = leads Frames _ (faulted ScopedCycle)
         go false true v = leads Frames _ (faulted DepthFull)
         go false false true =
@@ -251,9 +251,9 @@ module _ (code : Code) (G : Body → Bool → Type 0) where
         plain = goes_on s held h same x
 
         one : (b u v : Bool) (rows : List HandlerRow) (events : List Event) →
-            Jobs Frames (if b then fault_in s job activity place NotInitializing
+            Jobs Frames (if b then fault_in s job activity position NotInitializing
             else (if u then silently (with_frame s job activity h below)
-            else (if v then fault_in s job activity place TooManyHandlers
+            else (if v then fault_in s job activity position TooManyHandlers
             else telling (record (with_frame s job activity h below) { registry = rows }) events))).state
         one true u v rows events = faulted NotInitializing
         one false true v rows events = plain
@@ -263,7 +263,7 @@ module _ (code : Code) (G : Body → Bool → Type 0) where
             (record (with_frame s job activity h below) { registry = rows }) refl refl plain
 
         go : (o : Option Object) → Lead Frames
-            (option_map (λ (o : Object). registered code s job activity place r o (with_frame s job activity h below)) o)
+            (option_map (λ (o : Object). registered code s job activity position r o (with_frame s job activity h below)) o)
         go None = none_leads Frames
         go (Some o) =
             leads Frames _

@@ -53,7 +53,7 @@ module _ (forest : Forest) (a : IsAcceptedProgram forest) where
   few_parameters : (id : ℕ) (node : Node) → slice_get p.nodes id ≡ Some node → (m : DeclaredMethod) →
       method_of p.nodes id node ≡ Some m → length m.parameters ≤ 8
   unfolding method_of node_limits
-  few_parameters id (MethodNode place name flags result_type parameters body) there m e =
+  few_parameters id (MethodNode position name flags result_type parameters body) there m e =
       subst (λ (q : DeclaredMethod). length q.parameters ≤ 8) (some_inj _ m e)
       (k3_few parameters
       (both_empty (k2 p id) (k3 p parameters) (no_break_at_node forest a.is_accepted id _ there).no_limit).1)
@@ -78,14 +78,14 @@ module _ (forest : Forest) (a : IsAcceptedProgram forest) where
     where
       go : (n : Node) → slice_get p.nodes id ≡ Some n → may_run n ≡ true →
           length (parameters_at p.nodes (parameter_list n)) ≤ 8
-      go (MethodNode place name flags result_type parameters (Some body)) at r =
+      go (MethodNode position name flags result_type parameters (Some body)) at r =
           k3_few parameters
           (both_empty (k2 p id) (k3 p parameters) (no_break_at_node forest a.is_accepted id _ at).no_limit).1
-      go (MethodNode place name flags result_type parameters None) at r = absurd (cc (r))
-      go (Constructor place name flags parameters super_call body) at r =
+      go (MethodNode position name flags result_type parameters None) at r = absurd (cc (r))
+      go (Constructor position name flags parameters super_call body) at r =
           k3_few parameters
           (both_empty (k2 p id) (k3 p parameters) (no_break_at_node forest a.is_accepted id _ at).no_limit).1
-      go (Class place name flags header members) at r = omega arith
+      go (Class position name flags header members) at r = omega arith
       go _ at r = absurd (cc (r))
 
   few_taken : (body : Body) (c : ℕ) (sig : Signature) → Runs p body c sig → length sig.takes ≤ 8
@@ -136,13 +136,13 @@ module _ (forest : Forest) (a : IsAcceptedProgram forest) where
   few_of_node : (id : ℕ) (node : Node) → slice_get p.nodes id ≡ Some node → may_run node ≡ true →
       length (variables_of p id) ≤ 32
   unfolding node_limits may_run is_member
-  few_of_node id (MethodNode place name flags result_type parameters body) there r =
+  few_of_node id (MethodNode position name flags result_type parameters body) there r =
       k2_few id
       (both_empty (k2 p id) (k3 p parameters) (no_break_at_node forest a.is_accepted id _ there).no_limit).0
-  few_of_node id (Constructor place name flags parameters super_call body) there r =
+  few_of_node id (Constructor position name flags parameters super_call body) there r =
       k2_few id
       (both_empty (k2 p id) (k3 p parameters) (no_break_at_node forest a.is_accepted id _ there).no_limit).0
-  few_of_node id (Class place name flags header members) there r = none_in_class id _ there refl
+  few_of_node id (Class position name flags header members) there r = none_in_class id _ there refl
   few_of_node id _ there r = absurd (cc (r))
 
   pub few_variables : (body : Body) (c : ℕ) (sig : Signature) → Runs p body c sig → length (variables_in p body) ≤ 32
@@ -152,19 +152,19 @@ module _ (forest : Forest) (a : IsAcceptedProgram forest) where
 
   -- ---- calls
 
-  few_passed : (b c : ℕ) (sig : Signature) (id : ℕ) (place : Pos) (name : List ℕ) (object : Option ℕ)
+  few_passed : (b c : ℕ) (sig : Signature) (id : ℕ) (position : Pos) (name : List ℕ) (object : Option ℕ)
       (arguments : List ℕ) (gives : Option Kind) → IsBody p b c sig → Inside p b c id →
-      slice_get forest.nodes id ≡ Some (Call place name object arguments) → Judged p id gives →
+      slice_get forest.nodes id ≡ Some (Call position name object arguments) → Judged p id gives →
       CallFact (code_of forest) b c sig id object arguments gives → length arguments ≤ 8
-  few_passed b c sig id place name object arguments gives body inside there judged fact =
+  few_passed b c sig id position name object arguments gives body inside there judged fact =
       by_method v.method.method.builtin refl
     where
       v : Invoked forest a.is_accepted a.whole sorted a.is_read id name object
-      v = invoked forest a.is_accepted a.whole sorted a.is_read id place name object arguments gives there judged
+      v = invoked forest a.is_accepted a.whole sorted a.is_read id position name object arguments gives there judged
 
       of_user : length v.method.method.parameters ≤ 8 → length arguments ≤ 8
       of_user few =
-          let x = argument_facts forest a.is_accepted a.whole sorted b c id place name object arguments v.method there
+          let x = argument_facts forest a.is_accepted a.whole sorted b c id position name object arguments v.method there
           inside v.is in
           let typed = as_many_typed _ arguments x.types x.typed in
           let taken = as_many_taken p v.method.method.parameters x.types x.accepts in
@@ -173,18 +173,18 @@ module _ (forest : Forest) (a : IsAcceptedProgram forest) where
       by_static : v.method.method.builtin ≡ None → (t : Bool) → v.method.method.declared.modifiers.is_static ≡ t →
           length arguments ≤ 8
       by_static n false s =
-          let x = call_facts forest a.is_accepted a.whole sorted b c id place name object arguments v.method gives there
+          let x = call_facts forest a.is_accepted a.whole sorted b c id position name object arguments v.method gives there
           inside v.is n s judged in
           of_user (few_of_method v.method.method.declared.node v.method.method x.is_user.is_there)
       by_static n true s =
-          let x = static_call_fact forest a.is_accepted a.whole sorted a.is_read b c sig id place name object arguments
+          let x = static_call_fact forest a.is_accepted a.whole sorted a.is_read b c sig id position name object arguments
           gives body there inside v n s judged in
           absurd (let e = fact.is in let k = x.is in cc (e, k))
 
       by_method : (n : Option ℕ) → v.method.method.builtin ≡ n → length arguments ≤ 8
       by_method None n = by_static n v.method.method.declared.modifiers.is_static refl
       by_method (Some m) n =
-          let x = builtin_fact forest a.is_accepted a.whole sorted a.is_read b c sig id place name object arguments gives
+          let x = builtin_fact forest a.is_accepted a.whole sorted a.is_read b c sig id position name object arguments gives
           m body there inside v n judged in
           absurd (let e = fact.is in let k = x.is in cc (e, k))
 

@@ -24,9 +24,9 @@ use Rattle.frame_sizes.proofs.Statements.{statement_brings}
 
 module _ (code : Code) (b c : ℕ) (sig : Signature) (body : IsBody code.program b c sig) where
   module _ (facts : Facts code) (limits : Limits code) where
-    place : (id d : ℕ) → d + 9 * height code.program.nodes id ≤ most_operands →
+    position : (id d : ℕ) → d + 9 * height code.program.nodes id ≤ most_operands →
         Before code b c id (below [] id (ops_of code)) → Place code
-    place id d r h =
+    position id d r h =
         record {
           member = b;
           class = c;
@@ -46,10 +46,10 @@ module _ (code : Code) (b c : ℕ) (sig : Signature) (body : IsBody code.program
       statement : IsStatement code.program b c id → (d : ℕ) →
           d + 9 * height code.program.nodes id ≤ most_operands → Brings code (ops_of code id) d d
 
-    text_ops : (id : ℕ) (place : Pos) (text : List ℕ) → slice_get code.program.nodes id ≡ Some (Text place text) →
+    text_ops : (id : ℕ) (position : Pos) (text : List ℕ) → slice_get code.program.nodes id ≡ Some (Text position text) →
         ops_of code id ≡ []
     unfolding node_ops
-    text_ops id place text there = ops_at code id (Text place text) there
+    text_ops id position text there = ops_at code id (Text position text) there
 
     all_before : (id : ℕ) (sub : ℕ → List Op) → ((x : ℕ) → x < id → sub x ≡ ops_of code x) →
         ((x : ℕ) → x < id → Both x) → Before code b c id sub
@@ -58,20 +58,20 @@ module _ (code : Code) (b c : ℕ) (sig : Signature) (body : IsBody code.program
           values = λ x l o i j d r.
               subst (λ xs. Brings code xs d (with_kind o d)) (sym (same x l)) ((h x l).value o i j d r);
           statements = λ x l i d r. subst (λ xs. Brings code xs d d) (sym (same x l)) ((h x l).statement i d r);
-          texts = λ x l place text e. same x l ∙ text_ops x place text e;
+          texts = λ x l position text e. same x l ∙ text_ops x position text e;
         }
 
     both_step : (id : ℕ) → ((x : ℕ) → x < id → Both x) → Both id
-    unfolding place
+    unfolding position
     both_step id h =
         record {
           value = λ o i j d r.
               subst (λ xs. Brings code xs d (with_kind o d)) (sym (ops_at code id i.here.0 i.here.1))
-              (node_brings code (place id d r here) o i.here.0 i.here.1 i j
+              (node_brings code (position id d r here) o i.here.0 i.here.1 i j
               (facts.expressions b c sig id i.here.0 o body i i.here.1 j));
           statement = λ m d r.
               subst (λ xs. Brings code xs d d) (sym (ops_at code id m.node m.is_there))
-              (statement_brings code (place id d r here) m.node m.is_there
+              (statement_brings code (position id d r here) m.node m.is_there
               (facts.statements b c sig id m.node body m m.is_there));
         }
       where

@@ -28,9 +28,9 @@ use Rattle.frame_sizes.proofs.Counts.{with_result, Value, Statement, Brings, bri
 pub record Limits (code : Code) : Type 0 where
   pub behind : BehindChildren code.program
   pub takes : (body : Body) (c : ℕ) (sig : Signature) → Runs code.program body c sig → length sig.takes ≤ 8
-  pub called : (b c : ℕ) (sig : Signature) (id : ℕ) (place : Pos) (name : List ℕ) (object : Option ℕ)
+  pub called : (b c : ℕ) (sig : Signature) (id : ℕ) (position : Pos) (name : List ℕ) (object : Option ℕ)
       (arguments : List ℕ) (gives : Option Kind) → IsBody code.program b c sig → Inside code.program b c id →
-      slice_get code.program.nodes id ≡ Some (Call place name object arguments) → Judged code.program id gives →
+      slice_get code.program.nodes id ≡ Some (Call position name object arguments) → Judged code.program id gives →
       CallFact code b c sig id object arguments gives → length arguments ≤ 8
   pub low : (b c : ℕ) (sig : Signature) (body : IsBody code.program b c sig) →
       body_height code.program.nodes body.node ≤ 64
@@ -58,8 +58,8 @@ pub record Before (code : Code) (b c : ℕ) (id : ℕ) (sub : ℕ → List Op) :
       (d : ℕ) → d + 9 * height code.program.nodes x ≤ most_operands → Brings code (sub x) d (with_kind o d)
   pub statements : (x : ℕ) → x < id → IsStatement code.program b c x → (d : ℕ) →
       d + 9 * height code.program.nodes x ≤ most_operands → Brings code (sub x) d d
-  pub texts : (x : ℕ) → x < id → (place : Pos) (text : List ℕ) →
-      slice_get code.program.nodes x ≡ Some (Text place text) → sub x ≡ []
+  pub texts : (x : ℕ) → x < id → (position : Pos) (text : List ℕ) →
+      slice_get code.program.nodes x ≡ Some (Text position text) → sub x ≡ []
 
 -- a node of a body, behind nodes that leave what they should, where so many operands are there
 pub record Place (code : Code) : Type 0 where

@@ -70,12 +70,12 @@ module _ (code : Code) (at : Place code) where
   assign_brings target x r (inl f) =
       subst (λ (n : Option Node). B (elim n as (λ z. List Op)
       [ None ↦ [] | Some node ↦ assign_ops sub id x (binding code target) node ]) d d) (sym f.is_there)
-      (subst (λ (y : Binding). B (assign_ops sub id x y (SimpleName f.place f.name)) d d) (sym f.is)
+      (subst (λ (y : Binding). B (assign_ops sub id x y (SimpleName f.position f.name)) d d) (sym f.is)
       (taken_bring x _ (STORE id) r.1.0 f.fits.value_is tt refl))
   assign_brings target x r (inr (inl f)) =
       subst (λ (n : Option Node). B (elim n as (λ z. List Op)
       [ None ↦ [] | Some node ↦ assign_ops sub id x (binding code target) node ]) d d) (sym f.is_there)
-      (subst (λ (y : Binding). B (assign_ops sub id x y (SimpleName f.place f.name)) d d) (sym f.is)
+      (subst (λ (y : Binding). B (assign_ops sub id x y (SimpleName f.position f.name)) d d) (sym f.is)
       (behind code (THIS id ∷ sub x) (PUT id) d (suc (suc d))
       (brings_then code (THIS id ∷ []) (sub x) d (suc d) (suc (suc d))
       (brings_op code (THIS id) d (alone code at d (H x) (omega arith) r.1.0) tt)
@@ -86,7 +86,7 @@ module _ (code : Code) (at : Place code) where
       (let e = height_at code.program at.limits.behind target _ f.is_there in omega (arith, e)) r.0 in
       subst (λ (n : Option Node). B (elim n as (λ z. List Op)
       [ None ↦ [] | Some node ↦ assign_ops sub id x (binding code target) node ]) d d) (sym f.is_there)
-      (subst (λ (y : Binding). B (assign_ops sub id x y (FieldAccess f.place f.name f.object)) d d) (sym f.is)
+      (subst (λ (y : Binding). B (assign_ops sub id x y (FieldAccess f.position f.name f.object)) d d) (sym f.is)
       (brings_then code (sub f.object) (sub x ++ PUT id ∷ []) d (suc d) d
       (value code at f.object _ f.object_is d (with_more code at d (H f.object) (omega arith) l))
       (behind code (sub x) (PUT id) (suc d) (suc (suc d))
@@ -103,7 +103,7 @@ module _ (code : Code) (at : Place code) where
       let m = less_roomy code at (H f.index) (H target) (omega (arith, e)) r.0 in
       subst (λ (n : Option Node). B (elim n as (λ z. List Op)
       [ None ↦ [] | Some node ↦ assign_ops sub id x (binding code target) node ]) d d) (sym f.is_there)
-      (subst (λ (y : Binding). B (assign_ops sub id x y (Element f.place f.array f.index)) d d) (sym f.is)
+      (subst (λ (y : Binding). B (assign_ops sub id x y (Element f.position f.array f.index)) d d) (sym f.is)
       (brings_then code (sub f.array) (sub f.index ++ (sub x ++ PUTELEM id ∷ [])) d (suc d) d
       (value code at f.array _ f.array_is d (with_more code at d (H f.array) (omega arith) l))
       (brings_then code (sub f.index) (sub x ++ PUTELEM id ∷ []) (suc d) (suc (suc d)) d
@@ -140,12 +140,12 @@ module _ (code : Code) (at : Place code) where
   pub statement_brings : (node : Node) → slice_get code.program.nodes id ≡ Some node →
       StatementFact code b c sig id node → B (node_ops code sub id node) d d
   unfolding node_ops StatementFact weight children highest after if_parts
-  statement_brings (Block place xs) there f =
+  statement_brings (Block position xs) there f =
       all_bring xs _ f (all_roomy code at xs (roomy code at (highest H xs) (height_at code.program at.limits.behind id _ there)))
-  statement_brings (EmptyStatement place) there f = brings_none code d
-  statement_brings (LocalNode place name flags declared_type) there f =
+  statement_brings (EmptyStatement position) there f = brings_none code d
+  statement_brings (LocalNode position name flags declared_type) there f =
       brings_op code (ZERO id) d (let l = at.room in omega (arith, l)) tt
-  statement_brings (LocalWithValue place name_place name flags declared_type x) there f =
+  statement_brings (LocalWithValue position name_place name flags declared_type x) there f =
       taken_bring x _ (STORE id)
       (local_roomy flags (height_at code.program at.limits.behind id _ there)) f.fits.value_is tt refl
     where
@@ -153,12 +153,12 @@ module _ (code : Code) (at : Place code) where
           Roomy code at (H x)
       local_roomy None e = (all_roomy code at (declared_type ∷ x ∷ []) (roomy code at _ e)).1.0
       local_roomy (Some y) e = (all_roomy code at (y ∷ declared_type ∷ x ∷ []) (roomy code at _ e)).1.1.0
-  statement_brings (Assign place target x) there f =
+  statement_brings (Assign position target x) there f =
       assign_brings target x
       (all_roomy code at (target ∷ x ∷ []) (roomy code at _ (height_at code.program at.limits.behind id _ there))) f
-  statement_brings (ExpressionStatement place x) there f =
+  statement_brings (ExpressionStatement position x) there f =
       invocation_brings x (one_roomy code at x (height_at code.program at.limits.behind id _ there)) f
-  statement_brings (If place condition then_part else_part) there f =
+  statement_brings (If position condition then_part else_part) there f =
       let r = all_roomy code at (condition ∷ then_part ∷ optional else_part)
       (roomy code at _ (height_at code.program at.limits.behind id _ there)) in
       taken_bring condition _ (IF id) r.0 f.condition_is
@@ -167,15 +167,15 @@ module _ (code : Code) (at : Place code) where
         statement_part code at then_part f.then_is.1 d (with_more code at d (H then_part) (omega arith) r.1.0),
         option_part else_part f.else_is r.1.1,
       )) refl
-  statement_brings (While place condition x) there f =
+  statement_brings (While position condition x) there f =
       let r = all_roomy code at (condition ∷ x ∷ []) (roomy code at _ (height_at code.program at.limits.behind id _ there)) in
       taken_bring condition _ (LOOP id) r.0 f.condition_is
       (λ node e. subst (λ (n : Node). LoopParts code n d)
-      (some_inj (While place condition x) node (sym there ∙ e)) (
+      (some_inj (While position condition x) node (sym there ∙ e)) (
         statement_part code at x f.body_is.1 d (with_more code at d (H x) (omega arith) r.1.0),
         value_part code at condition _ f.condition_is d (with_more code at d (H condition) (omega arith) r.0),
       )) refl
-  statement_brings (For place start condition step x) there f =
+  statement_brings (For position start condition step x) there f =
       let r = all_roomy code at (start ∷ condition ∷ step ∷ x ∷ [])
       (roomy code at _ (height_at code.program at.limits.behind id _ there)) in
       let again : Value code condition d =
@@ -195,12 +195,12 @@ module _ (code : Code) (at : Place code) where
       (at.hyp.values condition f.condition_smaller _ f.condition_inside f.condition_judged d
       (with_more code at d (H condition) (omega arith) r.1.0)) (alone code at (suc d) (H condition) (omega arith) r.1.0)
       (λ node e. subst (λ (n : Node). LoopParts code n d)
-      (some_inj (For place start condition step x) node (sym there ∙ e)) (
+      (some_inj (For position start condition step x) node (sym there ∙ e)) (
         statement_part code at x f.body_is.is d (with_more code at d (H x) (omega arith) r.1.1.1.0),
         statement_part code at step f.step_is.is d (with_more code at d (H step) (omega arith) r.1.1.0),
         again,
       )))
-  statement_brings (Return place o) there f =
+  statement_brings (Return position o) there f =
       go o (height_at code.program at.limits.behind id _ there) f
     where
       go : (o : Option ℕ) → H id ≡ 1 + highest H (optional o) → ReturnFact code.program b c sig id o →

@@ -175,12 +175,12 @@ module _ (code : Code) (G : Body → Bool → Type 0) (static : BodiesFit code) 
       ((n : Node) → slice_get code.program.nodes id ≡ Some n → LoopParts code n (fewer d)) →
       suc (fewer d) ≤ 640 → turn_ops code id node ≡ Some turn → Brings code turn (fewer d) (fewer d)
   unfolding turn_ops after
-  turn_brings id (While place condition body) turn d h a l e =
+  turn_brings id (While position condition body) turn d h a l e =
       subst (λ (xs : List Op). Brings code xs (fewer d) (fewer d)) (some_is _ turn e)
       (brings_then code (ops_of code body) (ops_of code condition ++ LOOP id ∷ []) (fewer d) (fewer d) (fewer d)
       (static.statements body (fewer d) h.0)
       (behind code (ops_of code condition) (LOOP id) (fewer d) (suc (fewer d)) (static.values condition (fewer d) h.1) l a))
-  turn_brings id (For place first condition step body) turn d h a l e =
+  turn_brings id (For position first condition step body) turn d h a l e =
       subst (λ (xs : List Op). Brings code xs (fewer d) (fewer d)) (some_is _ turn e)
       (brings_then code (ops_of code body) (ops_of code step ++ (ops_of code condition ++ LOOP id ∷ [])) (fewer d)
       (fewer d) (fewer d) (static.statements body (fewer d) h.0)

@@ -64,27 +64,27 @@ module _ (code : Code) (variables : (body : Body) (c : ℕ) (sig : Signature) �
 
   under_small : (base : List ℕ) (frames : List Frame) (given : Option Held) → FineUnder code w base frames given →
       (body : Body) (c : ℕ) (sig : Signature) → Runs code.program body c sig →
-      Under code (GivesSo code) body frames → (place : ℕ) (f : Frame) → slice_get frames place ≡ Some f → IsSmall f
-  under_small base [] given fine body c sig runs u place f e = absurd (cc (e))
+      Under code (GivesSo code) body frames → (index : ℕ) (f : Frame) → slice_get frames index ≡ Some f → IsSmall f
+  under_small base [] given fine body c sig runs u index f e = absurd (cc (e))
   under_small base (g ∷ gs) given fine body c sig runs u zero f e =
       let own = fine.0.ready.runs in
       subst IsSmall (some_inj g f e)
       (waiting_small g body c sig runs
       (few_locals g _ fine.0.ready.locals.long (variables g.body fine.0.class fine.0.sig own))
       (u.0.is fine.0.class fine.0.sig own))
-  under_small base (g ∷ gs) given fine body c sig runs u (suc place) f e =
-      under_small base gs _ fine.2 g.body fine.0.class fine.0.sig fine.0.ready.runs u.1 place f e
+  under_small base (g ∷ gs) given fine body c sig runs u (suc index) f e =
+      under_small base gs _ fine.2 g.body fine.0.class fine.0.sig fine.0.ready.runs u.1 index f e
 
   pub frames_small : (base : List ℕ) (frames : List Frame) → FramesFine code w base frames → All code frames →
-      (place : ℕ) (f : Frame) → slice_get frames place ≡ Some f → IsSmall f
-  frames_small base [] fine x place f e = absurd (cc (e))
+      (index : ℕ) (f : Frame) → slice_get frames index ≡ Some f → IsSmall f
+  frames_small base [] fine x index f e = absurd (cc (e))
   frames_small base (g ∷ gs) fine x zero f e =
       let own = fine.0.ready.runs in
       subst IsSmall (some_inj g f e)
       (counted_small g (few_locals g _ fine.0.ready.locals.long (variables g.body fine.0.class fine.0.sig own))
       (x.0.is fine.0.class fine.0.sig own))
-  frames_small base (g ∷ gs) fine x (suc place) f e =
-      under_small base gs _ fine.2 g.body fine.0.class fine.0.sig fine.0.ready.runs x.1 place f e
+  frames_small base (g ∷ gs) fine x (suc index) f e =
+      under_small base gs _ fine.2 g.body fine.0.class fine.0.sig fine.0.ready.runs x.1 index f e
 
 module _ (forest : Forest) (accepted : IsAcceptedProgram forest) (plan : Plan) where
   variables : (body : Body) (c : ℕ) (sig : Signature) → Runs (code_of forest).program body c sig →
@@ -94,14 +94,14 @@ module _ (forest : Forest) (accepted : IsAcceptedProgram forest) (plan : Plan) w
 
   pub small_in_any_order : (choices : List ℕ) (moment : Moment) (s : State) →
       Reached (code_of forest) plan (by_list choices) moment s → FramesAreSmall s
-  small_in_any_order choices moment s reached job activity place f is at =
+  small_in_any_order choices moment s reached job activity index f is at =
       let facts : HasFacts (code_of forest) = has_facts forest accepted in
       let static : BodiesFit (code_of forest) =
       bodies_fit (code_of forest) facts.bodies (limits_of forest accepted) in
       let i = invariant_of (code_of forest) facts static plan choices moment s reached in
       let held = all_explained (code_of forest) facts static plan choices moment s reached in
       frames_small (code_of forest) variables (world_of s) (areas_of i.base) activity.frames
-      (i.memories.jobs job activity is).frames (held.are job activity is) place f at
+      (i.memories.jobs job activity is).frames (held.are job activity is) index f at
 
   pub small_by_priority : (moment : Moment) (s : State) → Reached (code_of forest) plan by_priority moment s →
       FramesAreSmall s

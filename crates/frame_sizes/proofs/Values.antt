@@ -103,12 +103,12 @@ module _ (code : Code) (at : Place code) (o : Option Kind) where
       (value code at y k i (suc d) (with_more code at (suc d) (H y) (omega arith) r.1.0))
       (alone code at (suc (suc d)) (H y) (omega arith) r.1.0) a)
 
-  pub binary_brings : (place : Pos) (operator left right : ℕ) (j k : Kind) →
-      slice_get code.program.nodes id ≡ Some (Binary place operator left right) → AllRoomy code at (left ∷ right ∷ []) →
+  pub binary_brings : (position : Pos) (operator left right : ℕ) (j k : Kind) →
+      slice_get code.program.nodes id ≡ Some (Binary position operator left right) → AllRoomy code at (left ∷ right ∷ []) →
       HasValue code.program b c id left (Some j) → HasValue code.program b c id right (Some k) →
       B (binary_ops sub id operator left right) d (suc d)
   unfolding binary_ops after right_operand
-  binary_brings place operator left right j k there r h i =
+  binary_brings position operator left right j k there r h i =
       go (operator == sign_and_and) (operator == sign_or_or)
     where
       asks : (x : ℕ) → part code right_operand id ≡ Some x → Value code x d
@@ -124,15 +124,15 @@ module _ (code : Code) (at : Place code) (o : Option Kind) where
       go false true = one_brings left j (OR id) r.0 h asks
       go false false = two_brings left right j k (BIN id) r h i tt
 
-  pub new_brings : (place name_place : Pos) (name xs : List ℕ) (class : ℕ) (ks : List Kind) →
-      slice_get code.program.nodes id ≡ Some (New place name_place name xs) → AllRoomy code at xs → Roomy code at 0 →
+  pub new_brings : (position name_place : Pos) (name xs : List ℕ) (class : ℕ) (ks : List Kind) →
+      slice_get code.program.nodes id ≡ Some (New position name_place name xs) → AllRoomy code at xs → Roomy code at 0 →
       binding code id ≡ ClassNamed class → HaveValues code.program b c id xs ks → length xs ≤ 8 →
       B (new_ops sub id xs (binding code id)) d (suc d)
   unfolding new_ops after argument_count
-  new_brings place name_place name xs class ks there r z is h few =
+  new_brings position name_place name xs class ks there r z is h few =
       subst (λ (y : Binding). Brings code (new_ops sub id xs y) d (suc d)) (sym is)
       (subst (λ e. Brings code ((ALLOC id ∷ flat_map sub xs) ++ CONSTRUCT id ∷ []) d e)
-      (ap (λ n. dropped n (more (length xs) (suc d))) (counted code at (New place name_place name xs) (length xs) there refl)
+      (ap (λ n. dropped n (more (length xs) (suc d))) (counted code at (New position name_place name xs) (length xs) there refl)
       ∙ dropped_more (length xs) (suc d))
       (behind code (ALLOC id ∷ flat_map sub xs) (CONSTRUCT id) d (more (length xs) (suc d))
       (brings_then code (ALLOC id ∷ []) (flat_map sub xs) d (suc d) (more (length xs) (suc d))

@@ -14,5 +14,5 @@ pub record IsSmall (f : Frame) : Type 0 where
 -- each frame of each job
 abbrev pub FramesAreSmall : State → Type 0
 FramesAreSmall s =
-    (job : Job) (activity : Activity) (place : ℕ) (f : Frame) → activity_of s job ≡ Some activity →
-    slice_get activity.frames place ≡ Some f → IsSmall f
+    (job : Job) (activity : Activity) (index : ℕ) (f : Frame) → activity_of s job ≡ Some activity →
+    slice_get activity.frames index ≡ Some f → IsSmall f

@@ -351,8 +351,8 @@ module _ (m : Scene) where
   turn_is : (b id : ℕ) (node : Node) → AreLoopParts m.code.program b m.class m.known node →
       (turn : List Op) × (turn_ops m.code id node ≡ Some turn)
   unfolding turn_ops AreLoopParts
-  turn_is b id (While place condition body) parts = (_, refl)
-  turn_is b id (For place first condition step body) parts = (_, refl)
+  turn_is b id (While position condition body) parts = (_, refl)
+  turn_is b id (For position first condition step body) parts = (_, refl)
   turn_is b id _ parts = absurd parts
 
   module _ (id : ℕ)

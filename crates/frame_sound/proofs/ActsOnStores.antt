@@ -191,7 +191,7 @@ module _ (m : Scene) where
       let n = r.needed in
       let x = take m n.value r.out n.takes in
       given_fine m _ _ n.field n.is
-      (given_fine m _ _ n.has.place n.has.is
+      (given_fine m _ _ n.has.index n.has.is
       (pop_fine m m.frame.operands _ x.v x.rest x.is
       (record {
         is = (

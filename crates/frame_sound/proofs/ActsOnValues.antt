@@ -68,20 +68,20 @@ module _ (m : Scene) where
 
   literal_exact : (n : Node) (exact : Kind) → kind_of_literal n ≡ Some exact → ValueOf m (literal_value n) exact
   unfolding literal_value kind_of_literal held
-  literal_exact (Number place value negative) exact e = of_number (if negative then neg_ℤ (pos value) else pos value)
+  literal_exact (Number position value negative) exact e = of_number (if negative then neg_ℤ (pos value) else pos value)
     where
       of_number : (z : ℤ) → ValueOf m (Some (Int z)) exact
       of_number z =
           record { value = Int z; is = refl; has = subst (λ k. Holds m k (Int z)) (some_inj number exact e) (z, refl) }
-  literal_exact (True place) exact e =
+  literal_exact (True position) exact e =
       record { value = Truth true; is = refl; has = subst (λ k. Holds m k (Truth true)) (some_inj yes exact e) refl }
-  literal_exact (False place) exact e =
+  literal_exact (False position) exact e =
       record {
         value = Truth false;
         is = refl;
         has = subst (λ k. Holds m k (Truth false)) (some_inj truth exact e) (false, refl);
       }
-  literal_exact (NullNode place) exact e =
+  literal_exact (NullNode position) exact e =
       record {
         value = Null;
         is = refl;
@@ -208,9 +208,9 @@ module _ (m : Scene) where
   unfolding effect_of
   get_static_fine id l r =
       let n = r.needed in
-      let s = m.statics n.has.place n.has.kind n.has.holds in
+      let s = m.statics n.has.index n.has.kind n.has.holds in
       given_fine m _ _ n.field n.is
-      (given_fine m _ _ n.has.place n.has.is
+      (given_fine m _ _ n.has.index n.has.is
       (given_fine m _ _ s.value s.is
       (goes_fine m l _ (n.has.kind ∷ m.kinds) (static_seen n.has.kind n.has.is_immortal s.value s.has, m.operands)
       (subst (FlowsOn m m.frame.rest m.known) n.leaves r.goes))))

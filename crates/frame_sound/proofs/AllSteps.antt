@@ -29,9 +29,9 @@ use Rattle.frame_sound.proofs.Starting.{start_keeps, starts}
 
 -- ---- jobs of a state
 
-ended_is : (s : State) (place : ℕ) → HasEnded s place → activity_of s (ReleaseAt place) ≡ None
+ended_is : (s : State) (index : ℕ) → HasEnded s index → activity_of s (ReleaseAt index) ≡ None
 unfolding activity_of activity_in
-ended_is s place h =
+ended_is s index h =
     ap (λ (o : Option Release). o >>= (λ r. activity_in r.status)) h.is ∙ ap activity_in h.ended
 
 job_fine : (code : Code) (s : State) (job : Job) (base : List ℕ) (stands : JobStands code s job base)
@@ -135,9 +135,9 @@ module _ (code : Code) (s : State) (base : List ℕ) (all : AllStand code s base
         ap (λ (a : Activity). a.areas) (sym same)
             ∙ x.ends.areas,
       )))
-  left (ReleaseAt place) activity is f after e keeps x =
-      ends (ReleaseAt place) activity is (f ∷ []) after e keeps x.memory x.closed
-      (λ y h. (let none = ended_is after place x.ends in absurd (cc (none, h))))
+  left (ReleaseAt index) activity is f after e keeps x =
+      ends (ReleaseAt index) activity is (f ∷ []) after e keeps x.memory x.closed
+      (λ y h. (let none = ended_is after index x.ends in absurd (cc (none, h))))
 
   faulted : (job : Job) (activity : Activity) → activity_of s job ≡ Some activity → (step : Step) →
       KeepsOthers s job activity.frames step.state → HasFaulted code s job activity step → AllStand code step.state base
@@ -167,9 +167,9 @@ module _ (code : Code) (s : State) (base : List ℕ) (all : AllStand code s base
 
       is_now : (a : ℕ) (job : Job) → IsOpenedBy s a job → IsOpenedBy halted a job
       is_now a job o = record { activity = o.activity; is = same_jobs job ∙ o.is; on_list = o.on_list }
-  faulted (ReleaseAt place) activity is step keeps x =
-      ends (ReleaseAt place) activity is activity.frames step.state refl keeps x.memory x.ends.closed
-      (λ y h. (let none = ended_is step.state place x.ends.ended in absurd (cc (none, h))))
+  faulted (ReleaseAt index) activity is step keeps x =
+      ends (ReleaseAt index) activity is activity.frames step.state refl keeps x.memory x.ends.closed
+      (λ y h. (let none = ended_is step.state index x.ends.ended in absurd (cc (none, h))))
 
   pub operation_lets_stand : Facts code → (rows : List ReadingRow) (job : Job) (activity : Activity) →
       activity_of s job ≡ Some activity → (f : Frame) (below : List Frame) → activity.frames ≡ f ∷ below →
@@ -195,33 +195,33 @@ module _ (code : Code) (s : State) (base : List ℕ) (all : AllStand code s base
 
   -- ---- a release that starts
 
-  module _ (none : s.activity.frames ≡ []) (place : ℕ) (r : Release) (there : slice_get s.releases place ≡ Some r)
+  module _ (none : s.activity.frames ≡ []) (index : ℕ) (r : Release) (there : slice_get s.releases index ≡ Some r)
       (waits : r.status ≡ Waits) where
     -- the memories of the sequencer, which has no frame
     base_is : s.activity.areas ≡ base
     unfolding activity_of
     base_is = (all.jobs TheSequencer s.activity refl).is_list ∙ ap (list_of base) none
 
-    not_yet : activity_of s (ReleaseAt place) ≡ None
+    not_yet : activity_of s (ReleaseAt index) ≡ None
     unfolding activity_of activity_in
     not_yet = ap (λ (o : Option Release). o >>= (λ r. activity_in r.status)) there ∙ ap activity_in waits
 
     -- before it has opened nothing
     starts_all : (left : List Frame) (after : State) (P : MemoryArea → Type 0) →
-        KeepsOthers s (ReleaseAt place) [] after →
+        KeepsOthers s (ReleaseAt index) [] after →
         MemoryFine code after →
-        ((x : Activity) → activity_of after (ReleaseAt place) ≡ Some x → JobFine code (world_of after) base x) →
-        ((x : Activity) → activity_of after (ReleaseAt place) ≡ Some x → x.frames ≡ left) →
-        ((a : ℕ) → is_among a (opened_by left) ≡ true → IsOpenedBy after a (ReleaseAt place)) → Owns s [] after left P →
+        ((x : Activity) → activity_of after (ReleaseAt index) ≡ Some x → JobFine code (world_of after) base x) →
+        ((x : Activity) → activity_of after (ReleaseAt index) ≡ Some x → x.frames ≡ left) →
+        ((a : ℕ) → is_among a (opened_by left) ≡ true → IsOpenedBy after a (ReleaseAt index)) → Owns s [] after left P →
         AllStand code after base
     starts_all left after P keeps memory own are now owns =
-        all_after code s base all (ReleaseAt place) [] left after P keeps
-        (others_stand s (ReleaseAt place) [] after keeps)
+        all_after code s base all (ReleaseAt index) [] left after P keeps
+        (others_stand s (ReleaseAt index) [] after keeps)
         memory (λ a on. refl) (λ a h. absurd (true≢false (sym h)))
         (λ a o. (let e = o.is in absurd (cc (not_yet, e)))) own are now owns
 
-    started : (row : HandlerRow) (scope inner : ℕ) (after : State) → KeepsOthers s (ReleaseAt place) [] after →
-        HasStarted code s place row scope inner after → AllStand code after base
+    started : (row : HandlerRow) (scope inner : ℕ) (after : State) → KeepsOthers s (ReleaseAt index) [] after →
+        HasStarted code s index row scope inner after → AllStand code after base
     started row scope inner after keeps x =
         starts_all (x.frame ∷ []) after _ keeps
         (record {
@@ -229,26 +229,26 @@ module _ (code : Code) (s : State) (base : List ℕ) (all : AllStand code s base
           heap = x.stands.stands.heap;
           statics = x.stands.stands.statics_fine;
         })
-        (subst (λ b. (y : Activity) → activity_of after (ReleaseAt place) ≡ Some y → JobFine code (world_of after) b y)
+        (subst (λ b. (y : Activity) → activity_of after (ReleaseAt index) ≡ Some y → JobFine code (world_of after) b y)
         base_is
-        (job_fine code after (ReleaseAt place) s.activity.areas x.stands))
-        (λ y h. job_frames code after (ReleaseAt place) s.activity.areas x.stands y h ∙ x.are)
+        (job_fine code after (ReleaseAt index) s.activity.areas x.stands))
+        (λ y h. job_frames code after (ReleaseAt index) s.activity.areas x.stands y h ∙ x.are)
         (λ a h. record {
           activity = x.stands.activity;
           is = x.stands.is;
           on_list = ap (λ fs. is_among a (opened_by fs)) x.are ∙ h;
         }) (new_area_owned s [] after x.frame [] _ x.areas x.opened refl)
 
-    not_started : (step : Step) → KeepsOthers s (ReleaseAt place) [] step.state →
-        HasFaulted code s (ReleaseAt place) no_activity step → AllStand code step.state base
+    not_started : (step : Step) → KeepsOthers s (ReleaseAt index) [] step.state →
+        HasFaulted code s (ReleaseAt index) no_activity step → AllStand code step.state base
     not_started step keeps x =
         starts_all [] step.state (λ x. Unit {0}) keeps x.memory
-        (λ y h. absurd (let z = ended_is step.state place x.ends.ended in cc (z, h)))
-        (λ y h. absurd (let z = ended_is step.state place x.ends.ended in cc (z, h)))
+        (λ y h. absurd (let z = ended_is step.state index x.ends.ended in cc (z, h)))
+        (λ y h. absurd (let z = ended_is step.state index x.ends.ended in cc (z, h)))
         (λ a h. absurd (true≢false (sym h))) (closed_owned s [] step.state x.ends.closed)
 
     pub start_lets_stand : Facts code → (row : HandlerRow) → handler_row s.registry r.handler ≡ Some row →
-        HandlerFine code s row → LetsAllStand code base (start_op code s place r)
+        HandlerFine code s row → LetsAllStand code base (start_op code s index r)
     start_lets_stand facts row registered handler =
         record {
           step = k.step;
@@ -256,13 +256,13 @@ module _ (code : Code) (s : State) (base : List ℕ) (all : AllStand code s base
           stand = go k.either;
         }
       where
-        k : Starts code s place row handler (start_op code s place r)
-        k = starts code facts s place r there row all.memory handler registered
+        k : Starts code s index row handler (start_op code s index r)
+        k = starts code facts s index r there row all.memory handler registered
 
-        keeps : KeepsOthers s (ReleaseAt place) [] k.step.state
-        keeps = start_keeps code s place r k.step k.is
+        keeps : KeepsOthers s (ReleaseAt index) [] k.step.state
+        keeps = start_keeps code s index r k.step k.is
 
-        go : HasStarted code s place row handler.scope handler.may_open.inner k.step.state
-            ⊎ HasFaulted code s (ReleaseAt place) no_activity k.step → AllStand code k.step.state base
+        go : HasStarted code s index row handler.scope handler.may_open.inner k.step.state
+            ⊎ HasFaulted code s (ReleaseAt index) no_activity k.step → AllStand code k.step.state base
         go (inl x) = started row handler.scope handler.may_open.inner k.step.state keeps x
         go (inr x) = not_started k.step keeps x

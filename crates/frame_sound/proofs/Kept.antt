@@ -153,27 +153,27 @@ module _ (code : Code) (facts : Facts code) (areas : List MemoryArea) (objects :
 
   -- ---- a static field changes
 
-  pub static_keeps : (h : Frame) (place : ℕ) (v : Value) → GoesOn code w list c sig f h None →
-      ((k : Kind) → kind_of_static code.program place ≡ Some k → Has code.program w (held (within looked 0) k) v) →
-      Stands code areas objects (slice_set statics place v) base (h ∷ fs)
+  pub static_keeps : (h : Frame) (index : ℕ) (v : Value) → GoesOn code w list c sig f h None →
+      ((k : Kind) → kind_of_static code.program index ≡ Some k → Has code.program w (held (within looked 0) k) v) →
+      Stands code areas objects (slice_set statics index v) base (h ∷ fs)
   unfolding held_option
-  static_keeps h place v g fits =
+  static_keeps h index v g fits =
       record {
         areas_fine = m.areas_fine;
         heap = m.heap;
         statics_fine = λ q k is. (let s = m.statics_fine q k is in
-            elim (bool_cases (place == q)) [
-              | inl t ↦ (let e : place ≡ q = grind (arith, nat_tests) in
+            elim (bool_cases (index == q)) [
+              | inl t ↦ (let e : index ≡ q = grind (arith, nat_tests) in
                   record {
                     value = v;
-                    is = ap (slice_get (slice_set statics place v)) (sym e)
-                        ∙ get_set_same statics place v (let l = get_within statics q s.value s.is in
+                    is = ap (slice_get (slice_set statics index v)) (sym e)
+                        ∙ get_set_same statics index v (let l = get_within statics q s.value s.is in
                         omega (arith, l, e));
                     has = fits k (ap (kind_of_static code.program) e ∙ is);
                   })
               | inr t ↦ record {
                 value = s.value;
-                is = get_set_other statics place q v (λ e. grind (arith, nat_tests)) ∙ s.is;
+                is = get_set_other statics index q v (λ e. grind (arith, nat_tests)) ∙ s.is;
                 has = s.has;
               }
             ]);

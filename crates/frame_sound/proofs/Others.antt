@@ -18,14 +18,14 @@ area_is s frames a x e = inl e
 pub object_is : (s : State) (r : ℕ) (o : Object) → object_at s r ≡ Some o → ObjectStays s r o
 object_is s r o e = record { object = o; found = e; class = refl; area = refl; size = refl }
 
-pub release_is : (s : State) (job : Job) (place : ℕ) (r : Release) → slice_get s.releases place ≡ Some r →
-    ReleaseStays s job place r
-release_is s job place r e = record { release = r; found = e; handler = refl; number = refl; status = inl refl }
+pub release_is : (s : State) (job : Job) (index : ℕ) (r : Release) → slice_get s.releases index ≡ Some r →
+    ReleaseStays s job index r
+release_is s job index r e = record { release = r; found = e; handler = refl; number = refl; status = inl refl }
 
 -- there is no release at a place where there is none
-pub never : {A : Type 0} (releases : List Release) (place : ℕ) (r : Release) → slice_get releases place ≡ None →
-    slice_get releases place ≡ Some r → A
-never releases place r e f = absurd (cc (e, f))
+pub never : {A : Type 0} (releases : List Release) (index : ℕ) (r : Release) → slice_get releases index ≡ None →
+    slice_get releases index ≡ Some r → A
+never releases index r e f = absurd (cc (e, f))
 
 pub same_rows : (rows : List HandlerRow) → (more : List HandlerRow) × (rows ≡ rows ++ more)
 same_rows rows = ([], sym (append-nil rows))
@@ -46,8 +46,8 @@ module _ (s : State) (job : Job) (frames : List Frame) where
         areas = ha;
         objects = λ r o e. (let x = ho r o e in
             record { object = x.object; found = x.found; class = x.class; area = x.area; size = x.size });
-        releases = λ place r e. record { release = r; found = e; handler = refl; number = refl; status = inl refl };
-        new_releases = λ place r e f. never s.releases place r e f;
+        releases = λ index r e. record { release = r; found = e; handler = refl; number = refl; status = inl refl };
+        new_releases = λ index r e f. never s.releases index r e f;
         waiting = λ e h. h;
         registry = same_rows s.registry;
         activity = inr (refl, refl);
@@ -66,9 +66,9 @@ module _ (s : State) (job : Job) (frames : List Frame) where
       }
 
   pub releases_keep : (releases : List Release) (rows : List HandlerRow) (asked : Bool) →
-      ((place : ℕ) (r : Release) → slice_get s.releases place ≡ Some r →
-      ReleaseStays (record s { releases = releases }) job place r) →
-      ((place : ℕ) (r : Release) → slice_get s.releases place ≡ None → slice_get releases place ≡ Some r →
+      ((index : ℕ) (r : Release) → slice_get s.releases index ≡ Some r →
+      ReleaseStays (record s { releases = releases }) job index r) →
+      ((index : ℕ) (r : Release) → slice_get s.releases index ≡ None → slice_get releases index ≡ Some r →
       (r.status ≡ Waits) × IsRegistered (record s { registry = rows }) r.handler) →
       (OnlyTakenWait s → OnlyTakenWait (record s { releases = releases; is_end_asked = asked })) →
       ((more : List HandlerRow) × (rows ≡ s.registry ++ more)) →
@@ -78,7 +78,7 @@ module _ (s : State) (job : Job) (frames : List Frame) where
       record {
         areas = λ a x e. inl e;
         objects = λ r o e. record { object = o; found = e; class = refl; area = refl; size = refl };
-        releases = λ place r e. (let x = hr place r e in
+        releases = λ index r e. (let x = hr index r e in
             record { release = x.release; found = x.found; handler = x.handler; number = x.number; status = x.status });
         new_releases = hn;
         waiting = λ e. hw;
@@ -107,9 +107,9 @@ module _ (s : State) (job : Job) (frames : List Frame) where
       record {
         areas = λ a x e. inl e;
         objects = λ r o e. record { object = o; found = e; class = refl; area = refl; size = refl };
-        releases = λ place r e. record { release = r; found = e; handler = refl; number = refl; status = inl refl };
-        new_releases = λ place r e f. never s.releases place r e f;
-        waiting = λ e h place r there w. ap (λ p. is_exec p && not s.is_end_asked) e ∙ h place r there w;
+        releases = λ index r e. record { release = r; found = e; handler = refl; number = refl; status = inl refl };
+        new_releases = λ index r e f. never s.releases index r e f;
+        waiting = λ e h index r there w. ap (λ p. is_exec p && not s.is_end_asked) e ∙ h index r there w;
         registry = same_rows s.registry;
         activity = inl is;
         sequencer = stays;
@@ -133,7 +133,7 @@ module _ (s : State) (job : Job) (frames : List Frame) where
 
   -- the first one brings no new release
   pub keeps_then : (t u : State) →
-      ((place : ℕ) → slice_get s.releases place ≡ None → slice_get t.releases place ≡ None) →
+      ((index : ℕ) → slice_get s.releases index ≡ None → slice_get t.releases index ≡ None) →
       Keeps t → KeepsOthers t job frames u → Keeps u
   keeps_then t u none x y =
       record {
@@ -146,15 +146,15 @@ module _ (s : State) (job : Job) (frames : List Frame) where
               area = q.area ∙ p.area;
               size = q.size ∙ p.size;
             });
-        releases = λ place r e. (let p = x.releases place r e in let q = y.releases place p.release p.found in
+        releases = λ index r e. (let p = x.releases index r e in let q = y.releases index p.release p.found in
             record {
               release = q.release;
               found = q.found;
               handler = q.handler ∙ p.handler;
               number = q.number ∙ p.number;
-              status = status_then place r.status p.release.status q.release.status p.status q.status;
+              status = status_then index r.status p.release.status q.release.status p.status q.status;
             });
-        new_releases = λ place r e f. y.new_releases place r (none place e) f;
+        new_releases = λ index r e f. y.new_releases index r (none index e) f;
         waiting = λ e h. (let p = phase_between x.sequencer y.sequencer e in y.waiting (e ∙ sym p) (x.waiting p h));
         registry = (
           x.registry.0 ++ y.registry.0,
@@ -182,17 +182,17 @@ module _ (s : State) (job : Job) (frames : List Frame) where
           elim (y.areas a (closed_if true b) h.1) as (λ z. AreaStays u frames a b)
           [ inl g ↦ inr (h.0, g) | inr g ↦ inr (h.0, g.1) ]
 
-      status_then : (place : ℕ) (p q r : ReleaseStatus) →
-          (q ≡ p) ⊎ ((job ≡ ReleaseAt place) ⊎ ((p ≡ Waits) × (q ≡ Dropped))) →
-          (r ≡ q) ⊎ ((job ≡ ReleaseAt place) ⊎ ((q ≡ Waits) × (r ≡ Dropped))) →
-          (r ≡ p) ⊎ ((job ≡ ReleaseAt place) ⊎ ((p ≡ Waits) × (r ≡ Dropped)))
-      status_then place p q r (inl e) (inl f) = inl (f ∙ e)
-      status_then place p q r (inl e) (inr (inl f)) = inr (inl f)
-      status_then place p q r (inl e) (inr (inr f)) = inr (inr (sym e ∙ f.0, f.1))
-      status_then place p q r (inr (inl e)) f = inr (inl e)
-      status_then place p q r (inr (inr e)) (inl f) = inr (inr (e.0, f ∙ e.1))
-      status_then place p q r (inr (inr e)) (inr (inl f)) = inr (inl f)
-      status_then place p q r (inr (inr e)) (inr (inr f)) = inr (inr (e.0, f.1))
+      status_then : (index : ℕ) (p q r : ReleaseStatus) →
+          (q ≡ p) ⊎ ((job ≡ ReleaseAt index) ⊎ ((p ≡ Waits) × (q ≡ Dropped))) →
+          (r ≡ q) ⊎ ((job ≡ ReleaseAt index) ⊎ ((q ≡ Waits) × (r ≡ Dropped))) →
+          (r ≡ p) ⊎ ((job ≡ ReleaseAt index) ⊎ ((p ≡ Waits) × (r ≡ Dropped)))
+      status_then index p q r (inl e) (inl f) = inl (f ∙ e)
+      status_then index p q r (inl e) (inr (inl f)) = inr (inl f)
+      status_then index p q r (inl e) (inr (inr f)) = inr (inr (sym e ∙ f.0, f.1))
+      status_then index p q r (inr (inl e)) f = inr (inl e)
+      status_then index p q r (inr (inr e)) (inl f) = inr (inr (e.0, f ∙ e.1))
+      status_then index p q r (inr (inr e)) (inr (inl f)) = inr (inl f)
+      status_then index p q r (inr (inr e)) (inr (inr f)) = inr (inr (e.0, f.1))
 
       phase_between : SequencerStays s job t → SequencerStays t job u → u.phase ≡ s.phase → t.phase ≡ s.phase
       phase_between (inl p) q e = p.0

@@ -19,37 +19,37 @@ module _ (s : State) (n : ℕ) (status : ReleaseStatus) where
   abbrev with_this : Release → Release
   with_this r = record r { status = status }
 
-  pub status_none : (place : ℕ) → slice_get s.releases place ≡ None →
-      slice_get (with_status s n status).releases place ≡ None
-  status_none place e = go (slice_get (changed with_this n s.releases) place) refl
+  pub status_none : (index : ℕ) → slice_get s.releases index ≡ None →
+      slice_get (with_status s n status).releases index ≡ None
+  status_none index e = go (slice_get (changed with_this n s.releases) index) refl
     where
-      go : (o : Option Release) → slice_get (changed with_this n s.releases) place ≡ o →
-          slice_get (changed with_this n s.releases) place ≡ None
+      go : (o : Option Release) → slice_get (changed with_this n s.releases) index ≡ o →
+          slice_get (changed with_this n s.releases) index ≡ None
       go None f = f
       go (Some r) f =
-          absurd (elim (changed_from with_this n s.releases place r f) as (λ z. ⊥) [
+          absurd (elim (changed_from with_this n s.releases index r f) as (λ z. ⊥) [
             | inl g ↦ cc (e, g)
-            | inr g ↦ (let x : slice_get s.releases place ≡ Some g.0 = ap (slice_get s.releases) g.3 ∙ g.1 in cc (e, x))
+            | inr g ↦ (let x : slice_get s.releases index ≡ Some g.0 = ap (slice_get s.releases) g.3 ∙ g.1 in cc (e, x))
           ])
 
   pub status_keeps : (frames : List Frame) → is_waiting status ≡ false →
       KeepsOthers s (ReleaseAt n) frames (with_status s n status)
   status_keeps frames acts =
       releases_keep s (ReleaseAt n) frames (changed with_this n s.releases) s.registry s.is_end_asked
-      (λ place r e. stays place r e (n == place) refl)
-      (λ place r e f. (let x = status_none place e in absurd (cc (x, f)))) waiting (same_rows s.registry) (λ e. e)
+      (λ index r e. stays index r e (n == index) refl)
+      (λ index r e f. (let x = status_none index e in absurd (cc (x, f)))) waiting (same_rows s.registry) (λ e. e)
     where
       waiting : OnlyTakenWait s → OnlyTakenWait (record s { releases = changed with_this n s.releases })
-      waiting h place r there w =
-          elim (changed_from with_this n s.releases place r there) as (λ z. takes_releases s ≡ true) [
-            | inl g ↦ h place r g w
+      waiting h index r there w =
+          elim (changed_from with_this n s.releases index r there) as (λ z. takes_releases s ≡ true) [
+            | inl g ↦ h index r g w
             | inr g ↦ absurd (true≢false (sym w ∙ (ap (λ (q : Release). is_waiting q.status) (sym g.2) ∙ acts)))
           ]
 
-      stays : (place : ℕ) (r : Release) → slice_get s.releases place ≡ Some r → (t : Bool) → (n == place) ≡ t →
-          ReleaseStays (record s { releases = changed with_this n s.releases }) (ReleaseAt n) place r
-      stays place r e true t =
-          let same : n ≡ place = grind (arith, nat_tests) in
+      stays : (index : ℕ) (r : Release) → slice_get s.releases index ≡ Some r → (t : Bool) → (n == index) ≡ t →
+          ReleaseStays (record s { releases = changed with_this n s.releases }) (ReleaseAt n) index r
+      stays index r e true t =
+          let same : n ≡ index = grind (arith, nat_tests) in
           record {
             release = with_this r;
             found = ap (slice_get (changed with_this n s.releases)) (sym same)
@@ -58,20 +58,20 @@ module _ (s : State) (n : ℕ) (status : ReleaseStatus) where
             number = refl;
             status = inr (inl (ap ReleaseAt same));
           }
-      stays place r e false t =
+      stays index r e false t =
           record {
             release = r;
-            found = changed_off with_this n s.releases place (λ same. grind (arith, nat_tests)) ∙ e;
+            found = changed_off with_this n s.releases index (λ same. grind (arith, nat_tests)) ∙ e;
             handler = refl;
             number = refl;
             status = inl refl;
           }
 
-pub activity_none : (s : State) (job : Job) (a : Activity) (place : ℕ) → slice_get s.releases place ≡ None →
-    slice_get (with_activity s job a).releases place ≡ None
+pub activity_none : (s : State) (job : Job) (a : Activity) (index : ℕ) → slice_get s.releases index ≡ None →
+    slice_get (with_activity s job a).releases index ≡ None
 unfolding with_activity
-activity_none s TheSequencer a place e = e
-activity_none s (ReleaseAt n) a place e = status_none s n (Started a) place e
+activity_none s TheSequencer a index e = e
+activity_none s (ReleaseAt n) a index e = status_none s n (Started a) index e
 
 pub activity_keeps : (s : State) (job : Job) (frames : List Frame) (a : Activity) →
     KeepsOthers s job frames (with_activity s job a)
@@ -117,24 +117,24 @@ others_stand s job frames after k TheSequencer other =
       | inl e ↦ absurd (other (sym e))
       | inr e ↦ ap (λ a. Some a) e.0
     ]
-others_stand s job frames after k (ReleaseAt place) other = go (slice_get s.releases place) refl
+others_stand s job frames after k (ReleaseAt index) other = go (slice_get s.releases index) refl
   where
     waits : (p : ReleaseStatus) → p ≡ Waits → activity_in p ≡ None
     waits p e = ap activity_in e
 
-    new : slice_get s.releases place ≡ None → (o : Option Release) → slice_get after.releases place ≡ o → found o ≡ None
+    new : slice_get s.releases index ≡ None → (o : Option Release) → slice_get after.releases index ≡ o → found o ≡ None
     new e None f = refl
-    new e (Some r) f = waits r.status (k.new_releases place r e f).0
+    new e (Some r) f = waits r.status (k.new_releases index r e f).0
 
-    old : (r q : ReleaseStatus) → (q ≡ r) ⊎ ((job ≡ ReleaseAt place) ⊎ ((r ≡ Waits) × (q ≡ Dropped))) →
+    old : (r q : ReleaseStatus) → (q ≡ r) ⊎ ((job ≡ ReleaseAt index) ⊎ ((r ≡ Waits) × (q ≡ Dropped))) →
         activity_in q ≡ activity_in r
     old r q (inl e) = ap activity_in e
     old r q (inr (inl e)) = absurd (other (sym e))
     old r q (inr (inr e)) = ap activity_in e.1 ∙ sym (waits r e.0)
 
-    go : (o : Option Release) → slice_get s.releases place ≡ o →
-        found (slice_get after.releases place) ≡ found (slice_get s.releases place)
-    go None e = new e (slice_get after.releases place) refl ∙ sym (ap found e)
+    go : (o : Option Release) → slice_get s.releases index ≡ o →
+        found (slice_get after.releases index) ≡ found (slice_get s.releases index)
+    go None e = new e (slice_get after.releases index) refl ∙ sym (ap found e)
     go (Some r) e =
-        let x = k.releases place r e in
+        let x = k.releases index r e in
         ap found x.found ∙ (old r.status x.release.status x.status ∙ sym (ap found e))

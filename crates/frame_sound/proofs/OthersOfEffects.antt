@@ -74,7 +74,7 @@ module _ (s : State) (job : Job) (frames : List Frame) where
       KeepsOthers s job frames
       (with_activity (record s { areas = areas; objects = objects; statics = statics }) job a)
   memory_then areas objects statics ha ho a =
-      keeps_then s job frames (record s { areas = areas; objects = objects; statics = statics }) _ (λ place e. e)
+      keeps_then s job frames (record s { areas = areas; objects = objects; statics = statics }) _ (λ position e. e)
       (memory_keeps s job frames areas objects statics ha ho) (activity_keeps _ job frames a)
 
   -- one object changes, and keeps its class, its area and its size
@@ -104,12 +104,12 @@ module _ (s : State) (job : Job) (frames : List Frame) where
             size = refl;
           }
 
-pub fault_keeps : (s : State) (job : Job) (activity : Activity) (place : Pos) (fault : RunFault) →
-    KeepsOthers s job activity.frames (fault_in s job activity place fault).state
+pub fault_keeps : (s : State) (job : Job) (activity : Activity) (position : Pos) (fault : RunFault) →
+    KeepsOthers s job activity.frames (fault_in s job activity position fault).state
 unfolding fault_in is_waiting
-fault_keeps s TheSequencer activity place fault =
+fault_keeps s TheSequencer activity position fault =
     sequencer_keeps s TheSequencer activity.frames Over Finished None s.activity refl (inr (refl, refl, refl))
-fault_keeps s (ReleaseAt n) activity place fault =
+fault_keeps s (ReleaseAt n) activity position fault =
     keeps_then s (ReleaseAt n) activity.frames (closed_all s activity.frames) _
     (λ p e. ap (λ (u : State). slice_get u.releases p) (closed_all_is s activity.frames) ∙ e)
     (closed_all_keeps s (ReleaseAt n) activity.frames)
@@ -117,20 +117,20 @@ fault_keeps s (ReleaseAt n) activity place fault =
 
 -- ---- all effects
 
-module _ (code : Code) (s : State) (job : Job) (activity : Activity) (below : List Frame) (place : Pos) where
+module _ (code : Code) (s : State) (job : Job) (activity : Activity) (below : List Frame) (position : Pos) where
   abbrev Keeping : Step → Type 0
   Keeping step = KeepsOthers s job activity.frames step.state
 
   abbrev All : Effect → Type 0
-  All e = KeepsIf s job activity.frames (applied code s job activity below place e)
+  All e = KeepsIf s job activity.frames (applied code s job activity below position e)
 
-  faults : (fault : RunFault) → Keeping (fault_in s job activity place fault)
-  faults fault = fault_keeps s job activity place fault
+  faults : (fault : RunFault) → Keeping (fault_in s job activity position fault)
+  faults fault = fault_keeps s job activity position fault
 
   one_of : (b : Bool) (x y : Step) → Keeping x → Keeping y → Keeping (if b then x else y)
   one_of b x y h k = either s job activity.frames b x y h k
 
-  called_keeps : (frames : List Frame) (g : Frame) → Keeping (called code s job activity frames place g)
+  called_keeps : (frames : List Frame) (g : Frame) → Keeping (called code s job activity frames position g)
   unfolding called
   called_keeps frames g =
       one_of (is_full frames) _ _ (faults DepthFull)
@@ -139,7 +139,7 @@ module _ (code : Code) (s : State) (job : Job) (activity : Activity) (below : Li
       (activity_keeps s job activity.frames _)))
 
   opened_keeps : (frames : List Frame) (g : Frame) (scope bytes : ℕ) →
-      Keeping (opened_in s job activity frames place g scope bytes)
+      Keeping (opened_in s job activity frames position g scope bytes)
   unfolding opened_in opening
   opened_keeps frames g scope bytes =
       one_of (is_some (area_with_scope s scope activity.areas)) _ _ (faults ScopedCycle)
@@ -200,7 +200,7 @@ module _ (code : Code) (s : State) (job : Job) (activity : Activity) (below : Li
     next u k =
         keeps_then s job activity.frames t u (activity_none s job (record activity { frames = h ∷ below })) goes_keeps k
 
-    registered_keeps : (o : Object) → Keeping (registered code s job activity place r o t)
+    registered_keeps : (o : Object) → Keeping (registered code s job activity position r o t)
     unfolding registered
     registered_keeps o =
         one_of (not (is_init s.phase)) _ _ (faults NotInitializing)
@@ -283,7 +283,7 @@ module _ (code : Code) (s : State) (job : Job) (activity : Activity) (below : Li
           then Some
           (silently
           (with_frame (record s { objects = changed (with_ceiling ceiling) r s.objects }) job activity h below))
-          else Some (fault_in s job activity place NotInitializing))
+          else Some (fault_in s job activity position NotInitializing))
       go true = some _ (with_objects (with_ceiling ceiling) r (λ o. refl) (λ o. refl) (λ o e. refl) _)
       go false = some _ (faults NotInitializing)
   applied_keeps (Calls h g) x = some _ (called_keeps (h ∷ below) g)

@@ -49,26 +49,26 @@ module _ (t : State) (job : Job) (frames : List Frame) where
   pub row_keeps : (row : HandlerRow) → KeepsOthers t job frames (record t { registry = t.registry ++ row ∷ [] })
   row_keeps row =
       releases_keep t job frames t.releases (t.registry ++ row ∷ []) t.is_end_asked (release_is t job)
-      (λ place r e f. never t.releases place r e f)
+      (λ index r e f. never t.releases index r e f)
       (λ h. h) (row ∷ [], refl) (λ e. e)
 
   pub taken_keeps : (q : Release) → q.status ≡ Waits → IsRegistered t q.handler → takes_releases t ≡ true →
       KeepsOthers t job frames (record t { releases = t.releases ++ q ∷ [] })
   taken_keeps q waits registered takes =
       releases_keep t job frames (t.releases ++ q ∷ []) t.registry t.is_end_asked
-      (λ place r e. record {
+      (λ index r e. record {
         release = r;
-        found = get_left t.releases (q ∷ []) place r e;
+        found = get_left t.releases (q ∷ []) index r e;
         handler = refl;
         number = refl;
         status = inl refl;
       })
-      (λ place r e f. elim (get_either t.releases q place r f) as (λ z. (r.status ≡ Waits) × IsRegistered t r.handler) [
+      (λ index r e f. elim (get_either t.releases q index r f) as (λ z. (r.status ≡ Waits) × IsRegistered t r.handler) [
         | inl g ↦ absurd (cc (e, g))
         | inr g ↦ subst (λ (x : Release). (x.status ≡ Waits) × IsRegistered t x.handler) g (waits, registered)
       ])
-      (λ h place r there w. elim (get_either t.releases q place r there) as (λ z. takes_releases t ≡ true) [
-        | inl g ↦ h place r g w
+      (λ h index r there w. elim (get_either t.releases q index r there) as (λ z. takes_releases t ≡ true) [
+        | inl g ↦ h index r g w
         | inr g ↦ takes
       ]) (same_rows t.registry) (λ e. e)
 
@@ -76,8 +76,8 @@ module _ (t : State) (job : Job) (frames : List Frame) where
   pub asked_keeps : is_exec t.phase ≡ false → KeepsOthers t job frames (record t { is_end_asked = true })
   asked_keeps outside =
       releases_keep t job frames t.releases t.registry true (release_is t job)
-      (λ place r e f. never t.releases place r e f)
-      (λ h place r there w. absurd (true≢false (sym (h place r there w) ∙ ap (λ b. b && not t.is_end_asked) outside)))
+      (λ index r e f. never t.releases index r e f)
+      (λ h index r there w. absurd (true≢false (sym (h index r there w) ∙ ap (λ b. b && not t.is_end_asked) outside)))
       (same_rows t.registry) (λ e. refl)
 
   record IsDropped (r q : Release) : Type 0 where
@@ -120,20 +120,20 @@ module _ (t : State) (job : Job) (frames : List Frame) where
       (record t { is_end_asked = true; releases = map dropped_release t.releases })
   dropped_keep =
       releases_keep t job frames (map dropped_release t.releases) t.registry true
-      (λ place r e. (let d = is_dropped r in
+      (λ index r e. (let d = is_dropped r in
       record {
         release = dropped_release r;
-        found = get_mapped dropped_release t.releases place ∙ ap (option_map dropped_release) e;
+        found = get_mapped dropped_release t.releases index ∙ ap (option_map dropped_release) e;
         handler = d.handler;
         number = d.number;
         status = elim d.status as (λ z. ((dropped_release r).status ≡ r.status)
-            ⊎ ((job ≡ ReleaseAt place) ⊎ ((r.status ≡ Waits) × ((dropped_release r).status ≡ Dropped)))) [
+            ⊎ ((job ≡ ReleaseAt index) ⊎ ((r.status ≡ Waits) × ((dropped_release r).status ≡ Dropped)))) [
               | inl g ↦ inl g
               | inr g ↦ inr (inr g)
             ];
       }))
-      (λ place r e f. (let none : slice_get (map dropped_release t.releases) place ≡ None =
-      get_mapped dropped_release t.releases place ∙ ap (option_map dropped_release) e in absurd (cc (none, f))))
-      (λ h place r there w. absurd (true≢false (sym w
-      ∙ waits_not (slice_get t.releases place) r (sym (get_mapped dropped_release t.releases place) ∙ there))))
+      (λ index r e f. (let none : slice_get (map dropped_release t.releases) index ≡ None =
+      get_mapped dropped_release t.releases index ∙ ap (option_map dropped_release) e in absurd (cc (none, f))))
+      (λ h index r there w. absurd (true≢false (sym w
+      ∙ waits_not (slice_get t.releases index) r (sym (get_mapped dropped_release t.releases index) ∙ there))))
       (same_rows t.registry) (λ e. refl)

@@ -42,7 +42,7 @@ new_area_opened code s frames t g low new are opens same entered =
 module _ (code : Code) (facts : Facts code) (s : State) (job : Job) (activity : Activity)
     (is : activity_of s job ≡ Some activity) (base : List ℕ) (f : Frame) (below : List Frame)
     (is_list : activity.areas ≡ list_of base (f ∷ below)) (c : ℕ) (sig : Signature)
-    (m : ActsHere code s.areas s.objects s.statics base f below c sig) (place : Pos) where
+    (m : ActsHere code s.areas s.objects s.statics base f below c sig) (position : Pos) where
   abbrev Outcome : Option Step → Type 0
   Outcome o = KeepsItsJob code s job activity base f below o
 
@@ -79,8 +79,8 @@ module _ (code : Code) (facts : Facts code) (s : State) (job : Job) (activity : 
         registry = inl (registry_stays t job a ∙ ap (λ (u : State). u.registry) only);
       }
 
-  faults : (fault : RunFault) → Outcome (Some (fault_in s job activity place fault))
-  faults fault = faults_so code facts s job activity is base f below is_list c sig m place fault
+  faults : (fault : RunFault) → Outcome (Some (fault_in s job activity position fault))
+  faults fault = faults_so code facts s job activity is base f below is_list c sig m position fault
 
   -- ---- calls
 
@@ -114,12 +114,12 @@ module _ (code : Code) (facts : Facts code) (s : State) (job : Job) (activity : 
             ap (λ (o : Option ℕ). option_to_list o ++ opened_by (h ∷ below)) x.unopened
             ∙ ap (λ (o : Option ℕ). option_to_list o ++ opened_by below) x.goes.same.opened
 
-    pub calls_kept : Outcome (applied code s job activity below place (Calls h g))
+    pub calls_kept : Outcome (applied code s job activity below position (Calls h g))
     unfolding applied called
     calls_kept = go (is_full (h ∷ below)) (ceiling_entered code s g)
       where
         entered : (ceiling : ℕ) (t : Bool) (events : List Event) → Outcome (Some (if t
-            then fault_in s job activity place CeilingViolation
+            then fault_in s job activity position CeilingViolation
             else telling
             (with_activity s job (record activity {
               frames = record g { saved = Some activity.priority } ∷ (h ∷ below);
@@ -128,11 +128,11 @@ module _ (code : Code) (facts : Facts code) (s : State) (job : Job) (activity : 
         entered ceiling true events = faults CeilingViolation
         entered ceiling false events = pushed (Some activity.priority) ceiling events
 
-        go : (t : Bool) (o : Option ℕ) → Outcome (Some (if t then fault_in s job activity place DepthFull
+        go : (t : Bool) (o : Option ℕ) → Outcome (Some (if t then fault_in s job activity position DepthFull
             else (elim o [
               | None ↦ silently (with_activity s job (record activity { frames = g ∷ (h ∷ below) }))
               | Some ceiling ↦
-                  if nat_lt ceiling activity.priority then fault_in s job activity place CeilingViolation
+                  if nat_lt ceiling activity.priority then fault_in s job activity position CeilingViolation
                   else telling
                   (with_activity s job (record activity {
                     frames = record g { saved = Some activity.priority } ∷ (h ∷ below);
@@ -193,15 +193,15 @@ module _ (code : Code) (facts : Facts code) (s : State) (job : Job) (activity : 
         new_area_in : ℕ → MemoryArea
         new_area_in a = record { scope = scope; parent = Some a; bytes = bytes; is_open = true }
 
-    pub opens_kept : Outcome (applied code s job activity below place (Opens h g scope bytes))
+    pub opens_kept : Outcome (applied code s job activity below position (Opens h g scope bytes))
     unfolding applied opened_in opening
     opens_kept = go (area_with_scope s scope activity.areas) refl (is_full (h ∷ below)) (has_store_for s bytes)
       where
         go : (o : Option ℕ) → area_with_scope s scope activity.areas ≡ o → (t u : Bool) →
-            Outcome (Some (if is_some o then fault_in s job activity place ScopedCycle
-            else (if t then fault_in s job activity place DepthFull
+            Outcome (Some (if is_some o then fault_in s job activity position ScopedCycle
+            else (if t then fault_in s job activity position DepthFull
             else (if u then silently (with_activity (with_area s scope (Some g.area) bytes) job opened_activity)
-            else fault_in s job activity place StoreFull))))
+            else fault_in s job activity position StoreFull))))
         go (Some a) e t u = faults ScopedCycle
         go None e true u = faults DepthFull
         go None e false true = opened e

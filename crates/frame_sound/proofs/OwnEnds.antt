@@ -146,59 +146,59 @@ same_areas code s t frames left e same =
 -- ---- the release of a job
 
 -- the release that a job is
-pub record IsUnderWay (s : State) (place : ℕ) (activity : Activity) : Type 0 where
+pub record IsUnderWay (s : State) (index : ℕ) (activity : Activity) : Type 0 where
   pub release : Release
-  pub is : slice_get s.releases place ≡ Some release
+  pub is : slice_get s.releases index ≡ Some release
   pub has : activity_in release.status ≡ Some activity
 
-pub under_way : (s : State) (place : ℕ) (activity : Activity) → activity_of s (ReleaseAt place) ≡ Some activity →
-    IsUnderWay s place activity
+pub under_way : (s : State) (index : ℕ) (activity : Activity) → activity_of s (ReleaseAt index) ≡ Some activity →
+    IsUnderWay s index activity
 unfolding activity_of
-under_way s place activity e = go (slice_get s.releases place) refl e
+under_way s index activity e = go (slice_get s.releases index) refl e
   where
-    go : (o : Option Release) → slice_get s.releases place ≡ o → o >>= (λ r. activity_in r.status) ≡ Some activity →
-        IsUnderWay s place activity
+    go : (o : Option Release) → slice_get s.releases index ≡ o → o >>= (λ r. activity_in r.status) ≡ Some activity →
+        IsUnderWay s index activity
     go None f g = absurd (cc (g))
     go (Some r) f g = record { release = r; is = f; has = g }
 
 -- there is such a job
 abbrev pub JobThere : State → Job → Type 0
 JobThere s TheSequencer = Unit {0}
-JobThere s (ReleaseAt place) = (r : Release) × (slice_get s.releases place ≡ Some r)
+JobThere s (ReleaseAt index) = (r : Release) × (slice_get s.releases index ≡ Some r)
 
 pub job_there : (s : State) (job : Job) (activity : Activity) → activity_of s job ≡ Some activity → JobThere s job
 job_there s TheSequencer activity e = tt
-job_there s (ReleaseAt place) activity e = let u = under_way s place activity e in (u.release, u.is)
+job_there s (ReleaseAt index) activity e = let u = under_way s index activity e in (u.release, u.is)
 
-pub release_ended : (s t : State) (place : ℕ) → t.releases ≡ s.releases → JobThere s (ReleaseAt place) →
-    HasEnded (with_status t place Ended) place
-release_ended s t place e there =
+pub release_ended : (s t : State) (index : ℕ) → t.releases ≡ s.releases → JobThere s (ReleaseAt index) →
+    HasEnded (with_status t index Ended) index
+release_ended s t index e there =
     record {
       release = record there.0 { status = Ended };
-      is = changed_at (λ (r : Release). record r { status = Ended }) place t.releases there.0
-          (ap (λ (rs : List Release). slice_get rs place) e ∙ there.1);
+      is = changed_at (λ (r : Release). record r { status = Ended }) index t.releases there.0
+          (ap (λ (rs : List Release). slice_get rs index) e ∙ there.1);
       ended = refl;
     }
 
 -- ---- faults
 
 pub faulted : (code : Code) (s : State) (job : Job) (activity : Activity) → JobThere s job → MemoryFine code s →
-    (place : Pos) (fault : RunFault) →
-    HasFaulted code s job activity (fault_in s job activity place fault)
+    (position : Pos) (fault : RunFault) →
+    HasFaulted code s job activity (fault_in s job activity position fault)
 unfolding fault_in
-faulted code s TheSequencer activity there m place fault =
+faulted code s TheSequencer activity there m position fault =
     record {
-      place = place;
+      position = position;
       fault = fault;
       is = refl;
       memory = record { areas = m.areas; heap = m.heap; statics = m.statics };
       ends = refl;
     }
-faulted code s (ReleaseAt n) activity there m place fault =
+faulted code s (ReleaseAt n) activity there m position fault =
     let c = closed_all_memory code s activity.frames m in
     let e = closed_all_is s activity.frames in
     record {
-      place = place;
+      position = position;
       fault = fault;
       is = refl;
       memory = record { areas = c.areas; heap = c.heap; statics = c.statics };
@@ -209,9 +209,9 @@ faulted code s (ReleaseAt n) activity there m place fault =
       };
     }
 
-pub fault_keeps_registry : (s : State) (job : Job) (activity : Activity) (place : Pos) (fault : RunFault) →
-    (fault_in s job activity place fault).state.registry ≡ s.registry
+pub fault_keeps_registry : (s : State) (job : Job) (activity : Activity) (position : Pos) (fault : RunFault) →
+    (fault_in s job activity position fault).state.registry ≡ s.registry
 unfolding fault_in
-fault_keeps_registry s TheSequencer activity place fault = refl
-fault_keeps_registry s (ReleaseAt n) activity place fault =
+fault_keeps_registry s TheSequencer activity position fault = refl
+fault_keeps_registry s (ReleaseAt n) activity position fault =
     ap (λ (t : State). t.registry) (closed_all_is s activity.frames)

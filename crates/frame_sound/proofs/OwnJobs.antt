@@ -30,21 +30,21 @@ pub same_activity : (s t : State) (job : Job) → t.releases ≡ s.releases → 
     activity_of t job ≡ activity_of s job
 unfolding activity_of
 same_activity s t TheSequencer e f = ap (λ a. Some a) f
-same_activity s t (ReleaseAt place) e f =
-    ap (λ (rs : List Release). slice_get rs place >>= (λ r. activity_in r.status)) e
+same_activity s t (ReleaseAt index) e f =
+    ap (λ (rs : List Release). slice_get rs index >>= (λ r. activity_in r.status)) e
 
 pub set_activity : (s : State) (job : Job) (a b : Activity) → activity_of s job ≡ Some a →
     activity_of (with_activity s job b) job ≡ Some b
 unfolding activity_of with_activity activity_in
 set_activity s TheSequencer a b e = refl
-set_activity s (ReleaseAt place) a b e = go (slice_get s.releases place) refl e
+set_activity s (ReleaseAt index) a b e = go (slice_get s.releases index) refl e
   where
-    go : (o : Option Release) → slice_get s.releases place ≡ o → o >>= (λ r. activity_in r.status) ≡ Some a →
-        slice_get (with_status s place (Started b)).releases place >>= (λ r. activity_in r.status) ≡ Some b
+    go : (o : Option Release) → slice_get s.releases index ≡ o → o >>= (λ r. activity_in r.status) ≡ Some a →
+        slice_get (with_status s index (Started b)).releases index >>= (λ r. activity_in r.status) ≡ Some b
     go None f g = absurd (cc (g))
     go (Some r) f g =
         ap (λ (o : Option Release). o >>= (λ r. activity_in r.status))
-        (changed_at (λ (r : Release). record r { status = Started b }) place s.releases r f)
+        (changed_at (λ (r : Release). record r { status = Started b }) index s.releases r f)
 
 pub memory_stays : (code : Code) (s : State) (job : Job) (b : Activity) (base : List ℕ) (frames : List Frame) →
     Stands code s.areas s.objects s.statics base frames →
@@ -52,7 +52,7 @@ pub memory_stays : (code : Code) (s : State) (job : Job) (b : Activity) (base : 
     frames
 unfolding with_activity
 memory_stays code s TheSequencer b base frames h = h
-memory_stays code s (ReleaseAt place) b base frames h = h
+memory_stays code s (ReleaseAt index) b base frames h = h
 
 -- ---- the frame with which a job began
 
@@ -71,17 +71,17 @@ same_with f h operands same =
 pub areas_stay : (s : State) (job : Job) (b : Activity) → (with_activity s job b).areas ≡ s.areas
 unfolding with_activity
 areas_stay s TheSequencer b = refl
-areas_stay s (ReleaseAt place) b = refl
+areas_stay s (ReleaseAt index) b = refl
 
 pub operation_stays : (s : State) (job : Job) (b : Activity) → KeepsOperation s (with_activity s job b)
 unfolding with_activity
 operation_stays s TheSequencer b = record { phase = refl; operation = refl }
-operation_stays s (ReleaseAt place) b = record { phase = refl; operation = refl }
+operation_stays s (ReleaseAt index) b = record { phase = refl; operation = refl }
 
 pub outcome_stays : (s : State) (job : Job) (b : Activity) → (with_activity s job b).outcome ≡ s.outcome
 unfolding with_activity
 outcome_stays s TheSequencer b = refl
-outcome_stays s (ReleaseAt place) b = refl
+outcome_stays s (ReleaseAt index) b = refl
 
 pub operation_then : (s t u : State) → KeepsOperation s t → KeepsOperation t u → KeepsOperation s u
 operation_then s t u x y = record { phase = y.phase ∙ x.phase; operation = y.operation ∙ x.operation }
@@ -89,12 +89,12 @@ operation_then s t u x y = record { phase = y.phase ∙ x.phase; operation = y.o
 pub registry_stays : (s : State) (job : Job) (b : Activity) → (with_activity s job b).registry ≡ s.registry
 unfolding with_activity
 registry_stays s TheSequencer b = refl
-registry_stays s (ReleaseAt place) b = refl
+registry_stays s (ReleaseAt index) b = refl
 
 module _ (code : Code) (facts : Facts code) (s : State) (job : Job) (activity : Activity)
     (is : activity_of s job ≡ Some activity) (base : List ℕ) (f : Frame) (below : List Frame)
     (is_list : activity.areas ≡ list_of base (f ∷ below)) (c : ℕ) (sig : Signature)
-    (m : ActsHere code s.areas s.objects s.statics base f below c sig) (place : Pos) where
+    (m : ActsHere code s.areas s.objects s.statics base f below c sig) (position : Pos) where
   -- the job with this frame, in a state in which at most objects and static fields are others
   pub stands_with : (t : State) → t ≡ record s { objects = t.objects; statics = t.statics } → (k : Frame) → IsSame f k →
       Stands code t.areas t.objects t.statics base (k ∷ below) →
@@ -137,7 +137,7 @@ module _ (code : Code) (facts : Facts code) (s : State) (job : Job) (activity : 
       }
 
   -- a fault
-  pub faults_so : (fault : RunFault) → Result (Some (fault_in s job activity place fault))
+  pub faults_so : (fault : RunFault) → Result (Some (fault_in s job activity position fault))
   faults_so fault =
       record {
         step = _;
@@ -147,12 +147,12 @@ module _ (code : Code) (facts : Facts code) (s : State) (job : Job) (activity : 
             (inr
             (faulted code s job activity (job_there s job activity is)
             (record { areas = m.areas_fine; heap = m.heap; statics = m.statics_fine })
-            place fault));
-        registry = inl (fault_keeps_registry s job activity place fault);
+            position fault));
+        registry = inl (fault_keeps_registry s job activity position fault);
       }
 
   abbrev Kept : Effect → Type 0
-  Kept e = Result (applied code s job activity below place e)
+  Kept e = Result (applied code s job activity below position e)
 
   abbrev Asks : Effect → Type 0
   Asks e = EffectFine code (look (λ a. slice_get s.areas a) s.objects) (list_of base (f ∷ below)) c sig f e
@@ -198,7 +198,7 @@ module _ (code : Code) (facts : Facts code) (s : State) (job : Job) (activity : 
       go : (t : Bool) → Result
           (Some (if t then silently (with_frame (with_object s class h.area vs) job activity
           (record h { operands = At (length s.objects) ∷ h.operands }) below)
-          else fault_in s job activity place MemoryFull))
+          else fault_in s job activity position MemoryFull))
       go true =
           goes_with (with_object s class h.area vs) refl (record h { operands = operands })
           (same_with f h operands x.goes.same)
@@ -213,7 +213,7 @@ module _ (code : Code) (facts : Facts code) (s : State) (job : Job) (activity : 
           (if t then Some
           (silently
           (with_frame (record s { objects = changed (with_ceiling ceiling) r s.objects }) job activity h below))
-          else Some (fault_in s job activity place NotInitializing))
+          else Some (fault_in s job activity position NotInitializing))
       go true =
           goes_with (record s { objects = changed (with_ceiling ceiling) r s.objects }) refl h x.0.same
           (ceiling_keeps code facts s.areas s.objects s.statics base f below c sig m h r ceiling x.0) []

@@ -32,16 +32,16 @@ use Rattle.frame_sound.proofs.OwnJobs.{operation_then, faults_so, registry_stays
 -- what is under way stays, where each release that is started has its activity as before
 abbrev ReleasesStay : State → State → Type 0
 ReleasesStay t u =
-    (place : ℕ) (r : Release) (a : Activity) → slice_get t.releases place ≡ Some r → activity_in r.status ≡ Some a →
-    slice_get u.releases place ≡ Some r
+    (index : ℕ) (r : Release) (a : Activity) → slice_get t.releases index ≡ Some r → activity_in r.status ≡ Some a →
+    slice_get u.releases index ≡ Some r
 
 activity_kept : (t u : State) (job : Job) (a : Activity) → u.activity ≡ t.activity → ReleasesStay t u →
     activity_of t job ≡ Some a → activity_of u job ≡ Some a
 unfolding activity_of
 activity_kept t u TheSequencer a e stay is = ap (λ x. Some x) e ∙ is
-activity_kept t u (ReleaseAt place) a e stay is =
-    let w = under_way t place a is in
-    ap (λ (o : Option Release). o >>= (λ r. activity_in r.status)) (stay place w.release a w.is w.has) ∙ w.has
+activity_kept t u (ReleaseAt index) a e stay is =
+    let w = under_way t index a is in
+    ap (λ (o : Option Release). o >>= (λ r. activity_in r.status)) (stay index w.release a w.is w.has) ∙ w.has
 
 -- a state in which at most releases, handlers and the wish to end are others
 abbrev pub DiffersInRequests : State → State → Type 0
@@ -100,7 +100,7 @@ started_stays r a e =
 module _ (code : Code) (facts : Facts code) (s : State) (job : Job) (activity : Activity)
     (is : activity_of s job ≡ Some activity) (base : List ℕ) (f : Frame) (below : List Frame)
     (is_list : activity.areas ≡ list_of base (f ∷ below)) (c : ℕ) (sig : Signature)
-    (m : ActsHere code s.areas s.objects s.statics base f below c sig) (place : Pos) where
+    (m : ActsHere code s.areas s.objects s.statics base f below c sig) (position : Pos) where
   abbrev Result : Option Step → Type 0
   Result o = KeepsItsJob code s job activity base f below o
 
@@ -108,10 +108,10 @@ module _ (code : Code) (facts : Facts code) (s : State) (job : Job) (activity : 
   Asks e = EffectFine code (look (λ a. slice_get s.areas a) s.objects) (list_of base (f ∷ below)) c sig f e
 
   abbrev Kept : Effect → Type 0
-  Kept e = Result (applied code s job activity below place e)
+  Kept e = Result (applied code s job activity below position e)
 
-  faults : (fault : RunFault) → Result (Some (fault_in s job activity place fault))
-  faults fault = faults_so code facts s job activity is base f below is_list c sig m place fault
+  faults : (fault : RunFault) → Result (Some (fault_in s job activity position fault))
+  faults fault = faults_so code facts s job activity is base f below is_list c sig m position fault
 
   module _ (h : Frame)
       (goes : GoesOn code (look (λ a. slice_get s.areas a) s.objects) (list_of base (f ∷ below)) c sig f h None) where
@@ -121,7 +121,7 @@ module _ (code : Code) (facts : Facts code) (s : State) (job : Job) (activity : 
 
     goes_on : JobGoesOn code s job base f below t
     goes_on =
-        stands_with code facts s job activity is base f below is_list c sig m place s refl h goes.same
+        stands_with code facts s job activity is base f below is_list c sig m position s refl h goes.same
         (goes_keeps code facts s.areas s.objects s.statics base f below c sig m h goes)
 
     registry_is : t.registry ≡ s.registry
@@ -150,9 +150,9 @@ module _ (code : Code) (facts : Facts code) (s : State) (job : Job) (activity : 
     registration_kept r x = go (object_at s r) refl
       where
         by_state : (o : Object) → object_at s r ≡ Some o → (a b d : Bool) → Result (Some
-            (if a then fault_in s job activity place NotInitializing
+            (if a then fault_in s job activity position NotInitializing
             else (if b then silently t
-            else (if d then fault_in s job activity place TooManyHandlers
+            else (if d then fault_in s job activity position TooManyHandlers
             else (let row = new_row code.program r o in
             telling (record t { registry = t.registry ++ row ∷ [] })
             (Register s.unit (length s.registry + 1) (class_name code o.class) row.priority ∷ []))))))
@@ -178,7 +178,7 @@ module _ (code : Code) (facts : Facts code) (s : State) (job : Job) (activity : 
             })) _
 
         go : (o : Option Object) → object_at s r ≡ o →
-            Result (option_map (λ (o : Object). registered code s job activity place r o t) o)
+            Result (option_map (λ (o : Object). registered code s job activity position r o t) o)
         go None e = absurd (let z = x.there.found in cc (e, z))
         go (Some o) e =
             by_state o e (not (is_init s.phase)) (is_some (handler_number s.registry r))

@@ -35,39 +35,39 @@ module _ (code : Code) (facts : Facts code) (s : State) (job : Job) (activity : 
     (is : activity_of s job ≡ Some activity) (base : List ℕ) (f : Frame) (below : List Frame)
     (is_list : activity.areas ≡ list_of base (f ∷ below)) (c : ℕ) (sig : Signature)
     (runs : Runs code.program f.body c sig) (m : ActsHere code s.areas s.objects s.statics base f below c sig)
-    (place : Pos) where
+    (position : Pos) where
   faults_kept : (fault : RunFault) →
-      KeepsItsJob code s job activity base f below (applied code s job activity below place (Faults fault))
+      KeepsItsJob code s job activity base f below (applied code s job activity below position (Faults fault))
   unfolding applied
-  faults_kept fault = faults_so code facts s job activity is base f below is_list c sig m place fault
+  faults_kept fault = faults_so code facts s job activity is base f below is_list c sig m position fault
 
   pub applied_kept : (e : Effect) →
       EffectFine code (look (λ a. slice_get s.areas a) s.objects) (list_of base (f ∷ below)) c sig f e →
-      KeepsItsJob code s job activity base f below (applied code s job activity below place e)
-  applied_kept (Goes h) x = plain_goes code facts s job activity is base f below is_list c sig m place h x
+      KeepsItsJob code s job activity base f below (applied code s job activity below position e)
+  applied_kept (Goes h) x = plain_goes code facts s job activity is base f below is_list c sig m position h x
   applied_kept (Prints h label value) x =
-      prints_keep code facts s job activity is base f below is_list c sig m place h label value x
+      prints_keep code facts s job activity is base f below is_list c sig m position h label value x
   applied_kept (Makes h class values) x =
-      makes_kept code facts s job activity is base f below is_list c sig m place h class values x
+      makes_kept code facts s job activity is base f below is_list c sig m position h class values x
   applied_kept (Stores h r slot v) x =
-      stores_kept code facts s job activity is base f below is_list c sig m place h r slot v x
+      stores_kept code facts s job activity is base f below is_list c sig m position h r slot v x
   applied_kept (StoresStatic h n v) x =
-      statics_kept code facts s job activity is base f below is_list c sig m place h n v x
+      statics_kept code facts s job activity is base f below is_list c sig m position h n v x
   applied_kept (SetsHidden h r values) x =
-      hidden_kept code facts s job activity is base f below is_list c sig m place h r values x
+      hidden_kept code facts s job activity is base f below is_list c sig m position h r values x
   applied_kept (SetsCeiling h r ceiling) x =
-      ceiling_kept code facts s job activity is base f below is_list c sig m place h r ceiling x
-  applied_kept (Calls h g) x = calls_kept code facts s job activity is base f below is_list c sig m place h g x
+      ceiling_kept code facts s job activity is base f below is_list c sig m position h r ceiling x
+  applied_kept (Calls h g) x = calls_kept code facts s job activity is base f below is_list c sig m position h g x
   applied_kept (Opens h g scope bytes) x =
-      opens_kept code facts s job activity is base f below is_list c sig m place h g scope bytes x
+      opens_kept code facts s job activity is base f below is_list c sig m position h g scope bytes x
   applied_kept (Leaves h v) x =
-      leaves_kept code facts s job activity is base f below is_list c sig runs m place h v x.0 x.1
+      leaves_kept code facts s job activity is base f below is_list c sig runs m position h v x.0 x.1
   applied_kept (AsksRegistration h r) x =
-      registration_kept code facts s job activity is base f below is_list c sig m place h x.0 r x.1
+      registration_kept code facts s job activity is base f below is_list c sig m position h x.0 r x.1
   applied_kept (AsksRelease h r) x =
-      release_kept code facts s job activity is base f below is_list c sig m place h x.0 r
+      release_kept code facts s job activity is base f below is_list c sig m position h x.0 r
   applied_kept (AsksTermination h r) x =
-      termination_kept code facts s job activity is base f below is_list c sig m place h x.0 r
+      termination_kept code facts s job activity is base f below is_list c sig m position h x.0 r
   applied_kept (Faults fault) x = faults_kept fault
   applied_kept Stuck x = absurd x
 

@@ -51,15 +51,15 @@ unfolding IsOfType
 class_of_concrete code facts class concrete = let x = facts.concrete class concrete in x.0
 
 -- a waiting release becomes a started one
-begins_activity : (s : State) (place : ℕ) (r : Release) → slice_get s.releases place ≡ Some r → (a : Activity) →
-    activity_of (with_activity s (ReleaseAt place) a) (ReleaseAt place) ≡ Some a
+begins_activity : (s : State) (index : ℕ) (r : Release) → slice_get s.releases index ≡ Some r → (a : Activity) →
+    activity_of (with_activity s (ReleaseAt index) a) (ReleaseAt index) ≡ Some a
 unfolding activity_of with_activity activity_in
-begins_activity s place r there a =
+begins_activity s index r there a =
     ap (λ (o : Option Release). o >>= (λ r. activity_in r.status))
-    (changed_at (λ (r : Release). record r { status = Started a }) place s.releases r there)
+    (changed_at (λ (r : Release). record r { status = Started a }) index s.releases r there)
 
-module _ (code : Code) (facts : Facts code) (s : State) (place : ℕ) (r : Release)
-    (there : slice_get s.releases place ≡ Some r) (row : HandlerRow) (memory : MemoryFine code s)
+module _ (code : Code) (facts : Facts code) (s : State) (index : ℕ) (r : Release)
+    (there : slice_get s.releases index ≡ Some r) (row : HandlerRow) (memory : MemoryFine code s)
     (h : HandlerFine code s row) where
   abbrev low : List ℕ
   low = s.activity.areas
@@ -124,106 +124,106 @@ module _ (code : Code) (facts : Facts code) (s : State) (place : ℕ) (r : Relea
   abbrev opened : State
   opened = with_area s h.scope (Some inner) row.bytes
 
-  started : HasStarted code s place row h.scope inner (with_activity opened (ReleaseAt place) activity)
+  started : HasStarted code s index row h.scope inner (with_activity opened (ReleaseAt index) activity)
   started =
       record {
         stands = record {
           activity = activity;
-          is = begins_activity opened place r there activity;
+          is = begins_activity opened index r there activity;
           is_list = refl;
-          stands = memory_stays code opened (ReleaseAt place) activity low (frame ∷ []) stands;
+          stands = memory_stays code opened (ReleaseAt index) activity low (frame ∷ []) stands;
         };
         frame = frame;
         are = refl;
         opened = refl;
         priority = refl;
-        areas = areas_stay opened (ReleaseAt place) activity;
+        areas = areas_stay opened (ReleaseAt index) activity;
       }
 
   abbrev at : Pos
   at = class_place code.program row.class
 
-  starts_with : Starts code s place row h (Some (started_with code s place row h.scope h.handled.body))
+  starts_with : Starts code s index row h (Some (started_with code s index row h.scope h.handled.body))
   unfolding started_with opening
   starts_with =
-      subst (λ o. Starts code s place row h (Some (with_inner o))) (sym h.may_open.is_inner)
+      subst (λ o. Starts code s index row h (Some (with_inner o))) (sym h.may_open.is_inner)
       (go (has_store_for s row.bytes))
     where
       with_inner : Option ℕ → Step
       with_inner o =
           if has_store_for s row.bytes
-          then silently (with_activity (with_area s h.scope o row.bytes) (ReleaseAt place) activity)
-          else fault_in s (ReleaseAt place) no_activity at StoreFull
+          then silently (with_activity (with_area s h.scope o row.bytes) (ReleaseAt index) activity)
+          else fault_in s (ReleaseAt index) no_activity at StoreFull
 
-      go : (t : Bool) → Starts code s place row h
-          (Some (if t then silently (with_activity opened (ReleaseAt place) activity)
-          else fault_in s (ReleaseAt place) no_activity at StoreFull))
+      go : (t : Bool) → Starts code s index row h
+          (Some (if t then silently (with_activity opened (ReleaseAt index) activity)
+          else fault_in s (ReleaseAt index) no_activity at StoreFull))
       go true =
           record {
             step = _;
             is = refl;
             either = inl started;
-            registry = registry_stays opened (ReleaseAt place) activity;
+            registry = registry_stays opened (ReleaseAt index) activity;
           }
       go false =
           record {
             step = _;
             is = refl;
-            either = inr (faulted code s (ReleaseAt place) no_activity (r, there) memory at StoreFull);
-            registry = fault_keeps_registry s (ReleaseAt place) no_activity at StoreFull;
+            either = inr (faulted code s (ReleaseAt index) no_activity (r, there) memory at StoreFull);
+            registry = fault_keeps_registry s (ReleaseAt index) no_activity at StoreFull;
           }
 
   -- the operation itself
   start_is : handler_row s.registry r.handler ≡ Some row →
-      start_op code s place r ≡ Some (started_with code s place row h.scope h.handled.body)
+      start_op code s index r ≡ Some (started_with code s index row h.scope h.handled.body)
   unfolding start_op
   start_is e =
       ap (λ (o : Option HandlerRow). o >>= (λ row. defined_by_chain code.program row.class >>= (λ scope.
       body_named code.program row.class (codes "handleAsyncEvent") >>= (λ body.
-      Some (started_with code s place row scope body))))) e
+      Some (started_with code s index row scope body))))) e
       ∙ (ap (λ o. o >>= (λ scope. body_named code.program row.class (codes "handleAsyncEvent") >>= (λ body.
-      Some (started_with code s place row scope body)))) h.handled.defines
-      ∙ ap (λ o. o >>= (λ body. Some (started_with code s place row h.scope body))) h.handled.is)
+      Some (started_with code s index row scope body)))) h.handled.defines
+      ∙ ap (λ o. o >>= (λ body. Some (started_with code s index row h.scope body))) h.handled.is)
 
-  pub starts : handler_row s.registry r.handler ≡ Some row → Starts code s place row h (start_op code s place r)
-  starts e = subst (Starts code s place row h) (sym (start_is e)) starts_with
+  pub starts : handler_row s.registry r.handler ≡ Some row → Starts code s index row h (start_op code s index r)
+  starts e = subst (Starts code s index row h) (sym (start_is e)) starts_with
 
 -- ---- the others
 
-pub start_keeps : (code : Code) (s : State) (place : ℕ) (r : Release) (step : Step) →
-    start_op code s place r ≡ Some step →
-    KeepsOthers s (ReleaseAt place) [] step.state
+pub start_keeps : (code : Code) (s : State) (index : ℕ) (r : Release) (step : Step) →
+    start_op code s index r ≡ Some step →
+    KeepsOthers s (ReleaseAt index) [] step.state
 unfolding start_op started_with opening
-start_keeps code s place r step e = by_row (handler_row s.registry r.handler) e
+start_keeps code s index r step e = by_row (handler_row s.registry r.handler) e
   where
     by_room : (row : HandlerRow) (scope : ℕ) (a : Activity) (t : Bool) →
-        KeepsOthers s (ReleaseAt place) [] (if t
-        then silently (with_activity (with_area s scope (innermost s.activity.areas) row.bytes) (ReleaseAt place) a)
-        else fault_in s (ReleaseAt place) no_activity (class_place code.program row.class) StoreFull).state
+        KeepsOthers s (ReleaseAt index) [] (if t
+        then silently (with_activity (with_area s scope (innermost s.activity.areas) row.bytes) (ReleaseAt index) a)
+        else fault_in s (ReleaseAt index) no_activity (class_place code.program row.class) StoreFull).state
     by_room row scope a true =
-        keeps_then s (ReleaseAt place) [] (with_area s scope (innermost s.activity.areas) row.bytes) _ (λ p e. e)
-        (memory_keeps s (ReleaseAt place) [] _ s.objects s.statics
+        keeps_then s (ReleaseAt index) [] (with_area s scope (innermost s.activity.areas) row.bytes) _ (λ p e. e)
+        (memory_keeps s (ReleaseAt index) [] _ s.objects s.statics
         (λ b x there. inl (get_left s.areas _ b x there)) (object_is s))
-        (activity_keeps _ (ReleaseAt place) [] a)
+        (activity_keeps _ (ReleaseAt index) [] a)
     by_room row scope a false =
-        fault_keeps s (ReleaseAt place) no_activity (class_place code.program row.class) StoreFull
+        fault_keeps s (ReleaseAt index) no_activity (class_place code.program row.class) StoreFull
 
     by_body : (row : HandlerRow) (scope : ℕ) (o : Option Body) →
-        o >>= (λ body. Some (started_with code s place row scope body)) ≡ Some step →
-        KeepsOthers s (ReleaseAt place) [] step.state
+        o >>= (λ body. Some (started_with code s index row scope body)) ≡ Some step →
+        KeepsOthers s (ReleaseAt index) [] step.state
     by_body row scope None e = absurd (cc (e))
     by_body row scope (Some body) e =
-        subst (λ (q : Step). KeepsOthers s (ReleaseAt place) [] q.state) (some_inj _ step e)
+        subst (λ (q : Step). KeepsOthers s (ReleaseAt index) [] q.state) (some_inj _ step e)
         (by_room row scope _ (has_store_for s row.bytes))
 
     by_scope : (row : HandlerRow) (o : Option ℕ) → o >>= (λ scope.
         body_named code.program row.class (codes "handleAsyncEvent") >>= (λ body.
-        Some (started_with code s place row scope body))) ≡ Some step → KeepsOthers s (ReleaseAt place) [] step.state
+        Some (started_with code s index row scope body))) ≡ Some step → KeepsOthers s (ReleaseAt index) [] step.state
     by_scope row None e = absurd (cc (e))
     by_scope row (Some scope) e = by_body row scope (body_named code.program row.class (codes "handleAsyncEvent")) e
 
     by_row : (o : Option HandlerRow) → o >>= (λ row. defined_by_chain code.program row.class >>= (λ scope.
         body_named code.program row.class (codes "handleAsyncEvent") >>= (λ body.
-        Some (started_with code s place row scope body)))) ≡ Some step → KeepsOthers s (ReleaseAt place) [] step.state
+        Some (started_with code s index row scope body)))) ≡ Some step → KeepsOthers s (ReleaseAt index) [] step.state
     by_row None e = absurd (cc (e))
     by_row (Some row) e = by_scope row (defined_by_chain code.program row.class) e

@@ -121,9 +121,9 @@ EffectFine code w list c sig f (Prints h label value) = GoesOn code w list c sig
 EffectFine code w list c sig f (Makes h class values) = MakeFine code w list c sig f h class values
 EffectFine code w list c sig f (Stores h r slot v) =
     GoesOn code w list c sig f h None × StoreFine code.program w r slot v
-EffectFine code w list c sig f (StoresStatic h place v) =
+EffectFine code w list c sig f (StoresStatic h index v) =
     GoesOn code w list c sig f h None
-    × ((k : Kind) → kind_of_static code.program place ≡ Some k → Has code.program w (held (within w.areas 0) k) v)
+    × ((k : Kind) → kind_of_static code.program index ≡ Some k → Has code.program w (held (within w.areas 0) k) v)
 EffectFine code w list c sig f (SetsHidden h r values) =
     GoesOn code w list c sig f h None × HiddenFine code.program w r values
 EffectFine code w list c sig f (SetsCeiling h r ceiling) = GoesOn code w list c sig f h None × IsThere w r

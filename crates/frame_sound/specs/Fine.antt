@@ -107,13 +107,13 @@ abbrev pub HeapFine : Declarations → World → Type 0
 HeapFine p w = (r : ℕ) (o : Object) → w.objects r ≡ Some o → ObjectFine p w o
 
 -- each static field's value lies in immortal memory
-pub record StaticFine (p : Declarations) (w : World) (statics : List Value) (place : ℕ) (k : Kind) : Type 0 where
+pub record StaticFine (p : Declarations) (w : World) (statics : List Value) (index : ℕ) (k : Kind) : Type 0 where
   pub value : Value
-  pub is : slice_get statics place ≡ Some value
+  pub is : slice_get statics index ≡ Some value
   pub has : Has p w (held (within w.areas 0) k) value
 
 abbrev pub StaticsFine : Declarations → World → List Value → Type 0
-StaticsFine p w statics = (place : ℕ) (k : Kind) → kind_of_static p place ≡ Some k → StaticFine p w statics place k
+StaticsFine p w statics = (index : ℕ) (k : Kind) → kind_of_static p index ≡ Some k → StaticFine p w statics index k
 
 -- ---- frames
 

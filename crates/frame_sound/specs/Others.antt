@@ -25,13 +25,13 @@ pub record ObjectStays (after : State) (r : ℕ) (o : Object) : Type 0 where
   pub size : length object.slots ≡ length o.slots
 
 -- a release that isn't the job's own is as it was, or was waiting and is dropped
-pub record ReleaseStays (after : State) (job : Job) (place : ℕ) (r : Release) : Type 0 where
+pub record ReleaseStays (after : State) (job : Job) (index : ℕ) (r : Release) : Type 0 where
   pub release : Release
-  pub found : slice_get after.releases place ≡ Some release
+  pub found : slice_get after.releases index ≡ Some release
   pub handler : release.handler ≡ r.handler
   pub number : release.number ≡ r.number
   pub status : (release.status ≡ r.status)
-      ⊎ ((job ≡ ReleaseAt place) ⊎ ((r.status ≡ Waits) × (release.status ≡ Dropped)))
+      ⊎ ((job ≡ ReleaseAt index) ⊎ ((r.status ≡ Waits) × (release.status ≡ Dropped)))
 
 -- the sequencer stands before the operation that it stood before; a fault of its own ends the run
 abbrev pub SequencerStays : State → Job → State → Type 0
@@ -58,16 +58,16 @@ IsRegistered s handler = (row : HandlerRow) × (handler_row s.registry handler �
 -- releases wait only while they are taken in
 abbrev pub OnlyTakenWait : State → Type 0
 OnlyTakenWait s =
-    (place : ℕ) (r : Release) → slice_get s.releases place ≡ Some r → is_waiting r.status ≡ true →
+    (index : ℕ) (r : Release) → slice_get s.releases index ≡ Some r → is_waiting r.status ≡ true →
     takes_releases s ≡ true
 
 -- a job with these frames does an operation that leads to the state `after`
 pub record KeepsOthers (s : State) (job : Job) (frames : List Frame) (after : State) : Type 0 where
   pub areas : (a : ℕ) (x : MemoryArea) → area_at s a ≡ Some x → AreaStays after frames a x
   pub objects : (r : ℕ) (o : Object) → object_at s r ≡ Some o → ObjectStays after r o
-  pub releases : (place : ℕ) (r : Release) → slice_get s.releases place ≡ Some r → ReleaseStays after job place r
-  pub new_releases : (place : ℕ) (r : Release) → slice_get s.releases place ≡ None →
-      slice_get after.releases place ≡ Some r → (r.status ≡ Waits) × IsRegistered after r.handler
+  pub releases : (index : ℕ) (r : Release) → slice_get s.releases index ≡ Some r → ReleaseStays after job index r
+  pub new_releases : (index : ℕ) (r : Release) → slice_get s.releases index ≡ None →
+      slice_get after.releases index ≡ Some r → (r.status ≡ Waits) × IsRegistered after r.handler
   -- unless the run has ended
   pub waiting : after.phase ≡ s.phase → OnlyTakenWait s → OnlyTakenWait after
   pub registry : (rows : List HandlerRow) × (after.registry ≡ s.registry ++ rows)

@@ -83,9 +83,9 @@ pub record IsClosedBehind (s : State) (frames : List Frame) (after : State) : Ty
   pub statics : after.statics ≡ s.statics
 
 -- the release at this place has ended
-pub record HasEnded (s : State) (place : ℕ) : Type 0 where
+pub record HasEnded (s : State) (index : ℕ) : Type 0 where
   pub release : Release
-  pub is : slice_get s.releases place ≡ Some release
+  pub is : slice_get s.releases index ≡ Some release
   pub ended : release.status ≡ Ended
 
 -- the operation of the sequencer is done with this value, or null, and the sequencer has what it had without frames
@@ -96,7 +96,7 @@ pub record IsDone (s : State) (base : List ℕ) (value : Option Value) : Type 0 
 
 abbrev pub ComesToEnd : State → Job → List ℕ → Option Value → Type 0
 ComesToEnd s TheSequencer base value = IsDone s base value
-ComesToEnd s (ReleaseAt place) base value = HasEnded s place
+ComesToEnd s (ReleaseAt index) base value = HasEnded s index
 
 -- the job has left its last frame, with a value if its body gives one
 pub record HasLeft (code : Code) (s : State) (job : Job) (base : List ℕ) (last : Frame) (after : State) : Type 0 where
@@ -117,18 +117,18 @@ pub record HasLeft (code : Code) (s : State) (job : Job) (base : List ℕ) (last
   pub list : last.opened ≡ None → ListFine (world_of after).areas base
 
 -- a fault ends a release and closes what its frames opened; of the sequencer it halts the run, and changes nothing else
-pub record IsClosedDown (s : State) (place : ℕ) (frames : List Frame) (after : State) : Type 0 where
+pub record IsClosedDown (s : State) (index : ℕ) (frames : List Frame) (after : State) : Type 0 where
   pub closed : IsClosedBehind s frames after
-  pub ended : HasEnded after place
+  pub ended : HasEnded after index
 
 abbrev pub ComesToFault : State → Job → List Frame → State → Type 0
 ComesToFault s TheSequencer frames after = after ≡ record s { phase = Over; operation = Finished; outcome = None }
-ComesToFault s (ReleaseAt place) frames after = IsClosedDown s place frames after
+ComesToFault s (ReleaseAt index) frames after = IsClosedDown s index frames after
 
 pub record HasFaulted (code : Code) (s : State) (job : Job) (activity : Activity) (step : Step) : Type 0 where
-  pub place : Pos
+  pub position : Pos
   pub fault : RunFault
-  pub is : step ≡ fault_in s job activity place fault
+  pub is : step ≡ fault_in s job activity position fault
   pub memory : MemoryFine code step.state
   pub ends : ComesToFault s job activity.frames step.state
 

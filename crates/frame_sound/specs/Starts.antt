@@ -55,9 +55,9 @@ pub record HandlerFine (code : Code) (s : State) (row : HandlerRow) : Type 0 whe
 -- ---- what it leads to
 
 -- the release has one frame, which has opened the new area, over the memories of the sequencer
-pub record HasStarted (code : Code) (s : State) (place : ℕ) (row : HandlerRow) (scope inner : ℕ)
+pub record HasStarted (code : Code) (s : State) (index : ℕ) (row : HandlerRow) (scope inner : ℕ)
     (after : State) : Type 0 where
-  pub stands : JobStands code after (ReleaseAt place) s.activity.areas
+  pub stands : JobStands code after (ReleaseAt index) s.activity.areas
   pub frame : Frame
   pub are : stands.activity.frames ≡ frame ∷ []
   pub opened : frame.opened ≡ Some (length s.areas)
@@ -66,10 +66,10 @@ pub record HasStarted (code : Code) (s : State) (place : ℕ) (row : HandlerRow)
       ≡ s.areas ++ record { scope = scope; parent = Some inner; bytes = row.bytes; is_open = true } ∷ []
 
 -- there is a result: the release has started, or a fault has ended it
-pub record Starts (code : Code) (s : State) (place : ℕ) (row : HandlerRow) (handler : HandlerFine code s row)
+pub record Starts (code : Code) (s : State) (index : ℕ) (row : HandlerRow) (handler : HandlerFine code s row)
     (o : Option Step) : Type 0 where
   pub step : Step
   pub is : o ≡ Some step
-  pub either : HasStarted code s place row handler.scope handler.may_open.inner step.state
-      ⊎ HasFaulted code s (ReleaseAt place) no_activity step
+  pub either : HasStarted code s index row handler.scope handler.may_open.inner step.state
+      ⊎ HasFaulted code s (ReleaseAt index) no_activity step
   pub registry : step.state.registry ≡ s.registry

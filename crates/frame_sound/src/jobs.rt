@@ -33,12 +33,12 @@ pub fn operations_keep_their_job()
 /// A release whose handler is as the rules say (`HandlerFine`) has a first operation: it starts, with one frame in a
 /// private memory inside the innermost one of the sequencer's, or a fault ends it. All other jobs stand as they stood.
 pub fn releases_start()
-    ensures own { (code : Code) → Facts code → (s : State) (place : ℕ) (r : Release) (row : Row) →
-        slice_get s.releases place ≡ Some r → handler_row s.registry r.handler ≡ Some row → MemoryFine code s →
-        (handler : HandlerFine code s row) → Starts code s place row handler (start_op code s place r) }
-    ensures others { (code : Code) (s : State) (place : ℕ) (r : Release) (step : Step) →
-        start_op code s place r ≡ Some step →
-        KeepsOthers s (ReleaseAt place) [] step.state × OthersStand s (ReleaseAt place) step.state }
+    ensures own { (code : Code) → Facts code → (s : State) (index : ℕ) (r : Release) (row : Row) →
+        slice_get s.releases index ≡ Some r → handler_row s.registry r.handler ≡ Some row → MemoryFine code s →
+        (handler : HandlerFine code s row) → Starts code s index row handler (start_op code s index r) }
+    ensures others { (code : Code) (s : State) (index : ℕ) (r : Release) (step : Step) →
+        start_op code s index r ≡ Some step →
+        KeepsOthers s (ReleaseAt index) [] step.state × OthersStand s (ReleaseAt index) step.state }
 {}
 
 /// Where all jobs stand, the next operation of each job that is under way has a result in which all jobs stand, and so
@@ -49,10 +49,10 @@ pub fn all_jobs_stand()
         (activity : Activity) (f : Frame) (below : List Frame) → AllStand code s base →
         activity_of s job ≡ Some activity → activity.frames ≡ f ∷ below →
         LetsAllStand code base (frame_op code rows s job activity) }
-    ensures starts { (code : Code) → Facts code → (s : State) (base : List ℕ) (place : ℕ) (r : Release) (row : Row) →
-        AllStand code s base → s.activity.frames ≡ [] → slice_get s.releases place ≡ Some r → r.status ≡ Waits →
+    ensures starts { (code : Code) → Facts code → (s : State) (base : List ℕ) (index : ℕ) (r : Release) (row : Row) →
+        AllStand code s base → s.activity.frames ≡ [] → slice_get s.releases index ≡ Some r → r.status ≡ Waits →
         handler_row s.registry r.handler ≡ Some row → HandlerFine code s row →
-        LetsAllStand code base (start_op code s place r) }
+        LetsAllStand code base (start_op code s index r) }
     ensures nested { (code : Code) (s : State) (base : List ℕ) (a b : ℕ) (x : MemoryArea) → AllStand code s base →
         area_at s a ≡ Some x → x.is_open ≡ true → x.parent ≡ Some b → is_open_area s b ≡ true }
 {}

@@ -32,18 +32,18 @@ SetsItsHidden p s e = Unit {0}
 module _ (p : Declarations) where
   -- ---- what every effect may do
 
-  pub fault_fits : (s : State) (job : Job) (a : Activity) (place : Pos) (fault : RunFault) → StateFits p s →
-      StepFits p (fault_in s job a place fault)
+  pub fault_fits : (s : State) (job : Job) (a : Activity) (position : Pos) (fault : RunFault) → StateFits p s →
+      StepFits p (fault_in s job a position fault)
   unfolding fault_in
-  fault_fits s TheSequencer a place fault h =
+  fault_fits s TheSequencer a position fault h =
       record {
         state = alike p s _ h refl refl refl refl refl refl;
-        events = two_events p (event.Fault s.unit fault place) (event.Halted s.unit) tt tt;
+        events = two_events p (event.Fault s.unit fault position) (event.Halted s.unit) tt tt;
       }
-  fault_fits s (ReleaseAt n) a place fault h =
+  fault_fits s (ReleaseAt n) a position fault h =
       record {
         state = status_fits p (closed_all s a.frames) n Ended (closed_all_fits p a.frames s h) (ended p);
-        events = All-cons PrintsInt (event.Fault s.unit fault place) _ tt
+        events = All-cons PrintsInt (event.Fault s.unit fault position) _ tt
             (elim_events p (slice_get s.releases n) (λ (r : Release). event.End s.unit r.handler r.number ∷ [])
             (λ r. one_event p (event.End s.unit r.handler r.number) tt));
       }
@@ -78,24 +78,24 @@ module _ (p : Declarations) where
       (elim_events p (slice_get s.releases n) (λ (r : Release). event.Prio s.unit r.handler after ∷ [])
       (λ r. one_event p (event.Prio s.unit r.handler after) tt))
 
-  pub opening_fits : (s : State) (job : Job) (a : Activity) (place : Pos) (scope : ℕ) (parent : Option ℕ) (bytes : ℕ)
+  pub opening_fits : (s : State) (job : Job) (a : Activity) (position : Pos) (scope : ℕ) (parent : Option ℕ) (bytes : ℕ)
       (next : State → ℕ → Step) → StateFits p s →
       (StateFits p (with_area s scope parent bytes) → StepFits p (next (with_area s scope parent bytes) (length s.areas))) →
-      StepFits p (opening s job a place scope parent bytes next)
+      StepFits p (opening s job a position scope parent bytes next)
   unfolding opening
-  opening_fits s job a place scope parent bytes next h more =
+  opening_fits s job a position scope parent bytes next h more =
       good_if (StepFits p) (has_store_for s bytes) _ _ (λ e. more (opened_fits p s scope parent bytes h e))
-      (λ e. fault_fits s job a place _ h)
+      (λ e. fault_fits s job a position _ h)
 
-  pub making_fits : (s : State) (job : Job) (a : Activity) (place : Pos) (class area : ℕ) (slots : List Value)
+  pub making_fits : (s : State) (job : Job) (a : Activity) (position : Pos) (class area : ℕ) (slots : List Value)
       (next : State → ℕ → Step) → StateFits p s → All FitsInt slots →
       (StateFits p (with_object s class area slots) →
       StepFits p (next (with_object s class area slots) (length s.objects))) →
-      StepFits p (allocating s job a place class area slots next)
+      StepFits p (allocating s job a position class area slots next)
   unfolding allocating
-  making_fits s job a place class area slots next h fit more =
+  making_fits s job a position class area slots next h fit more =
       good_if (StepFits p) (has_room s area (length slots)) _ _ (λ e. more (object_fits p s class area slots h e fit))
-      (λ e. fault_fits s job a place _ h)
+      (λ e. fault_fits s job a position _ h)
 
   -- ---- releases
 
@@ -146,7 +146,7 @@ module _ (p : Declarations) where
       (λ e. silent_fits p s h)
 
   module _ (code : Code) (s : State) (h : StateFits p s) (job : Job) (a : Activity) (below : List Frame)
-      (under : All FrameFits below) (place : Pos) where
+      (under : All FrameFits below) (position : Pos) where
     frames_fit : (f : Frame) → FrameFits f → All FrameFits (f ∷ below)
     frames_fit f k = All-cons FrameFits f below k under
 
@@ -158,15 +158,15 @@ module _ (p : Declarations) where
 
     -- ---- calls and leaving
 
-    called_fits : (f g : Frame) → FrameFits f → FrameFits g → StepFits p (called code s job a (f ∷ below) place g)
+    called_fits : (f g : Frame) → FrameFits f → FrameFits g → StepFits p (called code s job a (f ∷ below) position g)
     unfolding called
     called_fits f g k l =
-        good_if (StepFits p) (is_full (f ∷ below)) _ _ (λ e. fault_fits s job a place _ h)
+        good_if (StepFits p) (is_full (f ∷ below)) _ _ (λ e. fault_fits s job a position _ h)
         (λ e. good_option (StepFits p) (ceiling_entered code s g) _ _
         (λ i. silent_fits p _
         (active_fits p s job (record a { frames = g ∷ (f ∷ below) }) h
         (All-cons FrameFits g (f ∷ below) l (frames_fit f k))))
-        (λ ceiling i. good_if (StepFits p) (nat_lt ceiling a.priority) _ _ (λ n. fault_fits s job a place _ h)
+        (λ ceiling i. good_if (StepFits p) (nat_lt ceiling a.priority) _ _ (λ n. fault_fits s job a position _ h)
         (λ n. record {
           state = active_fits p s job _ h
               (All-cons FrameFits (record g { saved = Some a.priority }) (f ∷ below)
@@ -175,12 +175,12 @@ module _ (p : Declarations) where
         })))
 
     opens_fits : (f g : Frame) (scope bytes : ℕ) → FrameFits f → FrameFits g →
-        StepFits p (opened_in s job a (f ∷ below) place g scope bytes)
+        StepFits p (opened_in s job a (f ∷ below) position g scope bytes)
     unfolding opened_in
     opens_fits f g scope bytes k l =
-        good_if (StepFits p) (is_some (area_with_scope s scope a.areas)) _ _ (λ e. fault_fits s job a place _ h)
-        (λ e. good_if (StepFits p) (is_full (f ∷ below)) _ _ (λ i. fault_fits s job a place _ h)
-        (λ i. opening_fits s job a place scope (Some g.area) bytes _ h
+        good_if (StepFits p) (is_some (area_with_scope s scope a.areas)) _ _ (λ e. fault_fits s job a position _ h)
+        (λ e. good_if (StepFits p) (is_full (f ∷ below)) _ _ (λ i. fault_fits s job a position _ h)
+        (λ i. opening_fits s job a position scope (Some g.area) bytes _ h
         (λ t. silent_fits p _
         (active_fits p (with_area s scope (Some g.area) bytes) job _ t
         (All-cons FrameFits (record g { area = length s.areas; opened = Some (length s.areas) }) (f ∷ below)
@@ -234,13 +234,13 @@ module _ (p : Declarations) where
     -- ---- registration
 
     registered_fits : (f : Frame) (r : ℕ) (o : Object) → FrameFits f →
-        StepFits p (registered code s job a place r o (with_frame s job a f below))
+        StepFits p (registered code s job a position r o (with_frame s job a f below))
     unfolding registered
     registered_fits f r o k =
-        good_if (StepFits p) (not (is_init s.phase)) _ _ (λ e. fault_fits s job a place _ h)
+        good_if (StepFits p) (not (is_init s.phase)) _ _ (λ e. fault_fits s job a position _ h)
         (λ e. good_if (StepFits p) (is_some (handler_number s.registry r)) _ _ (λ i. goes_fits s f h k)
         (λ i. good_if (StepFits p) (not (nat_lt (length s.registry) most_handlers)) _ _
-        (λ l. fault_fits s job a place _ h)
+        (λ l. fault_fits s job a position _ h)
         (λ l. record {
           state = alike p (with_frame s job a f below) _ (frame_goes s f h k) refl refl refl refl refl refl;
           events = one_event p _ tt;
@@ -249,7 +249,7 @@ module _ (p : Declarations) where
     -- ---- all effects
 
     pub applied_fits : (e : Effect) → EffectFits e → SetsItsHidden p s e →
-        GoodIf (StepFits p) (applied code s job a below place e)
+        GoodIf (StepFits p) (applied code s job a below position e)
     unfolding applied
     applied_fits (Goes f) k l = some_good (StepFits p) _ (goes_fits s f h k)
     applied_fits (Prints f text value) k l =
@@ -257,7 +257,7 @@ module _ (p : Declarations) where
         (record { state = frame_goes s f h k.0; events = one_event p (event.Print s.unit text value) k.1 })
     applied_fits (Makes f class slots) k l =
         some_good (StepFits p) _
-        (making_fits s job a place class f.area slots _ h k.1
+        (making_fits s job a position class f.area slots _ h k.1
         (λ t. goes_fits (with_object s class f.area slots) (record f { operands = At (length s.objects) ∷ f.operands }) t
         (record {
           locals = k.0.locals;
@@ -273,7 +273,7 @@ module _ (p : Declarations) where
     applied_fits (SetsCeiling f r ceiling) k l =
         either_good (StepFits p) (is_sequencer job) _ _
         (λ e. some_good (StepFits p) _ (goes_fits _ f (ceiling_is_fit p s r ceiling h) k))
-        (λ e. some_good (StepFits p) _ (fault_fits s job a place _ h))
+        (λ e. some_good (StepFits p) _ (fault_fits s job a position _ h))
     applied_fits (Calls f g) k l = some_good (StepFits p) _ (called_fits f g k.0 k.1)
     applied_fits (Opens f g scope bytes) k l = some_good (StepFits p) _ (opens_fits f g scope bytes k.0 k.1)
     applied_fits (Leaves f value) k l = some_good (StepFits p) _ (left_fits f value k)
@@ -283,5 +283,5 @@ module _ (p : Declarations) where
         some_good (StepFits p) _ (released_fits (with_frame s job a f below) r (frame_goes s f h k))
     applied_fits (AsksTermination f r) k l =
         some_good (StepFits p) _ (asked_fits (with_frame s job a f below) r (frame_goes s f h k))
-    applied_fits (Faults fault) k l = some_good (StepFits p) _ (fault_fits s job a place fault h)
+    applied_fits (Faults fault) k l = some_good (StepFits p) _ (fault_fits s job a position fault h)
     applied_fits Stuck k l = nothing_good (StepFits p)

@@ -35,11 +35,11 @@ negative (suc n) l = record { sfits = omega (arith, l) }
 
 literal_fits : (node : Node) (value : Value) → HasInt node → literal_value node ≡ Some value → FitsInt value
 unfolding literal_value HasInt
-literal_fits (Number place n true) value h e = subst FitsInt (some_inj (Int (neg_ℤ (pos n))) value e) (negative n h)
-literal_fits (Number place n false) value h e = subst FitsInt (some_inj (Int (pos n)) value e) (positive n h)
-literal_fits (True place) value h e = subst FitsInt (some_inj (Truth true) value e) tt
-literal_fits (False place) value h e = subst FitsInt (some_inj (Truth false) value e) tt
-literal_fits (NullNode place) value h e = subst FitsInt (some_inj Null value e) tt
+literal_fits (Number position n true) value h e = subst FitsInt (some_inj (Int (neg_ℤ (pos n))) value e) (negative n h)
+literal_fits (Number position n false) value h e = subst FitsInt (some_inj (Int (pos n)) value e) (positive n h)
+literal_fits (True position) value h e = subst FitsInt (some_inj (Truth true) value e) tt
+literal_fits (False position) value h e = subst FitsInt (some_inj (Truth false) value e) tt
+literal_fits (NullNode position) value h e = subst FitsInt (some_inj Null value e) tt
 literal_fits _ value h e = absurd (cc (e))
 
 pub node_fits : (nodes : List Node) → HasInts nodes → (id : ℕ) (value : Value) →

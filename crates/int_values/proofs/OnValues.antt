@@ -69,10 +69,10 @@ module _ (code : Code) (world : Environment) (known : Known code world) (f : Fra
   unfolding effect_of
   get_static_fits id =
       any_given (bound_static (binding code id)) _ (λ field e.
-      any_given (static_place code.program field) _ (λ place g.
-      any_given (slice_get world.statics place) _ (λ value there.
+      any_given (static_place code.program field) _ (λ index g.
+      any_given (slice_get world.statics index) _ (λ value there.
       goes_with _ fits.locals
-      (more value f.operands (all_at FitsInt world.statics place value known.statics there) fits.operands))))
+      (more value f.operands (all_at FitsInt world.statics index value known.statics there) fits.operands))))
 
   pub length_is_fit : (id : ℕ) → Does (LENGTH id)
   unfolding effect_of

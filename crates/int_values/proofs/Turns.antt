@@ -134,16 +134,16 @@ module _ (code : Code) (rows : List ReadingRow) where
           releases = g.releases;
         }
 
-    area_fits : (place : Pos) (scope bytes : ℕ) → StepFits code.program (area_opened s place scope bytes)
+    area_fits : (position : Pos) (scope bytes : ℕ) → StepFits code.program (area_opened s position scope bytes)
     unfolding area_opened
-    area_fits place scope bytes =
-        opening_fits code.program s TheSequencer s.activity place scope (innermost s.activity.areas) bytes _ h
+    area_fits position scope bytes =
+        opening_fits code.program s TheSequencer s.activity position scope (innermost s.activity.areas) bytes _ h
         (λ t. silent_fits code.program _ (seq_fits (with_area s scope (innermost s.activity.areas) bytes) _ _ t h.sequencer))
 
-    safelet_fits : (place : Pos) (class area : ℕ) → StepFits code.program (safelet_made code s place class area)
+    safelet_fits : (position : Pos) (class area : ℕ) → StepFits code.program (safelet_made code s position class area)
     unfolding safelet_made
-    safelet_fits place class area =
-        making_fits code.program s TheSequencer s.activity place class area (new_slots code.program class) _ h
+    safelet_fits position class area =
+        making_fits code.program s TheSequencer s.activity position class area (new_slots code.program class) _ h
         (slots_fit code.program class)
         (λ t. silent_fits code.program _
         (seq_fits (with_object s class area (new_slots code.program class)) s.activity _ t h.sequencer))

@@ -33,7 +33,7 @@ pub enum Effect {
     },
     /// It stores a value into a static field.
     StoresStatic {
-        place: usize,
+        index: usize,
         value: Value,
     },
     /// It sets the hidden fields of an object.

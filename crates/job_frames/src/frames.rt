@@ -29,7 +29,7 @@ pub struct Frame {
     /// Its operands.
     pub operands: Operands,
     /// The place of its next operation in the list of operations.
-    pub place: u32,
+    pub index: u32,
     /// The object that is `this`.
     pub this: Option<Ref>,
     /// The area in which it makes objects.
@@ -74,7 +74,7 @@ impl Frame {
             called_at: call.called_at,
             locals,
             operands: Operands::new(alloc),
-            place: row.start,
+            index: row.start,
             this: call.this,
             area: call.area,
             saved: None,
@@ -138,18 +138,18 @@ impl Frame {
     #[inline]
     pub fn next(&mut self, code: &OpList<'_>) -> Option<Row>
         ensures some { IfSome result (λ row.
-            rest_at code.now.rows self.old.place ≡ row.op ∷ rest_at code.now.rows self.new.place) }
-        ensures none { IfNone result (rest_at code.now.rows self.old.place ≡ []) }
+            rest_at code.now.rows self.old.position ≡ row.op ∷ rest_at code.now.rows self.new.position) }
+        ensures none { IfNone result (rest_at code.now.rows self.old.position ≡ []) }
         ensures asks { IfSome result (λ row.
             row.instruction ≡ instruction_of (code_of code.now.program) row.op) }
         ensures goes { IfSome result (λ row.
-            GoesBy (code_of code.now.program) code.now.rows row self.new.place) }
-        ensures same { self.new ≡ record self.old { place = self.new.place } }
+            GoesBy (code_of code.now.program) code.now.rows row self.new.position) }
+        ensures same { self.new ≡ record self.old { place = self.new.position } }
         ensures opened { self.new.opened ≡ self.old.opened }
     {
-        match code.at(self.place) {
+        match code.at(self.position) {
             Some(row) => {
-                self.place = row.next;
+                self.position = row.next;
                 Some(row)
             }
             None => None,
@@ -161,7 +161,7 @@ impl Frame {
     pub fn branch(&mut self, row: &Row, condition: bool)
         ensures { self.new ≡ record self.old { place = target row.now condition } }
     {
-        self.place = target(row, condition);
+        self.position = target(row, condition);
     }
 
     /// The object whose monitor it holds: that of a synchronized method's (JLS 8.4.3.6).

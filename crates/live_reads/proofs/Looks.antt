@@ -104,7 +104,7 @@ enter_of code look id runnable size x =
 
 abbrev pub execute_of : Code → Look → ℕ → Value → Value → Frame → Effect
 execute_of code look id runnable object x =
-    as_object object (λ place. as_object runnable (λ r. given (look place) (λ (there : Object).
+    as_object object (λ position. as_object runnable (λ r. given (look position) (λ (there : Object).
     given (look r) (λ (o : Object). given (body_named code.program o.class (codes "run")) (λ body.
     Calls x (new_frame code body (Some id) (Some r) there.area []))))))
 
@@ -212,10 +212,10 @@ module _ (code : Code) (w : Environment) (h : ℕ → Option Object) where
   execute_value id runnable (Int z) x a b = refl
   execute_value id runnable (Truth z) x a b = refl
   execute_value id runnable Null x a b = refl
-  execute_value id (Int z) (At place) x a b = refl
-  execute_value id (Truth z) (At place) x a b = refl
-  execute_value id Null (At place) x a b = refl
-  execute_value id (At r) (At place) x a b =
+  execute_value id (Int z) (At position) x a b = refl
+  execute_value id (Truth z) (At position) x a b = refl
+  execute_value id Null (At position) x a b = refl
+  execute_value id (At r) (At position) x a b =
       ap₂ (λ (p q : Option Object). given p (λ (there : Object). given q (λ (o : Object).
       given (body_named code.program o.class (codes "run")) (λ body.
       Calls x (new_frame code body (Some id) (Some r) there.area []))))) b a

@@ -34,10 +34,10 @@ in_live s TheSequencer activity r e c =
     let same : s.activity ≡ activity = cc in
     Contains-append_left (references_of_job s.activity) _ r
     (subst (λ (a : Activity). Contains (references_of_job a) r) (sym same) c)
-in_live s (ReleaseAt place) activity r e c =
+in_live s (ReleaseAt index) activity r e c =
     Contains-append_right (references_of_job s.activity) _ r
     (Contains-append_left (flat_map references_of_job (started_activities s)) _ r
-    (contains_flat references_of_job (started_activities s) activity r (started s.releases place e) c))
+    (contains_flat references_of_job (started_activities s) activity r (started s.releases index e) c))
   where
     started : (rows : List Release) (k : ℕ) → (slice_get rows k >>= (λ x. activity_in x.status)) ≡ Some activity →
         Contains (filter_map (λ (x : Release). activity_in x.status) rows) activity

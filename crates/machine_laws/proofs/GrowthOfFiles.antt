@@ -36,23 +36,23 @@ some_is_none : {A : Type 0} {B : Type 0} (a : A) → Some a ≡ None → B
 some_is_none a e = none_is_some a (sym e)
 
 abbrev or_place : Pos → Option Pos → Option Pos
-or_place p place = elim place [ None ↦ Some p | Some q ↦ Some q ]
+or_place p position = elim position [ None ↦ Some p | Some q ↦ Some q ]
 
-placed_somewhere : {B : Type 0} (p : Pos) (flags : FlagSet) (place : Option Pos) → or_place p place ≡ None → B
+placed_somewhere : {B : Type 0} (p : Pos) (flags : FlagSet) (position : Option Pos) → or_place p position ≡ None → B
 placed_somewhere p flags None e = some_is_none p e
 placed_somewhere p flags (Some q) e = some_is_none q e
 
 -- flags without a place are none
 bare_flags : {is_local : Bool} {N N1 : List Node} {i o : List Lexeme} {flags : FlagSet} →
-    FlagRow is_local N i N1 o flags → flags.place ≡ None → flag_ids flags ≡ []
+    FlagRow is_local N i N1 o flags → flags.position ≡ None → flag_ids flags ≡ []
 unfolding placed with_scope with_runs_in with_define_scope
 bare_flags no_flag e = refl
-bare_flags (modifier {more = more} {p = p} d h) e = placed_somewhere p more more.place e
-bare_flags (effectless {flags = flags} {p = p} d h a) e = placed_somewhere p flags flags.place e
-bare_flags (scope_flag {flags = flags} {p = p} d h v) e = placed_somewhere p flags flags.place e
-bare_flags (runs_in_flag {flags = flags} {p = p} d h v) e = placed_somewhere p flags flags.place e
-bare_flags (define_scope_flag {flags = flags} {p = p} d h v w) e = placed_somewhere p flags flags.place e
-bare_flags (define_scope_flag_parent_first {flags = flags} {p = p} d h v w) e = placed_somewhere p flags flags.place e
+bare_flags (modifier {more = more} {p = p} d h) e = placed_somewhere p more more.position e
+bare_flags (effectless {flags = flags} {p = p} d h a) e = placed_somewhere p flags flags.position e
+bare_flags (scope_flag {flags = flags} {p = p} d h v) e = placed_somewhere p flags flags.position e
+bare_flags (runs_in_flag {flags = flags} {p = p} d h v) e = placed_somewhere p flags flags.position e
+bare_flags (define_scope_flag {flags = flags} {p = p} d h v w) e = placed_somewhere p flags flags.position e
+bare_flags (define_scope_flag_parent_first {flags = flags} {p = p} d h v w) e = placed_somewhere p flags flags.position e
 
 -- a modifier leaves the annotations
 choose : {A : Type 0} {B : Type 0} (b : Bool) (x y : Option A) (r : Option A) → (x ≡ r → B) → (y ≡ r → B) →
@@ -85,10 +85,10 @@ added_ids is_local w flags more = choose (is_local && not (w == word_final)) _ _
     (modifier_ids w flags more)
 
 -- flags without effect have no nodes
-no_effect : (place : Option Pos) (a b c : Option ℕ) (x0 x1 x2 x3 x4 x5 x6 : Bool) →
+no_effect : (position : Option Pos) (a b c : Option ℕ) (x0 x1 x2 x3 x4 x5 x6 : Bool) →
     has_effect
     (record {
-      place = place;
+      position = position;
       define_scope = a;
       scope = b;
       runs_in = c;
@@ -102,10 +102,10 @@ no_effect : (place : Option Pos) (a b c : Option ℕ) (x0 x1 x2 x3 x4 x5 x6 : Bo
     }) ≡ false →
     ids_of a b c ≡ []
 unfolding has_effect
-no_effect place None None None x0 x1 x2 x3 x4 x5 x6 e = refl
-no_effect place (Some a) b c x0 x1 x2 x3 x4 x5 x6 e = absurd (true≢false e)
-no_effect place None (Some b) c x0 x1 x2 x3 x4 x5 x6 e = absurd (true≢false e)
-no_effect place None None (Some c) x0 x1 x2 x3 x4 x5 x6 e = absurd (true≢false e)
+no_effect position None None None x0 x1 x2 x3 x4 x5 x6 e = refl
+no_effect position (Some a) b c x0 x1 x2 x3 x4 x5 x6 e = absurd (true≢false e)
+no_effect position None (Some b) c x0 x1 x2 x3 x4 x5 x6 e = absurd (true≢false e)
+no_effect position None None (Some c) x0 x1 x2 x3 x4 x5 x6 e = absurd (true≢false e)
 
 scope_value_grown : {N N1 : List Node} {i o : List Lexeme} {id : ℕ} → ScopeValue N i N1 o id → Grown N N1 (id ∷ [])
 unfolding children
@@ -165,21 +165,21 @@ row_grown (define_scope_flag_parent_first {N3 = N3} {flags = flags} d h v w) =
     (λ x. define_scope_times flags.define_scope flags.scope flags.runs_in (length N3) x h)
 
 -- the flags' node, where there is one
-flags_put : (N N1 : List Node) (flags : FlagSet) (effect : Bool) (place : Option Pos) →
-    (effect ≡ false → flag_ids flags ≡ []) → (place ≡ None → flag_ids flags ≡ []) → Grown N N1 (flag_ids flags) →
-    let node : Option Node = if effect then elim place [ None ↦ None | Some p ↦ Some (flags_at p flags) ] else None in
+flags_put : (N N1 : List Node) (flags : FlagSet) (effect : Bool) (position : Option Pos) →
+    (effect ≡ false → flag_ids flags ≡ []) → (position ≡ None → flag_ids flags ≡ []) → Grown N N1 (flag_ids flags) →
+    let node : Option Node = if effect then elim position [ None ↦ None | Some p ↦ Some (flags_at p flags) ] else None in
     Grown N (elim node [ None ↦ N1 | Some m ↦ N1 ++ m ∷ [] ])
     (optional (elim node [ None ↦ None | Some m ↦ Some (length N1) ]))
 unfolding flags_at children
-flags_put N N1 flags false place h k g = same_ids g (sym (h refl))
+flags_put N N1 flags false position h k g = same_ids g (sym (h refl))
 flags_put N N1 flags true None h k g = same_ids g (sym (k refl))
 flags_put N N1 flags true (Some p) h k g = made (flags_at p flags) g
 
 flags_grown : {is_local : Bool} {N N1 : List Node} {i o : List Lexeme} {flags : FlagSet} →
     FlagRow is_local N i N1 o flags → Grown N (with_flags N1 flags) (optional (flags_number N1 flags))
 unfolding with_flags flags_number flags_node
-flags_grown {N = N} {N1 = N1} {flags = flags} d = flags_put N N1 flags (has_effect flags) flags.place
-    (no_effect flags.place flags.define_scope flags.scope flags.runs_in flags.is_public flags.is_protected
+flags_grown {N = N} {N1 = N1} {flags = flags} d = flags_put N N1 flags (has_effect flags) flags.position
+    (no_effect flags.position flags.define_scope flags.scope flags.runs_in flags.is_public flags.is_protected
     flags.is_private flags.is_static flags.is_final flags.is_abstract flags.is_synchronized)
     (bare_flags d) (row_grown d)
 

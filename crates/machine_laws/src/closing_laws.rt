@@ -24,15 +24,15 @@ pub fn each_refusal_is_exact()
 
 /// Where the machine takes a row with the end behind it, the row is a file, and nothing but its classes is put aside.
 pub fn each_end_is_of_a_file()
-    ensures { (before : List Node) (lexemes : List Lexeme) (place : Pos) (last : State) →
-        run (start before) (lexemes ++ the_end place ∷ []) ≡ Some last →
-        ReadWhole before (lexemes ++ the_end place ∷ []) last }
+    ensures { (before : List Node) (lexemes : List Lexeme) (position : Pos) (last : State) →
+        run (start before) (lexemes ++ the_end position ∷ []) ≡ Some last →
+        ReadWhole before (lexemes ++ the_end position ∷ []) last }
 {}
 
 /// A row of lexemes is refused at one place at most, and a file at none.
 pub fn one_refusal_at_most()
     ensures place { (before : List Node) (lexemes : List Lexeme) (one other : Pos) → RefusedAt before lexemes one →
         RefusedAt before lexemes other → one ≡ other }
-    ensures file { (before after : List Node) (lexemes : List Lexeme) (classes : List ℕ) (place : Pos) →
-        Tree before lexemes after classes → RefusedAt before lexemes place → Prim.⊥ }
+    ensures file { (before after : List Node) (lexemes : List Lexeme) (classes : List ℕ) (position : Pos) →
+        Tree before lexemes after classes → RefusedAt before lexemes position → Prim.⊥ }
 {}

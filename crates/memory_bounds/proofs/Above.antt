@@ -157,10 +157,10 @@ module _ (u : ℕ) where
 
   literal_lacks : (n : Node) (v : Value) → literal_value n ≡ Some v → v ≡ At u → ⊥
   unfolding literal_value
-  literal_lacks (NumberNode place x b) v e q = cc (e, q)
-  literal_lacks (True place) v e q = cc (e, q)
-  literal_lacks (False place) v e q = cc (e, q)
-  literal_lacks (NullNode place) v e q = cc (e, q)
+  literal_lacks (NumberNode position x b) v e q = cc (e, q)
+  literal_lacks (True position) v e q = cc (e, q)
+  literal_lacks (False position) v e q = cc (e, q)
+  literal_lacks (NullNode position) v e q = cc (e, q)
   literal_lacks _ v e q = cc (e)
 
   pub literal_in : (o : Option Node) (v : Value) → (o >>= literal_value) ≡ Some v → v ≡ At u → ⊥
@@ -283,9 +283,9 @@ module _ (u : ℕ) (under : List Value) (this : Option ℕ) where
       Spares u under this (Makes f class slots)
   makes f class slots l a = record { is = (l, a) }
 
-  static_stored : (f : Frame) (place : ℕ) (v : Value) → Kept u under this 0 f → (v ≡ At u → ⊥) →
-      Spares u under this (StoresStatic f place v)
-  static_stored f place v l n = record { is = (l, n) }
+  static_stored : (f : Frame) (index : ℕ) (v : Value) → Kept u under this 0 f → (v ≡ At u → ⊥) →
+      Spares u under this (StoresStatic f index v)
+  static_stored f index v l n = record { is = (l, n) }
 
   ceiling_set : (f : Frame) (r ceiling : ℕ) → Kept u under this 0 f → (r ≡ u → ⊥) →
       Spares u under this (SetsCeiling f r ceiling)

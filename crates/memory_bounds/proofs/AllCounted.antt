@@ -104,8 +104,8 @@ module _ (code : Code) (facts : Facts code) (behind : BehindChildren code.progra
 
   pub are_counted : AreCounted code table rows s
   are_counted = record {
-    is = λ place r a f below op rest next small.
-        of_op place r a f below rest (stand code facts rows s i place r a f below op rest next).0.class
-        (stand code facts rows s i place r a f below op rest next).0.sig op
-        (ready code facts rows s i place r a f below op rest next) next small;
+    is = λ index r a f below op rest next small.
+        of_op index r a f below rest (stand code facts rows s i index r a f below op rest next).0.class
+        (stand code facts rows s i index r a f below op rest next).0.sig op
+        (ready code facts rows s i index r a f below op rest next) next small;
   }

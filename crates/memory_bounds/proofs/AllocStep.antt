@@ -32,7 +32,7 @@ past_end [] x e = cc (e)
 past_end (y ∷ xs) x e = past_end xs x e
 
 module _ (code : Code) (Inner : Op → Type 0) (OnWay : ℕ → Type 0) (G : Body → Bool → Type 0) (s : State)
-    (heap : HeapLacks (length s.objects) s) (activity : Activity) (below : List Frame) (place : Pos) (f : Frame)
+    (heap : HeapLacks (length s.objects) s) (activity : Activity) (below : List Frame) (position : Pos) (f : Frame)
     (class : ℕ) (slots : List Value) (lacks : AllLack (length s.objects) slots)
     (holder : Holder code Inner OnWay (length s.objects)
     (record f { operands = At (length s.objects) ∷ f.operands })) where
@@ -66,7 +66,7 @@ module _ (code : Code) (Inner : Op → Type 0) (OnWay : ℕ → Type 0) (G : Bod
       of r y (inl e) = heap.objects r y e
       of r y (inr e) = subst (λ (z : Object). AllLack (length s.objects) z.slots) e.1 lacks
 
-  pub alloc_step : StepGives New (applied code s TheSequencer activity below place (Makes f class slots))
+  pub alloc_step : StepGives New (applied code s TheSequencer activity below position (Makes f class slots))
   unfolding applied allocating fault_in with_activity after
   alloc_step =
       gives_some New _

@@ -77,57 +77,57 @@ module _ (code : Code) (table : Table) where
       of true = omega arith
       of false = omega arith
 
-  module _ (place : ℕ) where
+  module _ (index : ℕ) where
     -- if the release is still under way, its frames are bounded
     unfoldable pub BoundedAfter : Step → Type 0
     BoundedAfter step =
-        (left : Activity) → activity_of step.state (ReleaseAt place) ≡ Some left →
+        (left : Activity) → activity_of step.state (ReleaseAt index) ≡ Some left →
         IsBounded code table step.state left.frames
 
     pub goes_with : (t : State) (activity a : Activity) (events : List Event) →
-        activity_of t (ReleaseAt place) ≡ Some activity → IsBounded code table t a.frames →
-        BoundedAfter (telling (with_activity t (ReleaseAt place) a) events)
+        activity_of t (ReleaseAt index) ≡ Some activity → IsBounded code table t a.frames →
+        BoundedAfter (telling (with_activity t (ReleaseAt index) a) events)
     unfolding BoundedAfter with_activity
     goes_with t activity a events is b left e =
-        let same : a ≡ left = some_inj a left (sym (set_activity t (ReleaseAt place) activity a is) ∙ e) in
-        subst (λ (x : Activity). IsBounded code table (with_activity t (ReleaseAt place) a) x.frames) same kept
+        let same : a ≡ left = some_inj a left (sym (set_activity t (ReleaseAt index) activity a is) ∙ e) in
+        subst (λ (x : Activity). IsBounded code table (with_activity t (ReleaseAt index) a) x.frames) same kept
       where
-        kept : IsBounded code table (with_activity t (ReleaseAt place) a) a.frames
-        kept = others_keep code table t (with_activity t (ReleaseAt place) a) a.frames
-            (λ n h. (let m = stays t (with_activity t (ReleaseAt place) a) objects (same_areas t (with_activity t (ReleaseAt place) a) areas) in m.in_use n))
-            (same_areas t (with_activity t (ReleaseAt place) a) areas) b
+        kept : IsBounded code table (with_activity t (ReleaseAt index) a) a.frames
+        kept = others_keep code table t (with_activity t (ReleaseAt index) a) a.frames
+            (λ n h. (let m = stays t (with_activity t (ReleaseAt index) a) objects (same_areas t (with_activity t (ReleaseAt index) a) areas) in m.in_use n))
+            (same_areas t (with_activity t (ReleaseAt index) a) areas) b
           where
-            objects : (with_activity t (ReleaseAt place) a).objects ≡ t.objects
+            objects : (with_activity t (ReleaseAt index) a).objects ≡ t.objects
             objects = refl
 
-            areas : (with_activity t (ReleaseAt place) a).areas ≡ t.areas
+            areas : (with_activity t (ReleaseAt index) a).areas ≡ t.areas
             areas = refl
 
     -- a release that has ended has no frames
-    pub ends_with : (t : State) (events : List Event) → BoundedAfter (telling (with_status t place Ended) events)
+    pub ends_with : (t : State) (events : List Event) → BoundedAfter (telling (with_status t index Ended) events)
     unfolding BoundedAfter activity_of activity_in
-    ends_with t events left e = absurd (of (slice_get t.releases place) refl)
+    ends_with t events left e = absurd (of (slice_get t.releases index) refl)
       where
-        of : (o : Option Release) → slice_get t.releases place ≡ o → ⊥
+        of : (o : Option Release) → slice_get t.releases index ≡ o → ⊥
         of None there =
-            let same : changed (λ (r : Release). record r { status = Ended }) place t.releases ≡ t.releases =
+            let same : changed (λ (r : Release). record r { status = Ended }) index t.releases ≡ t.releases =
             ap (λ (x : Option Release). elim x as (λ z. List Release) [
               | None ↦ t.releases
-              | Some y ↦ slice_set t.releases place (record y { status = Ended })
+              | Some y ↦ slice_set t.releases index (record y { status = Ended })
             ]) there in
-            let none = ap (λ (rs : List Release). slice_get rs place) same ∙ there in
+            let none = ap (λ (rs : List Release). slice_get rs index) same ∙ there in
             cc (none, e)
         of (Some r) there =
-            let is = changed_at (λ (x : Release). record x { status = Ended }) place t.releases r there in
+            let is = changed_at (λ (x : Release). record x { status = Ended }) index t.releases r there in
             cc (ap (λ (o : Option Release). o >>= (λ x. activity_in x.status)) is, e)
 
     pub faults_with : (t : State) (activity : Activity) (pos : Pos) (fault : RunFault) →
-        BoundedAfter (fault_in t (ReleaseAt place) activity pos fault)
+        BoundedAfter (fault_in t (ReleaseAt index) activity pos fault)
     unfolding fault_in
     faults_with t activity pos fault = ends_with (closed_all t activity.frames) _
 
     -- ---- the operations
-    module _ (s : State) (activity : Activity) (is : activity_of s (ReleaseAt place) ≡ Some activity) (pos : Pos)
+    module _ (s : State) (activity : Activity) (is : activity_of s (ReleaseAt index) ≡ Some activity) (pos : Pos)
         (before : Frame) (below : List Frame) (b : IsBounded code table s (before ∷ below)) where
       nothing_moves : MemoryStays code table s s
       nothing_moves = stays s s refl (same_areas s s refl)
@@ -138,60 +138,60 @@ module _ (code : Code) (table : Table) where
           goes_on code table s s before h below nothing_moves w.0 w.1 (omega (arith, w.2)) b
 
       pub goes_bounded : (h : Frame) → Within code table (ops_weight code table before.rest) before h 0 →
-          BoundedAfter (silently (with_frame s (ReleaseAt place) activity h below))
+          BoundedAfter (silently (with_frame s (ReleaseAt index) activity h below))
       goes_bounded h w = goes_with s activity (record activity { frames = h ∷ below }) [] is (plain_bounded h w)
 
       -- a call
       pub calls_bounded : (h g : Frame) → IsBounded code table s (g ∷ h ∷ below) →
           ((saved : Option ℕ) → IsBounded code table s (record g { saved = saved } ∷ h ∷ below)) →
-          BoundedAfter (called code s (ReleaseAt place) activity (h ∷ below) pos g)
+          BoundedAfter (called code s (ReleaseAt index) activity (h ∷ below) pos g)
       unfolding called
       calls_bounded h g plain saved = full (is_full (h ∷ below))
         where
           lower : (ceiling : ℕ) (t : Bool) → BoundedAfter
-              (if t then fault_in s (ReleaseAt place) activity pos CeilingViolation
+              (if t then fault_in s (ReleaseAt index) activity pos CeilingViolation
               else telling
-              (with_activity s (ReleaseAt place) (record activity {
+              (with_activity s (ReleaseAt index) (record activity {
                 frames = record g { saved = Some activity.priority } ∷ (h ∷ below);
                 priority = ceiling;
               }))
-              (tell_priority s (ReleaseAt place) activity.priority ceiling))
+              (tell_priority s (ReleaseAt index) activity.priority ceiling))
           lower ceiling true = faults_with s activity pos CeilingViolation
           lower ceiling false = goes_with s activity _ _ is (saved (Some activity.priority))
 
           entered : (o : Option ℕ) → BoundedAfter (elim o [
-            | None ↦ silently (with_activity s (ReleaseAt place) (record activity { frames = g ∷ (h ∷ below) }))
+            | None ↦ silently (with_activity s (ReleaseAt index) (record activity { frames = g ∷ (h ∷ below) }))
             | Some ceiling ↦
-                if nat_lt ceiling activity.priority then fault_in s (ReleaseAt place) activity pos CeilingViolation
+                if nat_lt ceiling activity.priority then fault_in s (ReleaseAt index) activity pos CeilingViolation
                 else telling
-                (with_activity s (ReleaseAt place) (record activity {
+                (with_activity s (ReleaseAt index) (record activity {
                   frames = record g { saved = Some activity.priority } ∷ (h ∷ below);
                   priority = ceiling;
                 }))
-                (tell_priority s (ReleaseAt place) activity.priority ceiling)
+                (tell_priority s (ReleaseAt index) activity.priority ceiling)
           ])
           entered None = goes_with s activity _ _ is plain
           entered (Some ceiling) = lower ceiling (nat_lt ceiling activity.priority)
 
           full : (t : Bool) → BoundedAfter
-              (if t then fault_in s (ReleaseAt place) activity pos DepthFull
+              (if t then fault_in s (ReleaseAt index) activity pos DepthFull
               else (elim (ceiling_entered code s g) [
-                | None ↦ silently (with_activity s (ReleaseAt place) (record activity { frames = g ∷ (h ∷ below) }))
+                | None ↦ silently (with_activity s (ReleaseAt index) (record activity { frames = g ∷ (h ∷ below) }))
                 | Some ceiling ↦
-                    if nat_lt ceiling activity.priority then fault_in s (ReleaseAt place) activity pos CeilingViolation
+                    if nat_lt ceiling activity.priority then fault_in s (ReleaseAt index) activity pos CeilingViolation
                     else telling
-                    (with_activity s (ReleaseAt place) (record activity {
+                    (with_activity s (ReleaseAt index) (record activity {
                       frames = record g { saved = Some activity.priority } ∷ (h ∷ below);
                       priority = ceiling;
                     }))
-                    (tell_priority s (ReleaseAt place) activity.priority ceiling)
+                    (tell_priority s (ReleaseAt index) activity.priority ceiling)
               ]))
           full true = faults_with s activity pos DepthFull
           full false = entered (ceiling_entered code s g)
 
       pub call_bounded : (h g : Frame) →
           EffectWithin code table (ops_weight code table before.rest) before (Calls h g) →
-          BoundedAfter (called code s (ReleaseAt place) activity (h ∷ below) pos g)
+          BoundedAfter (called code s (ReleaseAt index) activity (h ∷ below) pos g)
       call_bounded h g (unopened, inl (here, w)) =
           let c : (x : Option ℕ) → IsBounded code table s (record g { saved = x } ∷ h ∷ below) =
           λ x. calls_here code table s s before h (record g { saved = x }) below nothing_moves w.0 w.1 unopened here w.2 b in
@@ -211,8 +211,8 @@ module _ (code : Code) (table : Table) where
 
       pub made_bounded : (h : Frame) (class : ℕ) (slots : List Value) →
           EffectWithin code table (ops_weight code table before.rest) before (Makes h class slots) →
-          BoundedAfter (allocating s (ReleaseAt place) activity pos class h.area slots (λ t r.
-          silently (with_frame t (ReleaseAt place) activity (record h { operands = At r ∷ h.operands }) below)))
+          BoundedAfter (allocating s (ReleaseAt index) activity pos class h.area slots (λ t r.
+          silently (with_frame t (ReleaseAt index) activity (record h { operands = At r ∷ h.operands }) below)))
       unfolding allocating activity_of
       made_bounded h class slots w = of (has_room s h.area (length slots))
         where
@@ -220,9 +220,9 @@ module _ (code : Code) (table : Table) where
           t = with_object s class h.area slots
 
           of : (c : Bool) → BoundedAfter
-              (if c then silently (with_frame t (ReleaseAt place) activity
+              (if c then silently (with_frame t (ReleaseAt index) activity
               (record h { operands = At (length s.objects) ∷ h.operands }) below)
-              else fault_in s (ReleaseAt place) activity pos MemoryFull)
+              else fault_in s (ReleaseAt index) activity pos MemoryFull)
           of true = goes_with t activity _ [] is_there
               (makes_one code table s t before (record h { operands = At (length s.objects) ∷ h.operands }) below
               (size_with_slots (length slots)) w.0 w.1 w.2
@@ -230,7 +230,7 @@ module _ (code : Code) (table : Table) where
               (one_more s class h.area slots a))
               (same_areas s t refl) b)
             where
-              is_there : activity_of t (ReleaseAt place) ≡ Some activity
+              is_there : activity_of t (ReleaseAt index) ≡ Some activity
               is_there = is
           of false = faults_with s activity pos MemoryFull
 
@@ -238,7 +238,7 @@ module _ (code : Code) (table : Table) where
       pub opened_bounded : (h g : Frame) (scope bytes : ℕ) →
           EffectWithin code table (ops_weight code table before.rest) before (Opens h g scope bytes) →
           used s (length s.areas) ≡ 0 →
-          BoundedAfter (opened_in s (ReleaseAt place) activity (h ∷ below) pos g scope bytes)
+          BoundedAfter (opened_in s (ReleaseAt index) activity (h ∷ below) pos g scope bytes)
       unfolding opened_in opening activity_of used
       opened_bounded h g scope bytes w empty = cycle (is_some (area_with_scope s scope activity.areas))
         where
@@ -258,7 +258,7 @@ module _ (code : Code) (table : Table) where
           none : area_at s (length s.areas) ≡ None
           none = get_past s.areas
 
-          next : BoundedAfter (silently (with_activity t (ReleaseAt place) (record activity {
+          next : BoundedAfter (silently (with_activity t (ReleaseAt index) (record activity {
             frames = new ∷ (h ∷ below);
             areas = length s.areas ∷ activity.areas;
           })))
@@ -267,29 +267,29 @@ module _ (code : Code) (table : Table) where
               (stays s t refl areas) refl refl w.1 w.2 (plain_bounded h w.0))
 
           stored : (c : Bool) → BoundedAfter
-              (if c then silently (with_activity t (ReleaseAt place) (record activity {
+              (if c then silently (with_activity t (ReleaseAt index) (record activity {
                 frames = new ∷ (h ∷ below);
                 areas = length s.areas ∷ activity.areas;
-              })) else fault_in s (ReleaseAt place) activity pos StoreFull)
+              })) else fault_in s (ReleaseAt index) activity pos StoreFull)
           stored true = next
           stored false = faults_with s activity pos StoreFull
 
           full : (c : Bool) → BoundedAfter
-              (if c then fault_in s (ReleaseAt place) activity pos DepthFull
-              else (if has_store_for s bytes then silently (with_activity t (ReleaseAt place) (record activity {
+              (if c then fault_in s (ReleaseAt index) activity pos DepthFull
+              else (if has_store_for s bytes then silently (with_activity t (ReleaseAt index) (record activity {
                 frames = new ∷ (h ∷ below);
                 areas = length s.areas ∷ activity.areas;
-              })) else fault_in s (ReleaseAt place) activity pos StoreFull))
+              })) else fault_in s (ReleaseAt index) activity pos StoreFull))
           full true = faults_with s activity pos DepthFull
           full false = stored (has_store_for s bytes)
 
           cycle : (c : Bool) → BoundedAfter
-              (if c then fault_in s (ReleaseAt place) activity pos ScopedCycle
-              else (if is_full (h ∷ below) then fault_in s (ReleaseAt place) activity pos DepthFull
-              else (if has_store_for s bytes then silently (with_activity t (ReleaseAt place) (record activity {
+              (if c then fault_in s (ReleaseAt index) activity pos ScopedCycle
+              else (if is_full (h ∷ below) then fault_in s (ReleaseAt index) activity pos DepthFull
+              else (if has_store_for s bytes then silently (with_activity t (ReleaseAt index) (record activity {
                 frames = new ∷ (h ∷ below);
                 areas = length s.areas ∷ activity.areas;
-              })) else fault_in s (ReleaseAt place) activity pos StoreFull)))
+              })) else fault_in s (ReleaseAt index) activity pos StoreFull)))
           cycle true = faults_with s activity pos ScopedCycle
           cycle false = full (is_full (h ∷ below))
 
@@ -344,15 +344,15 @@ module _ (code : Code) (table : Table) where
       returned_own (Some v) (f ∷ fs) own = own
 
       pub left_bounded : (h : Frame) (value : Option Value) →
-          BoundedAfter (frame_left s (ReleaseAt place) activity h below value)
+          BoundedAfter (frame_left s (ReleaseAt index) activity h below value)
       unfolding frame_left job_ended activity_of
       left_bounded h value = of below refl
         where
           t : State
           t = closed s h.opened
 
-          under : activity_of t (ReleaseAt place) ≡ Some activity
-          under = ap (λ (rs : List Release). slice_get rs place >>= (λ r. activity_in r.status)) (closed_releases h.opened) ∙ is
+          under : activity_of t (ReleaseAt index) ≡ Some activity
+          under = ap (λ (rs : List Release). slice_get rs index >>= (λ r. activity_in r.status)) (closed_releases h.opened) ∙ is
 
           kept : IsBounded code table t (returned value below)
           kept = leaves code table s t before below (returned value below)
@@ -367,7 +367,7 @@ module _ (code : Code) (table : Table) where
           }
 
           of : (fs : List Frame) → below ≡ fs → BoundedAfter
-              (then_do (telling t (tell_priority s (ReleaseAt place) activity.priority (unwrap_or h.saved activity.priority)))
-              (λ u. elim fs [ [] ↦ job_ended u (ReleaseAt place) after value | g ∷ gs ↦ silently (with_activity u (ReleaseAt place) after) ]))
+              (then_do (telling t (tell_priority s (ReleaseAt index) activity.priority (unwrap_or h.saved activity.priority)))
+              (λ u. elim fs [ [] ↦ job_ended u (ReleaseAt index) after value | g ∷ gs ↦ silently (with_activity u (ReleaseAt index) after) ]))
           of [] e = ends_with t _
           of (g ∷ gs) e = goes_with t activity after _ under kept

@@ -282,8 +282,8 @@ module _ (code : Code) (Q : ℕ → ℕ → Type 0) (with_all : OpenedWith code 
       go None events = held
       go (Some handler) events = taken Q store s handler held
 
-  at_has : (fires : List Fire) (s : State) (place : ℕ) → Has Q store s → Has Q store (fired_at code fires s place).state
-  at_has fires s place held = go (slice_get fires place)
+  at_has : (fires : List Fire) (s : State) (index : ℕ) → Has Q store s → Has Q store (fired_at code fires s index).state
+  at_has fires s index held = go (slice_get fires index)
     where
       go : (o : Option Fire) →
           Has Q store (elim o as (λ z. Step) [ None ↦ silently s | Some fire ↦ fired code s fire ]).state
@@ -293,7 +293,7 @@ module _ (code : Code) (Q : ℕ → ℕ → Type 0) (with_all : OpenedWith code 
   arrival_has : (plan : Plan) (s : State) → Has Q store s → Has Q store (arrivals code plan s).state
   unfolding arrivals
   arrival_has plan s held =
-      each_keeps (fired_at code plan.fires) (λ t place h. at_has plan.fires t place h)
+      each_keeps (fired_at code plan.fires) (λ t index h. at_has plan.fires t index h)
       (fires_due (executes_since s) s.unit plan.fires) (for_each release_taken (due_handlers s) s).state
       (each_keeps release_taken (λ t handler h. taken Q store t handler h) (due_handlers s) s held)
 
@@ -353,23 +353,23 @@ module _ (code : Code) (Q : ℕ → ℕ → Type 0) (with_all : OpenedWith code 
         go [] = sequencer_leads s i held s.operation refl
         go (f ∷ fs) = job_leads TheSequencer s.activity (i.memories.jobs TheSequencer s.activity refl)
 
-    release_leads : (place : ℕ) → Lead (ref_op code rows s (ReleaseAt place))
+    release_leads : (index : ℕ) → Lead (ref_op code rows s (ReleaseAt index))
     unfolding ref_op release_op_of activity_of activity_in
-    release_leads place =
-        any_leads (slice_get s.releases place) (release_op_of code rows s place)
+    release_leads index =
+        any_leads (slice_get s.releases index) (release_op_of code rows s index)
         (λ r there. by_status r there r.status refl)
       where
-        by_status : (r : Release) → slice_get s.releases place ≡ Some r → (status : ReleaseStatus) →
+        by_status : (r : Release) → slice_get s.releases index ≡ Some r → (status : ReleaseStatus) →
             r.status ≡ status → Lead (elim status as (λ z. Option Step) [
-              | Waiting ↦ start_op code s place r
-              | Started activity ↦ frame_op code rows s (ReleaseAt place) activity
+              | Waiting ↦ start_op code s index r
+              | Started activity ↦ frame_op code rows s (ReleaseAt index) activity
               | Ended ↦ None
               | Dropped ↦ None
             ])
-        by_status r there Waiting e = start_leads s i held place r
+        by_status r there Waiting e = start_leads s i held index r
         by_status r there (Started activity) e =
-            job_leads (ReleaseAt place) activity
-            (i.memories.jobs (ReleaseAt place) activity
+            job_leads (ReleaseAt index) activity
+            (i.memories.jobs (ReleaseAt index) activity
             (ap (λ (o : Option Release). o >>= (λ r. activity_in r.status)) there ∙ ap activity_in e))
         by_status r there Ended e = none_leads
         by_status r there Dropped e = none_leads
@@ -383,10 +383,10 @@ module _ (code : Code) (Q : ℕ → ℕ → Type 0) (with_all : OpenedWith code 
         turn_leads IdleTurn =
             told_leads (turn_taken s IdleTurn) (Some (silently (with_turn s IdleTurn)))
             (leads (silently (with_turn s IdleTurn)) (still Q store s (with_turn s IdleTurn) refl refl held))
-        turn_leads (TurnOf place) =
-            told_leads (turn_taken s (TurnOf place)) (ref_op code rows (with_turn s (TurnOf place)) (ReleaseAt place))
-            (release_leads facts rows (with_turn s (TurnOf place)) (time_passes code s s.unit (Some (TurnOf place)) i)
-            (still Q store s (with_turn s (TurnOf place)) refl refl held) place)
+        turn_leads (TurnOf index) =
+            told_leads (turn_taken s (TurnOf index)) (ref_op code rows (with_turn s (TurnOf index)) (ReleaseAt index))
+            (release_leads facts rows (with_turn s (TurnOf index)) (time_passes code s s.unit (Some (TurnOf index)) i)
+            (still Q store s (with_turn s (TurnOf index)) refl refl held) index)
 
         go : (b : Bool) → Lead (if b
             then policy s >>= (λ turn. then_try (turn_taken s turn) (turn_acts code rows turn))

@@ -35,7 +35,7 @@ module _ (Q : ℕ → ℕ → Type 0) (store : ℕ) where
   pub acts_on : (s : State) (job : Job) (a : Activity) → Has s → Has (with_activity s job a)
   unfolding with_activity
   acts_on s TheSequencer a h = still s (record s { activity = a }) refl refl h
-  acts_on s (ReleaseAt place) a h = still s (with_activity s (ReleaseAt place) a) refl refl h
+  acts_on s (ReleaseAt index) a h = still s (with_activity s (ReleaseAt index) a) refl refl h
 
   -- one more area
   last_is : (xs : List MemoryArea) (x : MemoryArea) → ((a : ℕ) (y : MemoryArea) → slice_get xs a ≡ Some y → Q y.scope y.bytes) →

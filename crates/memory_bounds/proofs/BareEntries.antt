@@ -89,15 +89,15 @@ module _ (forest : Forest) (a : IsAcceptedProgram forest) where
   sorted : IsWellSorted forest.nodes
   sorted = well_sorted forest a.is_read
 
-  module _ (id : ℕ) (place : Pos) (name : List ℕ) (object : Option ℕ) (x : Target)
-      (there : slice_get forest.nodes id ≡ Some (Call place name object []))
+  module _ (id : ℕ) (position : Pos) (name : List ℕ) (object : Option ℕ) (x : Target)
+      (there : slice_get forest.nodes id ≡ Some (Call position name object []))
       (enters : (x.id == managed_memory_enter_private_memory) ≡ true) where
     with_method : (r : Receiver) (f : FoundMethod) → call_receiver p types id object ≡ Some r →
         called_method p r name ≡ Some f → f.method.builtin ≡ Some x.id → ⊥
     unfolding all_types framework_method
     with_method r f e m number_of =
-        (let w = right_call p types id place name object []
-        (unbroken forest a.is_accepted a.whole sorted id (Call place name object []) there) in
+        (let w = right_call p types id position name object []
+        (unbroken forest a.is_accepted a.whole sorted id (Call position name object []) there) in
         let rules = call_rules forest a.is_accepted a.whole sorted id name object [] r [] e refl w in
         let t = method_there forest a.is_accepted a.whole sorted r name rules.of_reference rules.has_method in
         let callable : f.method.callable ≡ true =
@@ -129,4 +129,4 @@ module _ (forest : Forest) (a : IsAcceptedProgram forest) where
     unfolding binding_of
     no_bare_entry bound =
         by_receiver (call_receiver p types id object) refl
-        (sym (binding_is forest a.is_accepted a.whole sorted id (Call place name object []) there) ∙ bound)
+        (sym (binding_is forest a.is_accepted a.whole sorted id (Call position name object []) there) ∙ bound)

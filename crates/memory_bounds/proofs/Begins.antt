@@ -44,10 +44,10 @@ new_is_empty code s fine =
     let e = none_lies s.areas s.objects (λ r o there. (let x = fine.heap r o there in (x.area, x.is_area))) in
     ap (λ (os : List Object). sum (map (λ (o : Object). size_with_slots (length o.slots)) os)) e
 
-module _ (code : Code) (table : Table) (bound : IsBound code table) (s : State) (place : ℕ) (r : Release)
-    (there : slice_get s.releases place ≡ Some r) (row : HandlerRow) (scope : ℕ) (body : Body)
+module _ (code : Code) (table : Table) (bound : IsBound code table) (s : State) (index : ℕ) (r : Release)
+    (there : slice_get s.releases index ≡ Some r) (row : HandlerRow) (scope : ℕ) (body : Body)
     (empty : used s (length s.areas) ≡ 0) (fits : table body ≤ row.bytes) (small : row.bytes < too_much) where
-  pub start_bounded : BoundedAfter code table place (started_with code s place row scope body)
+  pub start_bounded : BoundedAfter code table index (started_with code s index row scope body)
   unfolding started_with opening BoundedAfter activity_of activity_in with_activity new_frame used
   start_bounded = stored (has_store_for s row.bytes)
     where
@@ -77,21 +77,21 @@ module _ (code : Code) (table : Table) (bound : IsBound code table) (s : State) 
       b = opens_one code table s t first [] (length s.areas) x none (get_last s.areas x) empty (stays code table s t refl areas)
           refl refl weights small (none_bounded code table s)
 
-      kept : IsBounded code table (with_activity t (ReleaseAt place) a) (first ∷ [])
-      kept = others_keep code table t (with_activity t (ReleaseAt place) a) (first ∷ [])
-          (λ n h. (stays code table t (with_activity t (ReleaseAt place) a) refl (same_areas code table t (with_activity t (ReleaseAt place) a) refl)).in_use n)
-          (same_areas code table t (with_activity t (ReleaseAt place) a) refl) b
+      kept : IsBounded code table (with_activity t (ReleaseAt index) a) (first ∷ [])
+      kept = others_keep code table t (with_activity t (ReleaseAt index) a) (first ∷ [])
+          (λ n h. (stays code table t (with_activity t (ReleaseAt index) a) refl (same_areas code table t (with_activity t (ReleaseAt index) a) refl)).in_use n)
+          (same_areas code table t (with_activity t (ReleaseAt index) a) refl) b
 
-      next : BoundedAfter code table place (silently (with_activity t (ReleaseAt place) a))
+      next : BoundedAfter code table index (silently (with_activity t (ReleaseAt index) a))
       next left e =
-          let is : activity_of (with_activity t (ReleaseAt place) a) (ReleaseAt place) ≡ Some a =
+          let is : activity_of (with_activity t (ReleaseAt index) a) (ReleaseAt index) ≡ Some a =
           ap (λ (o : Option Release). o >>= (λ r. activity_in r.status))
-          (changed_at (λ (r : Release). record r { status = Started a }) place s.releases r there) in
+          (changed_at (λ (r : Release). record r { status = Started a }) index s.releases r there) in
           let same : a ≡ left = some_inj a left (sym is ∙ e) in
-          subst (λ (z : Activity). IsBounded code table (with_activity t (ReleaseAt place) a) z.frames) same kept
+          subst (λ (z : Activity). IsBounded code table (with_activity t (ReleaseAt index) a) z.frames) same kept
 
-      stored : (c : Bool) → BoundedAfter code table place
-          (if c then silently (with_activity t (ReleaseAt place) a)
-          else fault_in s (ReleaseAt place) no_activity (class_place code.program row.class) StoreFull)
+      stored : (c : Bool) → BoundedAfter code table index
+          (if c then silently (with_activity t (ReleaseAt index) a)
+          else fault_in s (ReleaseAt index) no_activity (class_place code.program row.class) StoreFull)
       stored true = next
-      stored false = faults_with code table place s no_activity (class_place code.program row.class) StoreFull
+      stored false = faults_with code table index s no_activity (class_place code.program row.class) StoreFull

@@ -64,26 +64,26 @@ chained_still code s t k b = record {
 
 -- ---- a step that leaves the other releases alone
 
-module _ (code : Code) (s t : State) (b : AreChained code s) (place handler : ℕ) (leaves : LeavesOthers s t place)
-    (same_handler : SameHandler t place handler) (stay : AreasStay s t)
-    (own : (w : StartedRelease) (row : HandlerRow) → started_at t.releases place ≡ Some w →
+module _ (code : Code) (s t : State) (b : AreChained code s) (index handler : ℕ) (leaves : LeavesOthers s t index)
+    (same_handler : SameHandler t index handler) (stay : AreasStay s t)
+    (own : (w : StartedRelease) (row : HandlerRow) → started_at t.releases index ≡ Some w →
     handler_row s.registry handler ≡ Some row → Chain code t row w.activity.frames) where
   row_before : (h : ℕ) (row : HandlerRow) → handler_row t.registry h ≡ Some row → handler_row s.registry h ≡ Some row
   row_before h row e = ap (λ (registry : List HandlerRow). handler_row registry h) (sym leaves.registry) ∙ e
 
   step_keeps : AreChained code t
-  step_keeps = record { is = λ q w row e row_is. of q w row e row_is (place == q) refl }
+  step_keeps = record { is = λ q w row e row_is. of q w row e row_is (index == q) refl }
     where
       of : (q : ℕ) (w : StartedRelease) (row : HandlerRow) → started_at t.releases q ≡ Some w →
-          handler_row t.registry w.handler ≡ Some row → (c : Bool) → (place == q) ≡ c →
+          handler_row t.registry w.handler ≡ Some row → (c : Bool) → (index == q) ≡ c →
           Chain code t row w.activity.frames
       of q w row e row_is true p =
-          let same : place ≡ q = grind (arith, nat_tests) in
-          let here : started_at t.releases place ≡ Some w = ap (started_at t.releases) same ∙ e in
+          let same : index ≡ q = grind (arith, nat_tests) in
+          let here : started_at t.releases index ≡ Some w = ap (started_at t.releases) same ∙ e in
           own w row here
           (ap (handler_row s.registry) (sym (same_handler w here)) ∙ row_before w.handler row row_is)
       of q w row e row_is false p =
-          let differ : place ≡ q → ⊥ = grind (arith, nat_tests) in
+          let differ : index ≡ q → ⊥ = grind (arith, nat_tests) in
           chain_stays code s t stay row w.activity.frames
           (b.is q w row (sym (leaves.others q differ) ∙ e) (row_before w.handler row row_is))
 
@@ -91,18 +91,18 @@ module _ (code : Code) (s t : State) (b : AreChained code s) (place handler : �
 
 module _ (code : Code) (facts : Facts code) (behind : BehindChildren code.program) (rows : List ReadingRow) (s : State)
     (i : Invariant code s) (held : Jobs (All code) s) (exec : is_exec s.phase ≡ true) (b : AreChained code s)
-    (place : ℕ) (r : Release) (there : slice_get s.releases place ≡ Some r) where
+    (index : ℕ) (r : Release) (there : slice_get s.releases index ≡ Some r) where
   module _ (a : Activity) (f : Frame) (below : List Frame) (op : Op) (rest : List Op)
-      (next : IsNext s place r a f below op rest) where
+      (next : IsNext s index r a f below op rest) where
     of_effect : (e : Effect) → effect_at code rows s f op rest ≡ e →
         EffectIsFine code (world_of s) (list_of (areas_of i.base) (f ∷ below))
-        (stand code facts rows s i place r a f below op rest next).0.class
-        (stand code facts rows s i place r a f below op rest next).0.sig (record f { rest = rest }) e
+        (stand code facts rows s i index r a f below op rest next).0.class
+        (stand code facts rows s i index r a f below op rest next).0.sig (record f { rest = rest }) e
     of_effect e same =
         subst (EffectIsFine code (world_of s) (list_of (areas_of i.base) (f ∷ below))
-        (stand code facts rows s i place r a f below op rest next).0.class
-        (stand code facts rows s i place r a f below op rest next).0.sig (record f { rest = rest })) same
-        (fine code facts rows s i place r a f below op rest next)
+        (stand code facts rows s i index r a f below op rest next).0.class
+        (stand code facts rows s i index r a f below op rest next).0.sig (record f { rest = rest })) same
+        (fine code facts rows s i index r a f below op rest next)
 
     puts : PutsInto s f.area (effect_at code rows s f op rest)
     puts = record {
@@ -111,35 +111,35 @@ module _ (code : Code) (facts : Facts code) (behind : BehindChildren code.progra
           slots_there code s i.memories.memory.heap slot values (of_effect (SetsHidden h slot values) e).is.1 o found;
     }
 
-    began : started_at s.releases place ≡ Some (started_as r.handler a)
+    began : started_at s.releases index ≡ Some (started_as r.handler a)
     unfolding started_at started_in activity_in
     began =
         ap (λ (o : Option Release). o >>= started_in) there
         ∙ ap (λ (x : ReleaseStatus). started_in (record r { status = x })) next.status
 
-    is_active : activity_of s (ReleaseAt place) ≡ Some a
+    is_active : activity_of s (ReleaseAt index) ≡ Some a
     unfolding activity_of activity_in
     is_active = ap (λ (o : Option Release). o >>= (λ x. activity_in x.status)) there ∙ ap activity_in next.status
 
     pub operates : (step : Step) →
-        applied code s (ReleaseAt place) a below (place_of_op code op) (effect_at code rows s f op rest) ≡ Some step →
-        LeavesOthers s step.state place → SameHandler step.state place r.handler → AreChained code step.state
+        applied code s (ReleaseAt index) a below (place_of_op code op) (effect_at code rows s f op rest) ≡ Some step →
+        LeavesOthers s step.state index → SameHandler step.state index r.handler → AreChained code step.state
     operates step does leaves same_handler =
-        step_keeps code s step.state b place r.handler leaves same_handler
-        (effect_spares code (λ z. 0) s (ReleaseAt place) a (place_of_op code op) below f.area
+        step_keeps code s step.state b index r.handler leaves same_handler
+        (effect_spares code (λ z. 0) s (ReleaseAt index) a (place_of_op code op) below f.area
         (effect_at code rows s f op rest) puts step does).areas
         (λ w row e row_is.
         (let chain : Chain code s row (f ∷ below) =
-        subst (Chain code s row) next.frames (b.is place (started_as r.handler a) row began row_is) in
-        (own_step code row place s a is_active (place_of_op code op) f below chain (exec_is_no_init s.phase exec)
-        (effect_at code rows s f op rest) (links code facts behind rows s i held place r a f below op rest next).links step
-        does).is w.activity (started_activity step.state place w e)))
+        subst (Chain code s row) next.frames (b.is index (started_as r.handler a) row began row_is) in
+        (own_step code row index s a is_active (place_of_op code op) f below chain (exec_is_no_init s.phase exec)
+        (effect_at code rows s f op rest) (links code facts behind rows s i held index r a f below op rest next).links step
+        does).is w.activity (started_activity step.state index w e)))
 
   -- ---- START
 
   module _ (row : HandlerRow) (scope : ℕ) (body : Body)
       (is_body : body_named code.program row.class (codes "handleAsyncEvent") ≡ Some body) where
-    first_chain : After code row place (started_with code s place row scope body)
+    first_chain : After code row index (started_with code s index row scope body)
     unfolding started_with opening activity_of activity_in with_activity new_frame handler_body
     first_chain = of (has_store_for s row.bytes)
       where
@@ -155,46 +155,46 @@ module _ (code : Code) (facts : Facts code) (behind : BehindChildren code.progra
         a : Activity
         a = record { frames = first ∷ []; areas = length s.areas ∷ s.activity.areas; priority = row.priority }
 
-        lowest : Lowest code (with_activity t (ReleaseAt place) a) row body (Some (length s.areas))
+        lowest : Lowest code (with_activity t (ReleaseAt index) a) row body (Some (length s.areas))
         lowest = record {
           is = is_body;
           takes = record {
             each = λ n q.
                 (let same : length s.areas ≡ n = some_inj (length s.areas) n q in
-                let at_n : area_at (with_activity t (ReleaseAt place) a) n ≡ Some x =
+                let at_n : area_at (with_activity t (ReleaseAt index) a) n ≡ Some x =
                 ap (λ (k : ℕ). slice_get (s.areas ++ x ∷ []) k) (sym same) ∙ get_last s.areas x in
                 (x, at_n, omega arith));
           };
         }
 
-        of : (c : Bool) → After code row place
-            (if c then silently (with_activity t (ReleaseAt place) a)
-            else fault_in s (ReleaseAt place) no_activity (class_place code.program row.class) StoreFull)
+        of : (c : Bool) → After code row index
+            (if c then silently (with_activity t (ReleaseAt index) a)
+            else fault_in s (ReleaseAt index) no_activity (class_place code.program row.class) StoreFull)
         of true = record {
           is = λ left e.
-              (let is : activity_of (with_activity t (ReleaseAt place) a) (ReleaseAt place) ≡ Some a =
+              (let is : activity_of (with_activity t (ReleaseAt index) a) (ReleaseAt index) ≡ Some a =
               ap (λ (o : Option Release). o >>= (λ r. activity_in r.status))
-              (changed_at (λ (r : Release). record r { status = Started a }) place s.releases r there) in
+              (changed_at (λ (r : Release). record r { status = Started a }) index s.releases r there) in
               let same : a ≡ left = some_inj a left (sym is ∙ e) in
-              subst (λ (z : Activity). Chain code (with_activity t (ReleaseAt place) a) row z.frames) same (lowest, tt));
+              subst (λ (z : Activity). Chain code (with_activity t (ReleaseAt index) a) row z.frames) same (lowest, tt));
         }
-        of false = faults_with code row place s no_activity (class_place code.program row.class) StoreFull
+        of false = faults_with code row index s no_activity (class_place code.program row.class) StoreFull
 
     pub starts : handler_row s.registry r.handler ≡ Some row →
-        LeavesOthers s (started_with code s place row scope body).state place →
-        SameHandler (started_with code s place row scope body).state place r.handler →
-        AreChained code (started_with code s place row scope body).state
+        LeavesOthers s (started_with code s index row scope body).state index →
+        SameHandler (started_with code s index row scope body).state index r.handler →
+        AreChained code (started_with code s index row scope body).state
     starts is_row leaves same_handler =
-        step_keeps code s (started_with code s place row scope body).state b place r.handler leaves same_handler
-        (start_spares code s place row scope body 0).areas
+        step_keeps code s (started_with code s index row scope body).state b index r.handler leaves same_handler
+        (start_spares code s index row scope body 0).areas
         (λ w other e other_is.
         (let same : row ≡ other = some_inj row other (sym is_row ∙ other_is) in
-        subst (λ (z : HandlerRow). Chain code (started_with code s place row scope body).state z w.activity.frames) same
-        (first_chain.is w.activity (started_activity (started_with code s place row scope body).state place w e))))
+        subst (λ (z : HandlerRow). Chain code (started_with code s index row scope body).state z w.activity.frames) same
+        (first_chain.is w.activity (started_activity (started_with code s index row scope body).state index w e))))
 
-  pub keeps : (step : Step) → ref_op code rows s (ReleaseAt place) ≡ Some step → AreChained code step.state
+  pub keeps : (step : Step) → ref_op code rows s (ReleaseAt index) ≡ Some step → AreChained code step.state
   keeps step e =
-      turn_keeps code rows s (AreChained code) exec place r there
+      turn_keeps code rows s (AreChained code) exec index r there
       (λ a f below op rest step next does leaves same. operates a f below op rest next step does leaves same)
       (λ row scope body waits is_row is leaves same. starts row scope body is is_row leaves same) step e
 
@@ -208,9 +208,9 @@ module _ (code : Code) (facts : HasFacts code) (bare : ClassesAskNothing code) (
       all_states code facts plan choices (AreChained code)
       (λ t none. record { is = λ q w row there row_is. absurd (none q w there) })
       (chained_still code)
-      (λ s h b exec place r there step e.
-      keeps code facts.bodies behind plan.readings (with_turn s (TurnOf place))
-      (time_passes code s s.unit (Some (TurnOf place)) (invariant_of code facts bare plan choices Arrived s h))
-      (jobs_still (All code) s (with_turn s (TurnOf place)) refl refl (all_explained code facts bare plan choices Arrived s h))
-      exec (chained_still code s (with_turn s (TurnOf place)) (still_turn s (TurnOf place)) b) place r there step e)
+      (λ s h b exec index r there step e.
+      keeps code facts.bodies behind plan.readings (with_turn s (TurnOf index))
+      (time_passes code s s.unit (Some (TurnOf index)) (invariant_of code facts bare plan choices Arrived s h))
+      (jobs_still (All code) s (with_turn s (TurnOf index)) refl refl (all_explained code facts bare plan choices Arrived s h))
+      exec (chained_still code s (with_turn s (TurnOf index)) (still_turn s (TurnOf index)) b) index r there step e)
       moment s h

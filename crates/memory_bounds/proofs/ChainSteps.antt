@@ -55,7 +55,7 @@ EffectLinks code f (Goes h) = IsSame f h
 EffectLinks code f (Prints h label value) = IsSame f h
 EffectLinks code f (Makes h class values) = IsSame f h
 EffectLinks code f (Stores h r slot v) = IsSame f h
-EffectLinks code f (StoresStatic h place v) = IsSame f h
+EffectLinks code f (StoresStatic h index v) = IsSame f h
 EffectLinks code f (SetsHidden h r values) = IsSame f h
 EffectLinks code f (SetsCeiling h r ceiling) = IsSame f h
 EffectLinks code f (Calls h g) = IsSame f h × (g.opened ≡ None) × RunsIn code f.body g.body
@@ -70,67 +70,67 @@ EffectLinks code f Stuck = Unit {0}
 pub same_areas : (s t : State) → t.areas ≡ s.areas → AreasStay s t
 same_areas s t e a x there = (x, ap (λ (xs : List MemoryArea). slice_get xs a) e ∙ there, refl)
 
-module _ (code : Code) (row : HandlerRow) (place : ℕ) where
+module _ (code : Code) (row : HandlerRow) (index : ℕ) where
   -- if the release is still under way, its frames are a chain
   pub record After (step : Step) : Type 0 where
-    pub is : (left : Activity) → activity_of step.state (ReleaseAt place) ≡ Some left →
+    pub is : (left : Activity) → activity_of step.state (ReleaseAt index) ≡ Some left →
         Chain code step.state row left.frames
 
   goes_with : (t : State) (activity a : Activity) (events : List Event) →
-      activity_of t (ReleaseAt place) ≡ Some activity → Chain code t row a.frames →
-      After (telling (with_activity t (ReleaseAt place) a) events)
+      activity_of t (ReleaseAt index) ≡ Some activity → Chain code t row a.frames →
+      After (telling (with_activity t (ReleaseAt index) a) events)
   unfolding with_activity
   goes_with t activity a events is chain = record {
     is = λ left e.
-        (let same : a ≡ left = some_inj a left (sym (set_activity t (ReleaseAt place) activity a is) ∙ e) in
-        subst (λ (x : Activity). Chain code (with_activity t (ReleaseAt place) a) row x.frames) same
-        (chain_stays code t (with_activity t (ReleaseAt place) a) (same_areas t (with_activity t (ReleaseAt place) a) refl)
+        (let same : a ≡ left = some_inj a left (sym (set_activity t (ReleaseAt index) activity a is) ∙ e) in
+        subst (λ (x : Activity). Chain code (with_activity t (ReleaseAt index) a) row x.frames) same
+        (chain_stays code t (with_activity t (ReleaseAt index) a) (same_areas t (with_activity t (ReleaseAt index) a) refl)
         row a.frames chain));
   }
 
-  ends_with : (t : State) (events : List Event) → After (telling (with_status t place Ended) events)
+  ends_with : (t : State) (events : List Event) → After (telling (with_status t index Ended) events)
   unfolding activity_of activity_in
-  ends_with t events = record { is = λ left e. absurd (of left e (slice_get t.releases place) refl) }
+  ends_with t events = record { is = λ left e. absurd (of left e (slice_get t.releases index) refl) }
     where
-      of : (left : Activity) → activity_of (with_status t place Ended) (ReleaseAt place) ≡ Some left →
-          (o : Option Release) → slice_get t.releases place ≡ o → ⊥
+      of : (left : Activity) → activity_of (with_status t index Ended) (ReleaseAt index) ≡ Some left →
+          (o : Option Release) → slice_get t.releases index ≡ o → ⊥
       of left e None there =
-          let same : changed (λ (r : Release). record r { status = Ended }) place t.releases ≡ t.releases =
+          let same : changed (λ (r : Release). record r { status = Ended }) index t.releases ≡ t.releases =
           ap (λ (x : Option Release). elim x as (λ z. List Release) [
             | None ↦ t.releases
-            | Some y ↦ slice_set t.releases place (record y { status = Ended })
+            | Some y ↦ slice_set t.releases index (record y { status = Ended })
           ]) there in
-          let none = ap (λ (rs : List Release). slice_get rs place) same ∙ there in
+          let none = ap (λ (rs : List Release). slice_get rs index) same ∙ there in
           let gone = ap (λ (o : Option Release). o >>= (λ x. activity_in x.status)) none in
           cc (gone, e)
       of left e (Some r) there =
-          let is = changed_at (λ (x : Release). record x { status = Ended }) place t.releases r there in
+          let is = changed_at (λ (x : Release). record x { status = Ended }) index t.releases r there in
           cc (ap (λ (o : Option Release). o >>= (λ x. activity_in x.status)) is, e)
 
   pub faults_with : (t : State) (activity : Activity) (pos : Pos) (fault : RunFault) →
-      After (fault_in t (ReleaseAt place) activity pos fault)
+      After (fault_in t (ReleaseAt index) activity pos fault)
   unfolding fault_in
   faults_with t activity pos fault = ends_with (closed_all t activity.frames) _
 
   then_same : (u v : State) (events : List Event) → After (silently u) →
-      activity_of v (ReleaseAt place) ≡ activity_of u (ReleaseAt place) → v.areas ≡ u.areas → After (telling v events)
+      activity_of v (ReleaseAt index) ≡ activity_of u (ReleaseAt index) → v.areas ≡ u.areas → After (telling v events)
   then_same u v events b same areas = record {
     is = λ left e. chain_stays code u v (same_areas u v areas) row left.frames (b.is left (sym same ∙ e));
   }
 
-  joined : (u : State) (activity : Activity) (more : List Release) → activity_of u (ReleaseAt place) ≡ Some activity →
-      activity_of (record u { releases = u.releases ++ more }) (ReleaseAt place) ≡ activity_of u (ReleaseAt place)
+  joined : (u : State) (activity : Activity) (more : List Release) → activity_of u (ReleaseAt index) ≡ Some activity →
+      activity_of (record u { releases = u.releases ++ more }) (ReleaseAt index) ≡ activity_of u (ReleaseAt index)
   unfolding activity_of
-  joined u activity more is = of (slice_get u.releases place) refl
+  joined u activity more is = of (slice_get u.releases index) refl
     where
-      of : (o : Option Release) → slice_get u.releases place ≡ o →
-          slice_get (u.releases ++ more) place >>= (λ r. activity_in r.status)
-          ≡ slice_get u.releases place >>= (λ r. activity_in r.status)
+      of : (o : Option Release) → slice_get u.releases index ≡ o →
+          slice_get (u.releases ++ more) index >>= (λ r. activity_in r.status)
+          ≡ slice_get u.releases index >>= (λ r. activity_in r.status)
       of None e = absurd (let n = ap (λ (o : Option Release). o >>= (λ r. activity_in r.status)) e in cc (n, is))
       of (Some r) e = ap (λ (o : Option Release). o >>= (λ r. activity_in r.status))
-          (get_left u.releases more place r e ∙ sym e)
+          (get_left u.releases more index r e ∙ sym e)
 
-  released_after : (u : State) (activity : Activity) (r : ℕ) → activity_of u (ReleaseAt place) ≡ Some activity →
+  released_after : (u : State) (activity : Activity) (r : ℕ) → activity_of u (ReleaseAt index) ≡ Some activity →
       After (silently u) → After (released u r)
   unfolding released release_taken
   released_after u activity r is b = taken (takes_releases u) (handler_number u.registry r)
@@ -165,15 +165,15 @@ module _ (code : Code) (row : HandlerRow) (place : ℕ) where
   unfolding termination_asked termination activity_of
   termination_after u r b = asked (asks_for_end u.mission u.phase u.is_end_asked r) (is_exec u.phase)
     where
-      mapped : slice_get (map dropped_release u.releases) place >>= (λ x. activity_in x.status)
-          ≡ slice_get u.releases place >>= (λ x. activity_in x.status)
-      mapped = of (slice_get u.releases place) refl
+      mapped : slice_get (map dropped_release u.releases) index >>= (λ x. activity_in x.status)
+          ≡ slice_get u.releases index >>= (λ x. activity_in x.status)
+      mapped = of (slice_get u.releases index) refl
         where
-          of : (o : Option Release) → slice_get u.releases place ≡ o →
-              slice_get (map dropped_release u.releases) place >>= (λ x. activity_in x.status)
-              ≡ slice_get u.releases place >>= (λ x. activity_in x.status)
-          of None e = rw (slice_get-map dropped_release u.releases place, e) refl
-          of (Some x) e = rw (slice_get-map dropped_release u.releases place, e) (dropped_same x)
+          of : (o : Option Release) → slice_get u.releases index ≡ o →
+              slice_get (map dropped_release u.releases) index >>= (λ x. activity_in x.status)
+              ≡ slice_get u.releases index >>= (λ x. activity_in x.status)
+          of None e = rw (slice_get-map dropped_release u.releases index, e) refl
+          of (Some x) e = rw (slice_get-map dropped_release u.releases index, e) (dropped_same x)
 
       asked : (c d : Bool) → After
           (if c then (if d then telling (record u { is_end_asked = true; releases = map dropped_release u.releases })
@@ -186,18 +186,18 @@ module _ (code : Code) (row : HandlerRow) (place : ℕ) where
 
   -- ---- one operation
 
-  module _ (s : State) (activity : Activity) (is : activity_of s (ReleaseAt place) ≡ Some activity) (pos : Pos)
+  module _ (s : State) (activity : Activity) (is : activity_of s (ReleaseAt index) ≡ Some activity) (pos : Pos)
       (f : Frame) (below : List Frame) (chain : Chain code s row (f ∷ below)) where
     -- with other objects or static fields
-    goes_to : (t : State) (h : Frame) (events : List Event) → activity_of t (ReleaseAt place) ≡ Some activity →
-        t.areas ≡ s.areas → IsSame f h → After (telling (with_frame t (ReleaseAt place) activity h below) events)
+    goes_to : (t : State) (h : Frame) (events : List Event) → activity_of t (ReleaseAt index) ≡ Some activity →
+        t.areas ≡ s.areas → IsSame f h → After (telling (with_frame t (ReleaseAt index) activity h below) events)
     goes_to t h events there areas same =
         goes_with t activity (record activity { frames = h ∷ below }) events there
         (chain_stays code s t (same_areas s t areas) row (h ∷ below) (chain_goes code s row f h below same chain))
 
     made : (h : Frame) (class : ℕ) (values : List Value) → IsSame f h →
-        After (allocating s (ReleaseAt place) activity pos class h.area values (λ t r.
-        silently (with_frame t (ReleaseAt place) activity (record h { operands = At r ∷ h.operands }) below)))
+        After (allocating s (ReleaseAt index) activity pos class h.area values (λ t r.
+        silently (with_frame t (ReleaseAt index) activity (record h { operands = At r ∷ h.operands }) below)))
     unfolding allocating activity_of
     made h class values same = of (has_room s h.area (length values))
       where
@@ -212,16 +212,16 @@ module _ (code : Code) (row : HandlerRow) (place : ℕ) where
         }
 
         of : (c : Bool) → After
-            (if c then silently (with_frame (with_object s class h.area values) (ReleaseAt place) activity
+            (if c then silently (with_frame (with_object s class h.area values) (ReleaseAt index) activity
             (record h { operands = At (length s.objects) ∷ h.operands }) below)
-            else fault_in s (ReleaseAt place) activity pos MemoryFull)
+            else fault_in s (ReleaseAt index) activity pos MemoryFull)
         of true =
             goes_to (with_object s class h.area values) (record h { operands = At (length s.objects) ∷ h.operands }) [] is
             refl more
         of false = faults_with s activity pos MemoryFull
 
     call_after : (h g : Frame) → IsSame f h → g.opened ≡ None → RunsIn code f.body g.body →
-        After (called code s (ReleaseAt place) activity (h ∷ below) pos g)
+        After (called code s (ReleaseAt index) activity (h ∷ below) pos g)
     unfolding called
     call_after h g same unopened runs = full (is_full (h ∷ below)) (ceiling_entered code s g)
       where
@@ -239,35 +239,35 @@ module _ (code : Code) (row : HandlerRow) (place : ℕ) where
         with_saved saved = chain_runs code s row f h (record g { saved = saved }) below same link chain
 
         lower : (ceiling : ℕ) (t : Bool) → After
-            (if t then fault_in s (ReleaseAt place) activity pos CeilingViolation
+            (if t then fault_in s (ReleaseAt index) activity pos CeilingViolation
             else telling
-            (with_activity s (ReleaseAt place) (record activity {
+            (with_activity s (ReleaseAt index) (record activity {
               frames = record g { saved = Some activity.priority } ∷ (h ∷ below);
               priority = ceiling;
             }))
-            (tell_priority s (ReleaseAt place) activity.priority ceiling))
+            (tell_priority s (ReleaseAt index) activity.priority ceiling))
         lower ceiling true = faults_with s activity pos CeilingViolation
         lower ceiling false = goes_with s activity _ _ is (with_saved (Some activity.priority))
 
         full : (t : Bool) (o : Option ℕ) → After
-            (if t then fault_in s (ReleaseAt place) activity pos DepthFull
+            (if t then fault_in s (ReleaseAt index) activity pos DepthFull
             else (elim o [
-              | None ↦ silently (with_activity s (ReleaseAt place) (record activity { frames = g ∷ (h ∷ below) }))
+              | None ↦ silently (with_activity s (ReleaseAt index) (record activity { frames = g ∷ (h ∷ below) }))
               | Some ceiling ↦
-                  if nat_lt ceiling activity.priority then fault_in s (ReleaseAt place) activity pos CeilingViolation
+                  if nat_lt ceiling activity.priority then fault_in s (ReleaseAt index) activity pos CeilingViolation
                   else telling
-                  (with_activity s (ReleaseAt place) (record activity {
+                  (with_activity s (ReleaseAt index) (record activity {
                     frames = record g { saved = Some activity.priority } ∷ (h ∷ below);
                     priority = ceiling;
                   }))
-                  (tell_priority s (ReleaseAt place) activity.priority ceiling)
+                  (tell_priority s (ReleaseAt index) activity.priority ceiling)
             ]))
         full true o = faults_with s activity pos DepthFull
         full false None = goes_with s activity _ _ is (chain_runs code s row f h g below same link chain)
         full false (Some ceiling) = lower ceiling (nat_lt ceiling activity.priority)
 
     open_after : (h g : Frame) (scope bytes : ℕ) → IsSame f h → EntersIn code f.body g.body bytes →
-        After (opened_in s (ReleaseAt place) activity (h ∷ below) pos g scope bytes)
+        After (opened_in s (ReleaseAt index) activity (h ∷ below) pos g scope bytes)
     unfolding opened_in opening activity_of
     open_after h g scope bytes same enters =
         cycle (is_some (area_with_scope s scope activity.areas)) (is_full (h ∷ below)) (has_store_for s bytes)
@@ -305,7 +305,7 @@ module _ (code : Code) (row : HandlerRow) (place : ℕ) where
           opens = inr (record { size = enters.size; asked = enters.asked; takes = takes });
         }
 
-        next : After (silently (with_activity t (ReleaseAt place) (record activity {
+        next : After (silently (with_activity t (ReleaseAt index) (record activity {
           frames = new ∷ (h ∷ below);
           areas = length s.areas ∷ activity.areas;
         })))
@@ -314,12 +314,12 @@ module _ (code : Code) (row : HandlerRow) (place : ℕ) where
             (chain_runs code t row f h new below same link (chain_stays code s t stay row (f ∷ below) chain))
 
         cycle : (c d e : Bool) → After
-            (if c then fault_in s (ReleaseAt place) activity pos ScopedCycle
-            else (if d then fault_in s (ReleaseAt place) activity pos DepthFull
-            else (if e then silently (with_activity t (ReleaseAt place) (record activity {
+            (if c then fault_in s (ReleaseAt index) activity pos ScopedCycle
+            else (if d then fault_in s (ReleaseAt index) activity pos DepthFull
+            else (if e then silently (with_activity t (ReleaseAt index) (record activity {
               frames = new ∷ (h ∷ below);
               areas = length s.areas ∷ activity.areas;
-            })) else fault_in s (ReleaseAt place) activity pos StoreFull)))
+            })) else fault_in s (ReleaseAt index) activity pos StoreFull)))
         cycle true d e = faults_with s activity pos ScopedCycle
         cycle false true e = faults_with s activity pos DepthFull
         cycle false false true = next
@@ -351,16 +351,16 @@ module _ (code : Code) (row : HandlerRow) (place : ℕ) where
     shut_releases None = refl
     shut_releases (Some n) = refl
 
-    left_after : (h : Frame) (value : Option Value) → After (frame_left s (ReleaseAt place) activity h below value)
+    left_after : (h : Frame) (value : Option Value) → After (frame_left s (ReleaseAt index) activity h below value)
     unfolding frame_left job_ended activity_of
     left_after h value = of below refl
       where
         t : State
         t = closed s h.opened
 
-        under : activity_of t (ReleaseAt place) ≡ Some activity
+        under : activity_of t (ReleaseAt index) ≡ Some activity
         under =
-            ap (λ (rs : List Release). slice_get rs place >>= (λ r. activity_in r.status)) (shut_releases h.opened) ∙ is
+            ap (λ (rs : List Release). slice_get rs index >>= (λ r. activity_in r.status)) (shut_releases h.opened) ∙ is
 
         kept : Chain code t row (returned value below)
         kept = chain_returned code t row value below (chain_stays code s t (shut h.opened) row below chain.1)
@@ -373,28 +373,28 @@ module _ (code : Code) (row : HandlerRow) (place : ℕ) where
         }
 
         of : (fs : List Frame) → below ≡ fs → After
-            (then_do (telling t (tell_priority s (ReleaseAt place) activity.priority (unwrap_or h.saved activity.priority)))
+            (then_do (telling t (tell_priority s (ReleaseAt index) activity.priority (unwrap_or h.saved activity.priority)))
             (λ u. elim fs [
-              | [] ↦ job_ended u (ReleaseAt place) after value
-              | g ∷ gs ↦ silently (with_activity u (ReleaseAt place) after)
+              | [] ↦ job_ended u (ReleaseAt index) after value
+              | g ∷ gs ↦ silently (with_activity u (ReleaseAt index) after)
             ]))
         of [] e = ends_with t _
         of (g ∷ gs) e = goes_with t activity after _ under kept
 
-    still_there : (h : Frame) → activity_of (with_frame s (ReleaseAt place) activity h below) (ReleaseAt place)
+    still_there : (h : Frame) → activity_of (with_frame s (ReleaseAt index) activity h below) (ReleaseAt index)
         ≡ Some (record activity { frames = h ∷ below })
-    still_there h = set_activity s (ReleaseAt place) activity (record activity { frames = h ∷ below }) is
+    still_there h = set_activity s (ReleaseAt index) activity (record activity { frames = h ∷ below }) is
 
-    plain : (h : Frame) → IsSame f h → After (silently (with_frame s (ReleaseAt place) activity h below))
+    plain : (h : Frame) → IsSame f h → After (silently (with_frame s (ReleaseAt index) activity h below))
     plain h same = goes_to s h [] is refl same
 
     pub own_step : is_init s.phase ≡ false → (e : Effect) → EffectLinks code f e → (step : Step) →
-        applied code s (ReleaseAt place) activity below pos e ≡ Some step → After step
+        applied code s (ReleaseAt index) activity below pos e ≡ Some step → After step
     unfolding applied activity_of registered
     own_step no_init (Goes h) k step q = subst After (some_inj _ step q) (plain h k)
     own_step no_init (Prints h label value) k step q =
-        subst After (some_inj _ step q) (then_same (with_frame s (ReleaseAt place) activity h below)
-        (with_frame s (ReleaseAt place) activity h below) (Print s.unit label value ∷ []) (plain h k) refl refl)
+        subst After (some_inj _ step q) (then_same (with_frame s (ReleaseAt index) activity h below)
+        (with_frame s (ReleaseAt index) activity h below) (Print s.unit label value ∷ []) (plain h k) refl refl)
     own_step no_init (Makes h class values) k step q = subst After (some_inj _ step q) (made h class values k)
     own_step no_init (Stores h r slot v) k step q =
         subst After (some_inj _ step q) (goes_to (with_slot s r slot v) h [] is refl k)
@@ -411,20 +411,20 @@ module _ (code : Code) (row : HandlerRow) (place : ℕ) where
     own_step no_init (Leaves h v) k step q = subst After (some_inj _ step q) (left_after h v)
     own_step no_init (AsksRelease h r) k step q =
         subst After (some_inj _ step q)
-        (released_after (with_frame s (ReleaseAt place) activity h below) (record activity { frames = h ∷ below }) r
+        (released_after (with_frame s (ReleaseAt index) activity h below) (record activity { frames = h ∷ below }) r
         (still_there h) (plain h k))
     own_step no_init (AsksTermination h r) k step q =
         subst After (some_inj _ step q)
-        (termination_after (with_frame s (ReleaseAt place) activity h below) r (plain h k))
+        (termination_after (with_frame s (ReleaseAt index) activity h below) r (plain h k))
     own_step no_init (Faults fault) k step q = subst After (some_inj _ step q) (faults_with s activity pos fault)
     own_step no_init Stuck k step q = absurd (cc (q))
     own_step no_init (AsksRegistration h r) k step q = of (object_at s r) q
       where
         of : (o : Option Object) → option_map
-            (λ (x : Object). registered code s (ReleaseAt place) activity pos r x (with_frame s (ReleaseAt place) activity h below)) o
+            (λ (x : Object). registered code s (ReleaseAt index) activity pos r x (with_frame s (ReleaseAt index) activity h below)) o
             ≡ Some step → After step
         of None q = absurd (cc (q))
         of (Some x) q =
-            let f : registered code s (ReleaseAt place) activity pos r x (with_frame s (ReleaseAt place) activity h below)
-            ≡ fault_in s (ReleaseAt place) activity pos NotInitializing = rw no_init refl in
+            let f : registered code s (ReleaseAt index) activity pos r x (with_frame s (ReleaseAt index) activity h below)
+            ≡ fault_in s (ReleaseAt index) activity pos NotInitializing = rw no_init refl in
             subst After (sym f ∙ some_inj _ step q) (faults_with s activity pos NotInitializing)

@@ -109,7 +109,7 @@ pub record CalledOn (code : Code) (u : ℕ) (o : Object) (body : Body) (before t
   pub heap : Heap u o s
   pub frames : HasCalled code u body before tail s.activity.frames
 
-module _ (code : Code) (u : ℕ) (o : Object) (s : State) (heap : Heap u o s) (activity : Activity) (place : Pos)
+module _ (code : Code) (u : ℕ) (o : Object) (s : State) (heap : Heap u o s) (activity : Activity) (position : Pos)
     (tail : List Frame) (body : Body) (at : Option ℕ) (area : ℕ) (arguments : List Value)
     (lacks : AllLack u arguments) where
   abbrev g : Frame
@@ -118,7 +118,7 @@ module _ (code : Code) (u : ℕ) (o : Object) (s : State) (heap : Heap u o s) (a
   abbrev After : State → Type 0
   After t = CalledOn code u o body s.activity.frames tail t
 
-  faults : (fault : RunFault) → After (fault_in s TheSequencer activity place fault).state
+  faults : (fault : RunFault) → After (fault_in s TheSequencer activity position fault).state
   unfolding fault_in
   faults fault = record {
     heap = record {
@@ -140,7 +140,7 @@ module _ (code : Code) (u : ℕ) (o : Object) (s : State) (heap : Heap u o s) (a
   }
 
   pub constructor_called : After
-      (called code s TheSequencer activity tail place (new_frame code body at (Some u) area arguments)).state
+      (called code s TheSequencer activity tail position (new_frame code body at (Some u) area arguments)).state
   unfolding called new_frame
   constructor_called =
       step_if After (is_full tail) _ _ (λ e. faults _)

@@ -313,9 +313,9 @@ pub record RunnableIsTyped (code : Code) (world : Environment) (f : Frame) (id :
       (is_sub code.program.classes o.class on ≡ true) × (kind_is is_concrete code.program o.class ≡ true)
 
 -- what has to be known of literals: the operand that an operation takes as a size is the number that is written
-pub record SizeIsWritten (code : Code) (f : Frame) (id place : ℕ) (which : Node → Option ℕ) : Type 0 where
+pub record SizeIsWritten (code : Code) (f : Frame) (id index : ℕ) (which : Node → Option ℕ) : Type 0 where
   pub written : (n : ℕ) → part code which id >>= part code number_literal ≡ Some n →
-      slice_get f.operands place ≡ Some (Int (pos n))
+      slice_get f.operands index ≡ Some (Int (pos n))
 
 module _ (code : Code) (table : Table) (world : Environment) (f : Frame) (id : ℕ) where
   greatest_run : (typed : RunnableIsTyped code world f id) (r : ℕ) (o : Object) (body : Body) →

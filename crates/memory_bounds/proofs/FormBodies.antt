@@ -44,16 +44,16 @@ pub record OnTheWay (code : Code) (OnWay : ℕ → Type 0) : Type 0 where
   -- the constructor of such a class is written, or the class stands for it
   pub node : (class b : ℕ) (node : Node) → OnWay class → constructor_body code.program class ≡ Some (Written b) →
       slice_get code.program.nodes b ≡ Some node →
-      ((place : Pos) × (name : List ℕ) × (flags : Option ℕ) × (parameters : Option ℕ) × (call : Option ℕ) × (inner : ℕ) ×
-      (node ≡ Constructor place name flags parameters call inner))
-      ⊎ ((place : Pos) × (name : List ℕ) × (flags header : Option ℕ) × (members : List ℕ) ×
-      (node ≡ Class place name flags header members))
+      ((position : Pos) × (name : List ℕ) × (flags : Option ℕ) × (parameters : Option ℕ) × (call : Option ℕ) × (inner : ℕ) ×
+      (node ≡ Constructor position name flags parameters call inner))
+      ⊎ ((position : Pos) × (name : List ℕ) × (flags header : Option ℕ) × (members : List ℕ) ×
+      (node ≡ Class position name flags header members))
   pub empty : (class : ℕ) → OnWay class → constructor_body code.program class ≡ Some Empty → ⊥
   pub class_there : (class : ℕ) → OnWay class → (node : ℕ) × (class_node code.program class ≡ Some node)
   -- a super call is bound to the next class
-  pub written : (b c call superclass : ℕ) (place : Pos) (name : List ℕ) (flags : Option ℕ) (parameters : Option ℕ)
+  pub written : (b c call superclass : ℕ) (position : Pos) (name : List ℕ) (flags : Option ℕ) (parameters : Option ℕ)
       (inner : ℕ) → OnWay c → class_of_body code.program b ≡ Some c →
-      slice_get code.program.nodes b ≡ Some (Constructor place name flags parameters (Some call) inner) → (at : Pos)
+      slice_get code.program.nodes b ≡ Some (Constructor position name flags parameters (Some call) inner) → (at : Pos)
       (arguments : List ℕ) → slice_get code.program.nodes call ≡ Some (SuperCall at arguments) →
       binding code call ≡ ClassNamed superclass → GoesOn OnWay superclass
   pub unwritten : (c node superclass : ℕ) → OnWay c → class_node code.program c ≡ Some node →
@@ -138,24 +138,24 @@ module _ (code : Code) (facts : Facts code) (bare : ClassesAskNothing code) (InS
                 ++ (literal_ops code class ++ (inner ++ LEAVE ∷ []))
           ]) class
 
-      of_written : (place : Pos) (name : List ℕ) (flags : Option ℕ) (parameters : Option ℕ) (call inner : ℕ) →
-          slice_get code.program.nodes b ≡ Some (Constructor place name flags parameters (Some call) inner) →
+      of_written : (position : Pos) (name : List ℕ) (flags : Option ℕ) (parameters : Option ℕ) (call inner : ℕ) →
+          slice_get code.program.nodes b ≡ Some (Constructor position name flags parameters (Some call) inner) →
           WrittenSuperFact code b c sig call → ComesToForm code I OnWay (Written b)
       unfolding body_ops node_ops argument_count
-      of_written place name flags parameters call inner there r =
+      of_written position name flags parameters call inner there r =
           super_comes call r.arguments
           (ap (λ (o : Option Node). elim (elim o as (λ z. Option ℕ) [ None ↦ None | Some n ↦ argument_count n ])
           as (λ z. ℕ) [ None ↦ 0 | Some n ↦ n ]) r.is_there)
-          (λ x a. laws.first call x r.place r.arguments r.is_there a) (behind (sub inner))
-          (ops_at code b (Constructor place name flags parameters (Some call) inner) there
+          (λ x a. laws.first call x r.position r.arguments r.is_there a) (behind (sub inner))
+          (ops_at code b (Constructor position name flags parameters (Some call) inner) there
           ∙ (parted (Some call) (sub inner)
           ∙ ap (λ (ys : List Op). ys ++ behind (sub inner))
           (below_lt [] b (ops_of code) call r.smaller
-          ∙ (ops_at code call (SuperCall r.place r.arguments) r.is_there
+          ∙ (ops_at code call (SuperCall r.position r.arguments) r.is_there
           ∙ same_super call (below [] call (ops_of code)) r.arguments (same_below call r.arguments r.are_smaller)
           (binding code call)))))
           r.super_fact
-          (ways.written b c call r.super_fact.superclass place name flags parameters inner way class there r.place r.arguments
+          (ways.written b c call r.super_fact.superclass position name flags parameters inner way class there r.position r.arguments
           r.is_there r.super_fact.is)
 
       of_unwritten : (inner : List Op) → ops_of code b ≡ constructor_ops code sub b None inner →
@@ -176,22 +176,22 @@ module _ (code : Code) (facts : Facts code) (bare : ClassesAskNothing code) (InS
           ∙ same_super n.0 sub [] refl (binding code n.0))))
           f.super_fact (ways.unwritten c n.0 f.super_fact.superclass way n.1 f.super_fact.is))
 
-      of_constructor : (place : Pos) (name : List ℕ) (flags : Option ℕ) (parameters : Option ℕ) (call : Option ℕ) (inner : ℕ) →
-          slice_get code.program.nodes b ≡ Some (Constructor place name flags parameters call inner) →
+      of_constructor : (position : Pos) (name : List ℕ) (flags : Option ℕ) (parameters : Option ℕ) (call : Option ℕ) (inner : ℕ) →
+          slice_get code.program.nodes b ≡ Some (Constructor position name flags parameters call inner) →
           OptionSuperFact code b c sig call → ComesToForm code I OnWay (Written b)
       unfolding node_ops
-      of_constructor place name flags parameters (Some call) inner there r =
-          of_written place name flags parameters call inner there r
-      of_constructor place name flags parameters None inner there r =
-          of_unwritten (sub inner) (ops_at code b (Constructor place name flags parameters None inner) there) r
+      of_constructor position name flags parameters (Some call) inner there r =
+          of_written position name flags parameters call inner there r
+      of_constructor position name flags parameters None inner there r =
+          of_unwritten (sub inner) (ops_at code b (Constructor position name flags parameters None inner) there) r
 
-      of_class : (place : Pos) (name : List ℕ) (flags header : Option ℕ) (members : List ℕ) →
-          slice_get code.program.nodes b ≡ Some (Class place name flags header members) →
+      of_class : (position : Pos) (name : List ℕ) (flags header : Option ℕ) (members : List ℕ) →
+          slice_get code.program.nodes b ≡ Some (Class position name flags header members) →
           ((node : ℕ) → class_node code.program c ≡ Some node → UnwrittenSuperFact code b c sig node) →
           ComesToForm code I OnWay (Written b)
       unfolding node_ops
-      of_class place name flags header members there r =
-          of_unwritten [] (ops_at code b (Class place name flags header members) there) r
+      of_class position name flags header members there r =
+          of_unwritten [] (ops_at code b (Class position name flags header members) there) r
 
     comes : OnWay c → constructor_body code.program c ≡ Some (Written b) → ComesToForm code I OnWay (Written b)
     unfolding EntryFact
@@ -200,17 +200,17 @@ module _ (code : Code) (facts : Facts code) (bare : ClassesAskNothing code) (InS
         entry : EntryFact code b c sig body.node
         entry = facts.entries b c sig body
 
-        of : ((place : Pos) × (name : List ℕ) × (flags : Option ℕ) × (parameters : Option ℕ) × (call : Option ℕ) ×
-            (inner : ℕ) × (body.node ≡ Constructor place name flags parameters call inner))
-            ⊎ ((place : Pos) × (name : List ℕ) × (flags header : Option ℕ) × (members : List ℕ) ×
-            (body.node ≡ Class place name flags header members)) → ComesToForm code I OnWay (Written b)
-        of (inl (place, name, flags, parameters, call, inner, e)) =
+        of : ((position : Pos) × (name : List ℕ) × (flags : Option ℕ) × (parameters : Option ℕ) × (call : Option ℕ) ×
+            (inner : ℕ) × (body.node ≡ Constructor position name flags parameters call inner))
+            ⊎ ((position : Pos) × (name : List ℕ) × (flags header : Option ℕ) × (members : List ℕ) ×
+            (body.node ≡ Class position name flags header members)) → ComesToForm code I OnWay (Written b)
+        of (inl (position, name, flags, parameters, call, inner, e)) =
             (let r = subst (EntryFact code b c sig) e entry in
-            of_constructor r.0.is_class way place name flags parameters call inner
+            of_constructor r.0.is_class way position name flags parameters call inner
             (body.is_there ∙ ap (λ (n : Node). Some n) e) r.0.super_fact)
-        of (inr (place, name, flags, header, members, e)) =
+        of (inr (position, name, flags, header, members, e)) =
             (let r = subst (EntryFact code b c sig) e entry in
-            of_class r.is_class way place name flags header members (body.is_there ∙ ap (λ (n : Node). Some n) e)
+            of_class r.is_class way position name flags header members (body.is_there ∙ ap (λ (n : Node). Some n) e)
             r.super_fact)
 
   pub constructors : (class : ℕ) (body : Body) (sig : Signature) → OnWay class →

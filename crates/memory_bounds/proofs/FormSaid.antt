@@ -47,18 +47,18 @@ use Rattle.memory_bounds.proofs.FormWays.{before_others, behind_others, call_sta
 -- ---- nodes
 
 constructor_with : (node : Node) (id : ℕ) → super_call_of node ≡ Some id →
-    (place : Pos) × (name : List ℕ) × (flags parameters : Option ℕ) × (inner : ℕ) ×
-    (node ≡ Constructor place name flags parameters (Some id) inner)
+    (position : Pos) × (name : List ℕ) × (flags parameters : Option ℕ) × (inner : ℕ) ×
+    (node ≡ Constructor position name flags parameters (Some id) inner)
 unfolding super_call_of
-constructor_with (Constructor place name flags parameters call inner) id e =
-    (place, name, flags, parameters, inner, ap (λ (o : Option ℕ). Constructor place name flags parameters o inner) e)
+constructor_with (Constructor position name flags parameters call inner) id e =
+    (position, name, flags, parameters, inner, ap (λ (o : Option ℕ). Constructor position name flags parameters o inner) e)
 constructor_with _ id e = absurd (cc (e))
 
 only_new : (node : Node) (argument : ℕ) → only_argument node ≡ Some argument →
-    (place name_place : Pos) × (name : List ℕ) × (node ≡ New place name_place name (argument ∷ []))
+    (position name_place : Pos) × (name : List ℕ) × (node ≡ New position name_place name (argument ∷ []))
 unfolding only_argument
-only_new (New place name_place name (x ∷ [])) argument e =
-    (place, name_place, name, ap (λ (y : ℕ). New place name_place name (y ∷ [])) (some_inj x argument e))
+only_new (New position name_place name (x ∷ [])) argument e =
+    (position, name_place, name, ap (λ (y : ℕ). New position name_place name (y ∷ [])) (some_inj x argument e))
 only_new _ argument e = absurd (cc (e))
 
 second_among : (x : ℕ) (parts : List ℕ) → slice_get parts 1 ≡ Some x → is_among x parts ≡ true
@@ -134,8 +134,8 @@ module _ (forest : Forest) (a : IsAcceptedProgram forest) where
       (id : ℕ) (call : IsSuperCall p b id) (superclass : ℕ) (bound_to : bound_class (binding code id) ≡ Some superclass)
       (form : has_form superclass ≡ true) where
     -- the constructor
-    abbrev k : (place : Pos) × (name : List ℕ) × (flags parameters : Option ℕ) × (inner : ℕ) ×
-        (call.node ≡ Constructor place name flags parameters (Some id) inner)
+    abbrev k : (position : Pos) × (name : List ℕ) × (flags parameters : Option ℕ) × (inner : ℕ) ×
+        (call.node ≡ Constructor position name flags parameters (Some id) inner)
     k = constructor_with call.node id call.is_call
 
     abbrev node : Node
@@ -159,7 +159,7 @@ module _ (forest : Forest) (a : IsAcceptedProgram forest) where
     up : superclass_in p.classes c ≡ Some superclass
     unfolding bound_class declarations_of
     up =
-        up_of_call forest a b c id written.super_fact.superclass k.0 k.1 k.2 k.3 k.4 class_is there call.place call.arguments
+        up_of_call forest a b c id written.super_fact.superclass k.0 k.1 k.2 k.3 k.4 class_is there call.position call.arguments
         call.is_there written.super_fact.is
         ∙ (sym (ap bound_class written.super_fact.is) ∙ bound_to)
 
@@ -181,7 +181,7 @@ module _ (forest : Forest) (a : IsAcceptedProgram forest) where
         con : DeclaredConstructor
         con = record {
           node = b;
-          place = k.0;
+          position = k.0;
           name = k.1;
           modifiers = modifiers_at p.nodes k.2;
           parameters = parameters_at p.nodes k.3;
@@ -210,10 +210,10 @@ module _ (forest : Forest) (a : IsAcceptedProgram forest) where
         x : ℕ
         second : slice_get parts 1 ≡ Some x
         argument : ℕ
-        place : Pos
+        position : Pos
         name_place : Pos
         name : List ℕ
-        is_new : slice_get p.nodes x ≡ Some (New place name_place name (argument ∷ []))
+        is_new : slice_get p.nodes x ≡ Some (New position name_place name (argument ∷ []))
         number : read p.nodes number_literal argument ≡ Some n
 
       stored : Storage
@@ -232,7 +232,7 @@ module _ (forest : Forest) (a : IsAcceptedProgram forest) where
             x = e.0;
             second = f.2;
             argument = d.0;
-            place = h.0;
+            position = h.0;
             name_place = h.1;
             name = h.2;
             is_new = g.1 ∙ ap (λ (m : Node). Some m) h.3;
@@ -258,20 +258,20 @@ module _ (forest : Forest) (a : IsAcceptedProgram forest) where
           in_super : (context p s.x).in_super_call ≡ true
           in_super =
               ap (λ (x : Context). x.in_super_call)
-              (child_context_is forest a.whole id s.x (SuperCall call.place call.arguments) call.is_there among)
+              (child_context_is forest a.whole id s.x (SuperCall call.position call.arguments) call.is_there among)
 
           stands : (context p s.x).class ≡ Some c
           stands =
               ap (λ (x : Context). x.class)
-              (child_context_is forest a.whole id s.x (SuperCall call.place call.arguments) call.is_there among)
+              (child_context_is forest a.whole id s.x (SuperCall call.position call.arguments) call.is_there among)
               ∙ (ap (λ (o : Option ℕ). or_else o (context p id).class)
-              (no_class_number forest a.whole id (SuperCall call.place call.arguments) call.is_there refl)
+              (no_class_number forest a.whole id (SuperCall call.position call.arguments) call.is_there refl)
               ∙ call_stands forest a b c id k.0 k.1 k.2 k.3 k.4 class_is there)
 
       plain : (s : Storage) → is_form_part p s.x ≡ true → binding_at_node p s.x ≡ Plain
       unfolding binding_of declarations_of
       plain s part =
-          binding_is forest a.is_accepted a.whole sorted s.x (New s.place s.name_place s.name (s.argument ∷ [])) s.is_new
+          binding_is forest a.is_accepted a.whole sorted s.x (New s.position s.name_place s.name (s.argument ∷ [])) s.is_new
           ∙ ap (λ t. if t then Plain else class_binding (class_number p.names s.name)) part
 
       pub form_says : (holds (class_with_form p class >>= superclass_in p.classes) (λ s. not (s == mission_sequencer)) ≡ true)
@@ -282,9 +282,9 @@ module _ (forest : Forest) (a : IsAcceptedProgram forest) where
           let among : is_among s.x call.arguments ≡ true =
           ap (is_among s.x) q.1 ∙ behind_others s.x q.0 (s.x ∷ []) (before_others s.x []) in
           record {
-            last = storage_last code behind id s.x n q.0 call.place
-                (call.is_there ∙ ap (λ (xs : List ℕ). Some (SuperCall call.place xs)) q.1)
-                (part_leaves code behind s.x s.argument n s.place s.name_place s.name s.is_new (plain s (part_is s among))
+            last = storage_last code behind id s.x n q.0 call.position
+                (call.is_there ∙ ap (λ (xs : List ℕ). Some (SuperCall call.position xs)) q.1)
+                (part_leaves code behind s.x s.argument n s.position s.name_place s.name s.is_new (plain s (part_is s among))
                 s.number);
             kept = λ e. no_sequencer (some_inj superclass mission_sequencer (sym bound_to ∙ e));
           })

@@ -33,29 +33,29 @@ all_last left (y ∷ ys) x s = all_last left ys x (with_left (left y) s)
 
 module _ (code : Code) (behind : BehindChildren code.program) where
   -- a part of a form with one number leaves that number
-  pub part_leaves : (x argument n : ℕ) (place name_place : Pos) (name : List ℕ) →
-      slice_get code.program.nodes x ≡ Some (New place name_place name (argument ∷ [])) → binding code x ≡ Plain →
+  pub part_leaves : (x argument n : ℕ) (position name_place : Pos) (name : List ℕ) →
+      slice_get code.program.nodes x ≡ Some (New position name_place name (argument ∷ [])) → binding code x ≡ Plain →
       part code number_literal argument ≡ Some n → left_by code x ≡ One (Exactly (Int (pos n)))
   unfolding left_by next_left left_by_node left_by_new left_by_part children AllBelow
-  part_leaves x argument n place name_place name there plain written =
+  part_leaves x argument n position name_place name there plain written =
       by_smaller-is Forgets (next_left code) x
       ∙ (ap (λ (o : Option Node). elim o as (λ z. Left) [
         | None ↦ Forgets
         | Some node ↦ left_by_node code (left_below code x) x node
       ]) there
       ∙ (ap (λ (b : Binding). left_by_new (left_below code x) (argument ∷ []) b) plain
-      ∙ (below_is code x argument (behind x (New place name_place name (argument ∷ [])) there).0
+      ∙ (below_is code x argument (behind x (New position name_place name (argument ∷ [])) there).0
       ∙ number_leaves code argument n written)))
 
   -- and is the highest operand when the form is read
-  pub storage_last : (id x n : ℕ) (front : List ℕ) (place : Pos) →
-      slice_get code.program.nodes id ≡ Some (SuperCall place (front ++ x ∷ [])) →
+  pub storage_last : (id x n : ℕ) (front : List ℕ) (position : Pos) →
+      slice_get code.program.nodes id ≡ Some (SuperCall position (front ++ x ∷ [])) →
       left_by code x ≡ One (Exactly (Int (pos n))) → (operands : List Value) →
       Operands (asked code (PARAMS id)) operands → slice_get operands 0 ≡ Some (Int (pos n))
   unfolding asked arguments_of children
-  storage_last id x n front place there leaves operands are =
+  storage_last id x n front position there leaves operands are =
       highest code (left_by code x) (Int (pos n)) (with_all (left_by code) front nothing) operands leaves
       (subst (λ (t : Stack). Operands t operands)
       (ap (with_parts code id) (ap (λ (o : Option Node). o >>= arguments_of) there)
-      ∙ (all_is code id (front ++ x ∷ []) nothing (behind id (SuperCall place (front ++ x ∷ [])) there)
+      ∙ (all_is code id (front ++ x ∷ []) nothing (behind id (SuperCall position (front ++ x ∷ [])) there)
       ∙ all_last (left_by code) front x nothing)) are)

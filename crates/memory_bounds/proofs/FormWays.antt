@@ -53,11 +53,11 @@ before_others x ys = ap (λ t. t || is_among x ys) (is_same_number x x refl)
 
 -- a constructor is a node
 constructor_is : (nodes : List Node) (x : ℕ) (n : Node) (con : DeclaredConstructor) → constructor_of nodes x n ≡ Some con →
-    ((place : Pos) × (name : List ℕ) × (flags : Option ℕ) × (parameters : Option ℕ) × (call : Option ℕ) × (inner : ℕ) ×
-    (n ≡ Constructor place name flags parameters call inner)) × (con.node ≡ x)
+    ((position : Pos) × (name : List ℕ) × (flags : Option ℕ) × (parameters : Option ℕ) × (call : Option ℕ) × (inner : ℕ) ×
+    (n ≡ Constructor position name flags parameters call inner)) × (con.node ≡ x)
 unfolding constructor_of
-constructor_is nodes x (Constructor place name flags parameters call inner) con e =
-    ((place, name, flags, parameters, call, inner, refl), sym (ap (λ (c : DeclaredConstructor). c.node) (some_inj _ con e)))
+constructor_is nodes x (Constructor position name flags parameters call inner) con e =
+    ((position, name, flags, parameters, call, inner, refl), sym (ap (λ (c : DeclaredConstructor). c.node) (some_inj _ con e)))
 constructor_is nodes x _ con e = absurd (cc (e))
 
 named_up : (o : Option ℕ) (s : ℕ) → plain_or (λ c. ClassNamed c) o ≡ ClassNamed s → o ≡ Some s
@@ -125,10 +125,10 @@ module _ (forest : Forest) (a : IsAcceptedProgram forest) where
 
   node_of : (class b : ℕ) (node : Node) → OnWay forest a class → constructor_body p class ≡ Some (Written b) →
       slice_get p.nodes b ≡ Some node →
-      ((place : Pos) × (name : List ℕ) × (flags : Option ℕ) × (parameters : Option ℕ) × (call : Option ℕ) × (inner : ℕ) ×
-      (node ≡ Constructor place name flags parameters call inner))
-      ⊎ ((place : Pos) × (name : List ℕ) × (flags header : Option ℕ) × (members : List ℕ) ×
-      (node ≡ Class place name flags header members))
+      ((position : Pos) × (name : List ℕ) × (flags : Option ℕ) × (parameters : Option ℕ) × (call : Option ℕ) × (inner : ℕ) ×
+      (node ≡ Constructor position name flags parameters call inner))
+      ⊎ ((position : Pos) × (name : List ℕ) × (flags header : Option ℕ) × (members : List ℕ) ×
+      (node ≡ Class position name flags header members))
   unfolding declarations_of
   node_of class b node way is there = of (constructor_in p.classes class) refl (sym (body_is class way) ∙ is)
     where
@@ -136,10 +136,10 @@ module _ (forest : Forest) (a : IsAcceptedProgram forest) where
       w = is_written class way
 
       of : (o : Option DeclaredConstructor) → constructor_in p.classes class ≡ o → made o (class_node p class) ≡ Some (Written b) →
-          ((place : Pos) × (name : List ℕ) × (flags : Option ℕ) × (parameters : Option ℕ) × (call : Option ℕ) × (inner : ℕ) ×
-          (node ≡ Constructor place name flags parameters call inner))
-          ⊎ ((place : Pos) × (name : List ℕ) × (flags header : Option ℕ) × (members : List ℕ) ×
-          (node ≡ Class place name flags header members))
+          ((position : Pos) × (name : List ℕ) × (flags : Option ℕ) × (parameters : Option ℕ) × (call : Option ℕ) × (inner : ℕ) ×
+          (node ≡ Constructor position name flags parameters call inner))
+          ⊎ ((position : Pos) × (name : List ℕ) × (flags header : Option ℕ) × (members : List ℕ) ×
+          (node ≡ Class position name flags header members))
       of (Some con) e k =
           (let s = constructor_stands forest a.is_accepted a.whole sorted class con e in
           let n = bound (slice_get p.nodes s.b) (constructor_of p.nodes s.b) con s.is_there in
@@ -152,43 +152,43 @@ module _ (forest : Forest) (a : IsAcceptedProgram forest) where
           same_body w.written.node b (sym (ap (option_map (λ node. Written node)) (class_there class w)) ∙ k) in
           let n = w.user.node in
           inr (
-            n.place,
+            n.position,
             w.written.name,
             n.flags,
             n.header,
             w.written.members,
-            some_inj node (Class n.place w.written.name n.flags n.header w.written.members)
+            some_inj node (Class n.position w.written.name n.flags n.header w.written.members)
                 (sym there ∙ (ap (slice_get p.nodes) (sym same) ∙ n.is_there)),
           ))
 
   -- the super call of a constructor stands in its class
-  pub call_stands : (b c call : ℕ) (place : Pos) (name : List ℕ) (flags parameters : Option ℕ) (inner : ℕ) →
+  pub call_stands : (b c call : ℕ) (position : Pos) (name : List ℕ) (flags parameters : Option ℕ) (inner : ℕ) →
       class_of_body p b ≡ Some c →
-      slice_get forest.nodes b ≡ Some (Constructor place name flags parameters (Some call) inner) →
+      slice_get forest.nodes b ≡ Some (Constructor position name flags parameters (Some call) inner) →
       (context p call).class ≡ Some c
   unfolding child_context children is_member is_no_class
-  call_stands b c call place name flags parameters inner class there =
+  call_stands b c call position name flags parameters inner class there =
       ap (λ (x : Context). x.class)
-      (child_context_is forest a.whole b call (Constructor place name flags parameters (Some call) inner) there among)
+      (child_context_is forest a.whole b call (Constructor position name flags parameters (Some call) inner) there among)
       ∙ (ap (λ (o : Option ℕ). or_else o (context p b).class)
-      (no_class_number forest a.whole b (Constructor place name flags parameters (Some call) inner) there refl)
+      (no_class_number forest a.whole b (Constructor position name flags parameters (Some call) inner) there refl)
       ∙ (member_at forest a.is_accepted a.whole sorted b c
-      (Constructor place name flags parameters (Some call) inner) there refl class).1)
+      (Constructor position name flags parameters (Some call) inner) there refl class).1)
     where
-      among : is_among call (children (Constructor place name flags parameters (Some call) inner)) ≡ true
+      among : is_among call (children (Constructor position name flags parameters (Some call) inner)) ≡ true
       among =
           behind_others call (optional flags) (optional parameters ++ (call ∷ (inner ∷ [])))
           (behind_others call (optional parameters) (call ∷ (inner ∷ [])) (before_others call (inner ∷ [])))
 
-  pub up_of_call : (b c call superclass : ℕ) (place : Pos) (name : List ℕ) (flags parameters : Option ℕ) (inner : ℕ) →
+  pub up_of_call : (b c call superclass : ℕ) (position : Pos) (name : List ℕ) (flags parameters : Option ℕ) (inner : ℕ) →
       class_of_body p b ≡ Some c →
-      slice_get forest.nodes b ≡ Some (Constructor place name flags parameters (Some call) inner) → (at : Pos)
+      slice_get forest.nodes b ≡ Some (Constructor position name flags parameters (Some call) inner) → (at : Pos)
       (arguments : List ℕ) → slice_get forest.nodes call ≡ Some (SuperCall at arguments) →
       binding_at_node p call ≡ ClassNamed superclass → superclass_in p.classes c ≡ Some superclass
   unfolding binding_of
-  up_of_call b c call superclass place name flags parameters inner class there at arguments is e =
+  up_of_call b c call superclass position name flags parameters inner class there at arguments is e =
       sym (ap (λ (o : Option ℕ). o >>= superclass_in p.classes)
-      (call_stands b c call place name flags parameters inner class there))
+      (call_stands b c call position name flags parameters inner class there))
       ∙ named_up ((context p call).class >>= superclass_in p.classes) superclass
       (sym (binding_is forest a.is_accepted a.whole sorted call (SuperCall at arguments) is) ∙ e)
 
@@ -203,7 +203,7 @@ module _ (forest : Forest) (a : IsAcceptedProgram forest) where
       ap (λ (o : Option ℕ). o >>= superclass_in p.classes) (sym named)
       ∙ named_up _ superclass
       (sym (binding_is forest a.is_accepted a.whole sorted w.written.node
-      (Class n.place w.written.name n.flags n.header w.written.members) n.is_there)
+      (Class n.position w.written.name n.flags n.header w.written.members) n.is_there)
       ∙ (ap (binding_at_node p) same ∙ e)))
 
   pub on_the_way : OnTheWay (code_of forest) (OnWay forest a)
@@ -212,9 +212,9 @@ module _ (forest : Forest) (a : IsAcceptedProgram forest) where
     node = λ class b node way is there. node_of class b node way is there;
     empty = λ class way e. none class way e;
     class_there = λ class way. ((is_written class way).written.node, class_there class (is_written class way));
-    written = λ b c call superclass place name flags parameters inner way class there at arguments is e.
+    written = λ b c call superclass position name flags parameters inner way class there at arguments is e.
         goes_on forest a c superclass way
-        (up_of_call b c call superclass place name flags parameters inner class there at arguments is e);
+        (up_of_call b c call superclass position name flags parameters inner class there at arguments is e);
     unwritten = λ c node superclass way is e. goes_on forest a c superclass way (up_of_class c node superclass way is e);
   }
     where

@@ -27,22 +27,22 @@ pub record SameRows (s t : State) : Type 0 where
   pub operation : (t.operation ≡ s.operation) ⊎ (t.outcome ≡ None)
 
 module _ (code : Code) (s : State) where
-  faulted : (activity : Activity) (place : Pos) (fault : RunFault) →
-      SameRows s (fault_in s TheSequencer activity place fault).state
+  faulted : (activity : Activity) (position : Pos) (fault : RunFault) →
+      SameRows s (fault_in s TheSequencer activity position fault).state
   unfolding fault_in is_init
-  faulted activity place fault = record { registry = refl; phase = inr refl; operation = inr refl }
+  faulted activity position fault = record { registry = refl; phase = inr refl; operation = inr refl }
 
-  opened : (place : Pos) (scope bytes : ℕ) → SameRows s (area_opened s place scope bytes).state
+  opened : (position : Pos) (scope bytes : ℕ) → SameRows s (area_opened s position scope bytes).state
   unfolding area_opened opening
-  opened place scope bytes =
+  opened position scope bytes =
       step_if (SameRows s) (has_store_for s bytes) _ _
-      (λ e. record { registry = refl; phase = inl refl; operation = inl refl }) (λ e. faulted s.activity place _)
+      (λ e. record { registry = refl; phase = inl refl; operation = inl refl }) (λ e. faulted s.activity position _)
 
-  made : (place : Pos) (class area : ℕ) → SameRows s (safelet_made code s place class area).state
+  made : (position : Pos) (class area : ℕ) → SameRows s (safelet_made code s position class area).state
   unfolding safelet_made allocating
-  made place class area =
+  made position class area =
       step_if (SameRows s) (has_room s area _) _ _
-      (λ e. record { registry = refl; phase = inl refl; operation = inl refl }) (λ e. faulted s.activity place _)
+      (λ e. record { registry = refl; phase = inl refl; operation = inl refl }) (λ e. faulted s.activity position _)
 
   called : (r : ℕ) (body : Body) → StepGives (SameRows s) (body_called code s r body)
   unfolding body_called
@@ -90,10 +90,10 @@ module _ (code : Code) (s : State) where
     pub frames : t.activity.frames ≡ []
     pub areas : t.activity.areas ≡ length s.areas ∷ s.activity.areas
 
-  opened_empty : s.activity.frames ≡ [] → (place : Pos) (scope bytes : ℕ) → (v : Value) →
-      (area_opened s place scope bytes).state.outcome ≡ Some v → OpensEmpty (area_opened s place scope bytes).state
+  opened_empty : s.activity.frames ≡ [] → (position : Pos) (scope bytes : ℕ) → (v : Value) →
+      (area_opened s position scope bytes).state.outcome ≡ Some v → OpensEmpty (area_opened s position scope bytes).state
   unfolding area_opened opening fault_in
-  opened_empty none place scope bytes v =
+  opened_empty none position scope bytes v =
       step_if (λ t. t.outcome ≡ Some v → OpensEmpty t) (has_store_for s bytes) _ _
       (λ e k. record { objects = refl; frames = none; areas = refl }) (λ e k. absurd (cc (k)))
 

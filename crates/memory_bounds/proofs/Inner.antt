@@ -29,15 +29,15 @@ use Rattle.memory_bounds.proofs.Makers.{InnerLaws, IsStraight}
 
 -- what is asked of the nodes that stand in a super call: their parts stand there too, and no object is at hand
 pub record StandWithoutObject (code : Code) (InSuper : ℕ → Type 0) : Type 0 where
-  pub first : (call x : ℕ) (place : Pos) (arguments : List ℕ) →
-      slice_get code.program.nodes call ≡ Some (SuperCall place arguments) → is_among x arguments ≡ true → InSuper x
+  pub first : (call x : ℕ) (position : Pos) (arguments : List ℕ) →
+      slice_get code.program.nodes call ≡ Some (SuperCall position arguments) → is_among x arguments ≡ true → InSuper x
   pub down : (id x : ℕ) (node : Node) → slice_get code.program.nodes id ≡ Some node →
       is_among x (children node) ≡ true → InSuper id → InSuper x
-  pub this : (id : ℕ) (place : Pos) → slice_get code.program.nodes id ≡ Some (This place) → InSuper id → ⊥
-  pub field : (id k : ℕ) (place : Pos) (name : List ℕ) →
-      slice_get code.program.nodes id ≡ Some (SimpleName place name) → binding code id ≡ Field k → InSuper id → ⊥
-  pub call : (b c id : ℕ) (place : Pos) (name arguments : List ℕ) (t : Target) →
-      slice_get code.program.nodes id ≡ Some (Call place name None arguments) → Inside code.program b c id →
+  pub this : (id : ℕ) (position : Pos) → slice_get code.program.nodes id ≡ Some (This position) → InSuper id → ⊥
+  pub field : (id k : ℕ) (position : Pos) (name : List ℕ) →
+      slice_get code.program.nodes id ≡ Some (SimpleName position name) → binding code id ≡ Field k → InSuper id → ⊥
+  pub call : (b c id : ℕ) (position : Pos) (name arguments : List ℕ) (t : Target) →
+      slice_get code.program.nodes id ≡ Some (Call position name None arguments) → Inside code.program b c id →
       binding code id ≡ Method t → InSuper id → ⊥
 
 pub later : (x y : ℕ) (xs : List ℕ) → is_among x xs ≡ true → is_among x (y ∷ xs) ≡ true
@@ -123,16 +123,16 @@ module _ (code : Code) (facts : Facts code) (InSuper : ℕ → Type 0) (laws : S
 
     -- ---- operators on two operands
 
-    right_is : (place : Pos) (operator l r : ℕ) → slice_get code.program.nodes id ≡ Some (Binary place operator l r) →
+    right_is : (position : Pos) (operator l r : ℕ) → slice_get code.program.nodes id ≡ Some (Binary position operator l r) →
         part code right_operand id ≡ Some r
     unfolding right_operand
-    right_is place operator l r there =
+    right_is position operator l r there =
         ap (λ (o : Option Node). elim o as (λ z. Option ℕ) [ None ↦ None | Some n ↦ right_operand n ]) there
 
     short_inner : (op : Op) → (op ≡ AND id) ⊎ (op ≡ OR id) → (UsesThis op → ⊥) → IsStraight op →
-        (place : Pos) (operator l r : ℕ) → slice_get code.program.nodes id ≡ Some (Binary place operator l r) →
+        (position : Pos) (operator l r : ℕ) → slice_get code.program.nodes id ≡ Some (Binary position operator l r) →
         (k : Kind) → HasValue code.program b c id r (Some k) → InSuper r → Inner op
-    short_inner op which own straight place operator l r there k h i = record {
+    short_inner op which own straight position operator l r there k h i = record {
       own = own;
       straight = straight;
       right = λ n x w e. at n x (number n w) e;
@@ -151,7 +151,7 @@ module _ (code : Code) (facts : Facts code) (InSuper : ℕ → Type 0) (laws : S
         at n x same e =
             let one : r ≡ x =
             (let z : Some r ≡ Some x =
-            sym (right_is place operator l r there) ∙ (ap (λ m. part code right_operand m) (sym same) ∙ e) in cc (z)) in
+            sym (right_is position operator l r there) ∙ (ap (λ m. part code right_operand m) (sym same) ∙ e) in cc (z)) in
             subst Clean one (record {
               body = b;
               class = c;
@@ -163,20 +163,20 @@ module _ (code : Code) (facts : Facts code) (InSuper : ℕ → Type 0) (laws : S
               stands = i;
             })
 
-    binary_inner : (place : Pos) (operator l r : ℕ) (j k : Kind) →
-        slice_get code.program.nodes id ≡ Some (Binary place operator l r) →
+    binary_inner : (position : Pos) (operator l r : ℕ) (j k : Kind) →
+        slice_get code.program.nodes id ≡ Some (Binary position operator l r) →
         HasValue code.program b c id l (Some j) → HasValue code.program b c id r (Some k) →
         All (binary_ops (below [] id (ops_of code)) id operator l r)
     unfolding binary_ops children IsStraight UsesThis
-    binary_inner place operator l r j k there hl hr =
+    binary_inner position operator l r j k there hl hr =
         go (operator == sign_and_and) (operator == sign_or_or)
       where
         in_left : InSuper l
-        in_left = laws.down id l (Binary place operator l r) there (among_first (r ∷ []) l) stands
+        in_left = laws.down id l (Binary position operator l r) there (among_first (r ∷ []) l) stands
 
         in_right : InSuper r
         in_right =
-            laws.down id r (Binary place operator l r) there (later r l (r ∷ []) (among_first [] r)) stands
+            laws.down id r (Binary position operator l r) there (later r l (r ∷ []) (among_first [] r)) stands
 
         go : (a o : Bool) → All
             (if a then below [] id (ops_of code) l ++ AND id ∷ []
@@ -184,10 +184,10 @@ module _ (code : Code) (facts : Facts code) (InSuper : ℕ → Type 0) (laws : S
             else (below [] id (ops_of code) l ++ (below [] id (ops_of code) r ++ BIN id ∷ []))))
         go true o =
             followed (below [] id (ops_of code) l) (AND id) (child l j hl in_left)
-            (short_inner (AND id) (inl refl) (λ x. x) tt place operator l r there k hr in_right)
+            (short_inner (AND id) (inl refl) (λ x. x) tt position operator l r there k hr in_right)
         go false true =
             followed (below [] id (ops_of code) l) (OR id) (child l j hl in_left)
-            (short_inner (OR id) (inr refl) (λ x. x) tt place operator l r there k hr in_right)
+            (short_inner (OR id) (inr refl) (λ x. x) tt position operator l r there k hr in_right)
         go false false =
             inner_both code Inner (below [] id (ops_of code) l) (below [] id (ops_of code) r ++ BIN id ∷ [])
             (child l j hl in_left)
@@ -196,16 +196,16 @@ module _ (code : Code) (facts : Facts code) (InSuper : ℕ → Type 0) (laws : S
 
     -- ---- names, and calls
 
-    name_inner : (place : Pos) (name : List ℕ) (x : Binding) →
-        slice_get code.program.nodes id ≡ Some (SimpleName place name) → binding code id ≡ x →
+    name_inner : (position : Pos) (name : List ℕ) (x : Binding) →
+        slice_get code.program.nodes id ≡ Some (SimpleName position name) → binding code id ≡ x →
         All (name_ops id x)
     unfolding name_ops IsStraight UsesThis
-    name_inner place name (Local k) there e =
+    name_inner position name (Local k) there e =
         alone (LOAD id) (plain (LOAD id) (λ x. x) tt (λ n e. cc (e)) (λ n e. cc (e)))
-    name_inner place name (Field k) there e = absurd (laws.field id k place name there e stands)
-    name_inner place name (Static k) there e =
+    name_inner position name (Field k) there e = absurd (laws.field id k position name there e stands)
+    name_inner position name (Static k) there e =
         alone (GETSTATIC id) (plain (GETSTATIC id) (λ x. x) tt (λ n e. cc (e)) (λ n e. cc (e)))
-    name_inner place name _ there e = tt
+    name_inner position name _ there e = tt
 
     access_inner : (object : ℕ) (x : Binding) → ((k : Kind) → HasValue code.program b c id object (Some k) →
         All (below [] id (ops_of code) object)) →
@@ -225,143 +225,143 @@ module _ (code : Code) (facts : Facts code) (InSuper : ℕ → Type 0) (laws : S
     access_inner object _ own e h = tt
 
     -- a call of a method
-    receiver_inner : (place : Pos) (name : List ℕ) (object : Option ℕ) (xs : List ℕ) (t : Target) (class : ℕ) (scope : _) →
-        slice_get code.program.nodes id ≡ Some (Call place name object xs) → binding code id ≡ Method t →
+    receiver_inner : (position : Pos) (name : List ℕ) (object : Option ℕ) (xs : List ℕ) (t : Target) (class : ℕ) (scope : _) →
+        slice_get code.program.nodes id ≡ Some (Call position name object xs) → binding code id ≡ Method t →
         ReceiverIs code.program b c id object class scope → All (receiver_ops (below [] id (ops_of code)) id object)
     unfolding receiver_ops children
-    receiver_inner place name None xs t class scope there e r = absurd (laws.call b c id place name xs t there inside e stands)
-    receiver_inner place name (Some object) xs t class scope there e r =
-        child object _ r (laws.down id object (Call place name (Some object) xs) there (among_first xs object) stands)
+    receiver_inner position name None xs t class scope there e r = absurd (laws.call b c id position name xs t there inside e stands)
+    receiver_inner position name (Some object) xs t class scope there e r =
+        child object _ r (laws.down id object (Call position name (Some object) xs) there (among_first xs object) stands)
 
     among_arguments : (object : Option ℕ) (xs : List ℕ) (x : ℕ) → is_among x xs ≡ true →
         is_among x (optional object ++ xs) ≡ true
     among_arguments None xs x h = h
     among_arguments (Some object) xs x h = later x object xs h
 
-    arguments_inner : (place : Pos) (name : List ℕ) (object : Option ℕ) (xs : List ℕ) (ks : List Kind) →
-        slice_get code.program.nodes id ≡ Some (Call place name object xs) → HaveValues code.program b c id xs ks →
+    arguments_inner : (position : Pos) (name : List ℕ) (object : Option ℕ) (xs : List ℕ) (ks : List Kind) →
+        slice_get code.program.nodes id ≡ Some (Call position name object xs) → HaveValues code.program b c id xs ks →
         All (flat_map (below [] id (ops_of code)) xs)
     unfolding children
-    arguments_inner place name object xs ks there h =
-        all_children xs ks h (λ x a. laws.down id x (Call place name object xs) there (among_arguments object xs x a) stands)
+    arguments_inner position name object xs ks there h =
+        all_children xs ks h (λ x a. laws.down id x (Call position name object xs) there (among_arguments object xs x a) stands)
 
     -- of the calls of the framework two give a value
-    builtin_inner : (place : Pos) (name : List ℕ) (object : Option ℕ) (xs : List ℕ) (m on : ℕ) (k : Kind) →
-        slice_get code.program.nodes id ≡ Some (Call place name object xs) →
+    builtin_inner : (position : Pos) (name : List ℕ) (object : Option ℕ) (xs : List ℕ) (m on : ℕ) (k : Kind) →
+        slice_get code.program.nodes id ≡ Some (Call position name object xs) →
         BuiltinCases code b c sig id object xs m on (Some k) →
         All (builtin_ops (below [] id (ops_of code)) id object xs m)
     unfolding builtin_ops IsStraight UsesThis
-    builtin_inner place name object xs m on k there (inl r) = absurd (let e = r.is_given in cc (e))
-    builtin_inner place name object xs m on k there (inr (inl r)) = absurd (let e = r.is_given in cc (e))
-    builtin_inner place name object xs m on k there (inr (inr (inl r))) = absurd (let e = r.is_given in cc (e))
-    builtin_inner place name object xs m on k there (inr (inr (inr (inl r)))) = absurd (let e = r.is_given in cc (e))
-    builtin_inner place name object xs m on k there (inr (inr (inr (inr (inl r))))) =
+    builtin_inner position name object xs m on k there (inl r) = absurd (let e = r.is_given in cc (e))
+    builtin_inner position name object xs m on k there (inr (inl r)) = absurd (let e = r.is_given in cc (e))
+    builtin_inner position name object xs m on k there (inr (inr (inl r))) = absurd (let e = r.is_given in cc (e))
+    builtin_inner position name object xs m on k there (inr (inr (inr (inl r)))) = absurd (let e = r.is_given in cc (e))
+    builtin_inner position name object xs m on k there (inr (inr (inr (inr (inl r))))) =
         subst (λ n. All (builtin_ops (below [] id (ops_of code)) id object xs n)) (sym r.is_method)
         (followed (flat_map (below [] id (ops_of code)) xs) (READ id)
-        (arguments_inner place name object xs (number ∷ []) there
+        (arguments_inner position name object xs (number ∷ []) there
         (subst (λ (ys : List ℕ). HaveValues code.program b c id ys (number ∷ [])) (sym r.are) (r.port_is, tt)))
         (plain (READ id) (λ x. x) tt (λ n e. cc (e)) (λ n e. cc (e))))
-    builtin_inner place name object xs m on k there (inr (inr (inr (inr (inr (inl r)))))) =
+    builtin_inner position name object xs m on k there (inr (inr (inr (inr (inr (inl r)))))) =
         absurd (let e = r.1.is_given in cc (e))
-    builtin_inner place name object xs m on k there (inr (inr (inr (inr (inr (inr (inl r))))))) =
+    builtin_inner position name object xs m on k there (inr (inr (inr (inr (inr (inr (inl r))))))) =
         absurd (let e = r.1.is_given in cc (e))
-    builtin_inner place name object xs m on k there (inr (inr (inr (inr (inr (inr (inr (inl r)))))))) =
+    builtin_inner position name object xs m on k there (inr (inr (inr (inr (inr (inr (inr (inl r)))))))) =
         absurd (let e = r.1.receiver.is_given in cc (e))
-    builtin_inner place name object xs m on k there (inr (inr (inr (inr (inr (inr (inr (inr r)))))))) =
+    builtin_inner position name object xs m on k there (inr (inr (inr (inr (inr (inr (inr (inr r)))))))) =
         subst (λ n. All (builtin_ops (below [] id (ops_of code)) id object xs n)) (sym r.is_method)
         (followed (flat_map (below [] id (ops_of code)) xs) (SAME id)
-        (arguments_inner place name object xs
+        (arguments_inner position name object xs
         (reference r.first_type r.first_scope ∷ (reference r.second_type r.second_scope ∷ [])) there
         (subst (λ (ys : List ℕ). HaveValues code.program b c id ys
         (reference r.first_type r.first_scope ∷ (reference r.second_type r.second_scope ∷ []))) (sym r.are)
         (r.first_is, (r.second_is, tt))))
         (plain (SAME id) (λ x. x) tt (λ n e. cc (e)) (λ n e. cc (e))))
 
-    call_inner : (place : Pos) (name : List ℕ) (object : Option ℕ) (xs : List ℕ) (k : Kind) →
-        slice_get code.program.nodes id ≡ Some (Call place name object xs) →
+    call_inner : (position : Pos) (name : List ℕ) (object : Option ℕ) (xs : List ℕ) (k : Kind) →
+        slice_get code.program.nodes id ≡ Some (Call position name object xs) →
         CallFact code b c sig id object xs (Some k)
         ⊎ (StaticCallFact code b c sig id xs (Some k) ⊎ BuiltinFact code b c sig id object xs (Some k)) →
         All (call_ops (below [] id (ops_of code)) id object xs (binding code id))
     unfolding call_ops IsStraight UsesThis
-    call_inner place name object xs k there (inl r) =
+    call_inner position name object xs k there (inl r) =
         subst (λ (x : Binding). All (call_ops (below [] id (ops_of code)) id object xs x)) (sym r.is)
         (inner_both code Inner (receiver_ops (below [] id (ops_of code)) id object)
         (flat_map (below [] id (ops_of code)) xs ++ CALL id ∷ [])
-        (receiver_inner place name object xs r.target r.class r.scope there r.is r.receiver_is)
+        (receiver_inner position name object xs r.target r.class r.scope there r.is r.receiver_is)
         (followed (flat_map (below [] id (ops_of code)) xs) (CALL id)
-        (arguments_inner place name object xs r.kinds there r.arguments_are)
+        (arguments_inner position name object xs r.kinds there r.arguments_are)
         (plain (CALL id) (λ x. x) tt (λ n e. cc (e)) (λ n e. cc (e)))))
-    call_inner place name object xs k there (inr (inl r)) =
+    call_inner position name object xs k there (inr (inl r)) =
         subst (λ (x : Binding). All (call_ops (below [] id (ops_of code)) id object xs x)) (sym r.is)
         (followed (flat_map (below [] id (ops_of code)) xs) (CALLSTATIC id)
-        (arguments_inner place name object xs r.kinds there r.arguments_are)
+        (arguments_inner position name object xs r.kinds there r.arguments_are)
         (plain (CALLSTATIC id) (λ x. x) tt (λ n e. cc (e)) (λ n e. cc (e))))
-    call_inner place name object xs k there (inr (inr r)) =
+    call_inner position name object xs k there (inr (inr r)) =
         subst (λ (x : Binding). All (call_ops (below [] id (ops_of code)) id object xs x)) (sym r.is)
-        (builtin_inner place name object xs r.target.id r.target.on k there r.cases)
+        (builtin_inner position name object xs r.target.id r.target.on k there r.cases)
 
     node_inner : (node : Node) (k : Kind) → slice_get code.program.nodes id ≡ Some node →
         ExpressionFact code b c sig id node (Some k) → All (node_ops code (below [] id (ops_of code)) id node)
     unfolding ExpressionFact node_ops children IsStraight UsesThis new_ops
-    node_inner (Number place value negative) k there r =
+    node_inner (Number position value negative) k there r =
         alone (PUSH id) (plain (PUSH id) (λ x. x) tt (λ n e. cc (e)) (λ n e. cc (e)))
-    node_inner (True place) k there r =
+    node_inner (True position) k there r =
         alone (PUSH id) (plain (PUSH id) (λ x. x) tt (λ n e. cc (e)) (λ n e. cc (e)))
-    node_inner (False place) k there r =
+    node_inner (False position) k there r =
         alone (PUSH id) (plain (PUSH id) (λ x. x) tt (λ n e. cc (e)) (λ n e. cc (e)))
-    node_inner (Null place) k there r =
+    node_inner (Null position) k there r =
         alone (PUSH id) (plain (PUSH id) (λ x. x) tt (λ n e. cc (e)) (λ n e. cc (e)))
-    node_inner (This place) k there r = absurd (laws.this id place there stands)
-    node_inner (SimpleName place name) k there r = name_inner place name (binding code id) there refl
-    node_inner (Parenthesized place inner) k there r =
-        child inner k r (laws.down id inner (Parenthesized place inner) there (among_first [] inner) stands)
-    node_inner (FieldAccess place name object) k there r = access_inner object (binding code id) own refl (by r)
+    node_inner (This position) k there r = absurd (laws.this id position there stands)
+    node_inner (SimpleName position name) k there r = name_inner position name (binding code id) there refl
+    node_inner (Parenthesized position inner) k there r =
+        child inner k r (laws.down id inner (Parenthesized position inner) there (among_first [] inner) stands)
+    node_inner (FieldAccess position name object) k there r = access_inner object (binding code id) own refl (by r)
       where
         own : (j : Kind) → HasValue code.program b c id object (Some j) → All (below [] id (ops_of code) object)
         own j h =
-            child object j h (laws.down id object (FieldAccess place name object) there (among_first [] object) stands)
+            child object j h (laws.down id object (FieldAccess position name object) there (among_first [] object) stands)
 
         by : FieldFact code b c id object (Some k) ⊎ (StaticFact code id (Some k) ⊎ LengthFact code b c id object (Some k)) →
             ((j : Kind) × HasValue code.program b c id object (Some j)) ⊎ ((n : ℕ) × (binding code id ≡ Static n))
         by (inl x) = inl (_, x.object_is)
         by (inr (inl x)) = inr (x.field, x.is)
         by (inr (inr x)) = inl (_, x.array_is)
-    node_inner (Element place array index) k there r =
+    node_inner (Element position array index) k there r =
         inner_both code Inner (below [] id (ops_of code) array) (below [] id (ops_of code) index ++ ELEM id ∷ [])
         (child array _ r.array_is
-        (laws.down id array (Element place array index) there (among_first (index ∷ []) array) stands))
+        (laws.down id array (Element position array index) there (among_first (index ∷ []) array) stands))
         (followed (below [] id (ops_of code) index) (ELEM id)
         (child index _ r.index_is
-        (laws.down id index (Element place array index) there (later index array (index ∷ []) (among_first [] index)) stands))
+        (laws.down id index (Element position array index) there (later index array (index ∷ []) (among_first [] index)) stands))
         (plain (ELEM id) (λ x. x) tt (λ n e. cc (e)) (λ n e. cc (e))))
-    node_inner (Unary place operator operand) k there r =
+    node_inner (Unary position operator operand) k there r =
         followed (below [] id (ops_of code) operand) (UNARY id)
         (child operand _ r.operand_is
-        (laws.down id operand (Unary place operator operand) there (among_first [] operand) stands))
+        (laws.down id operand (Unary position operator operand) there (among_first [] operand) stands))
         (plain (UNARY id) (λ x. x) tt (λ n e. cc (e)) (λ n e. cc (e)))
-    node_inner (Binary place operator l x) k there (inl r) =
-        binary_inner place operator l x _ _ there r.1.left_is r.1.right_is
-    node_inner (Binary place operator l x) k there (inr r) =
-        binary_inner place operator l x _ _ there r.left_is r.right_is
-    node_inner (New place name_place name xs) k there r =
+    node_inner (Binary position operator l x) k there (inl r) =
+        binary_inner position operator l x _ _ there r.1.left_is r.1.right_is
+    node_inner (Binary position operator l x) k there (inr r) =
+        binary_inner position operator l x _ _ there r.left_is r.right_is
+    node_inner (New position name_place name xs) k there r =
         subst (λ (x : Binding). All (new_ops (below [] id (ops_of code)) id xs x)) (sym r.is) (
           plain (ALLOC id) (λ x. x) tt (λ n e. cc (e)) (λ n e. cc (e)),
           followed (flat_map (below [] id (ops_of code)) xs) (CONSTRUCT id)
               (all_children xs r.kinds r.arguments_are
-              (λ x a. laws.down id x (New place name_place name xs) there a stands))
+              (λ x a. laws.down id x (New position name_place name xs) there a stands))
               (plain (CONSTRUCT id) (λ x. x) tt (λ n e. cc (e)) (λ n e. cc (e))),
         )
-    node_inner (NewArray place element count) k there r =
+    node_inner (NewArray position element count) k there r =
         followed (below [] id (ops_of code) count) (ALLOCARRAY id)
         (child count _ r.count_is
-        (laws.down id count (NewArray place element count) there (later count element (count ∷ []) (among_first [] count)) stands))
+        (laws.down id count (NewArray position element count) there (later count element (count ∷ []) (among_first [] count)) stands))
         (plain (ALLOCARRAY id) (λ x. x) tt (λ n e. cc (e)) (λ n e. cc (e)))
-    node_inner (Cast place name_place name operand) k there r =
+    node_inner (Cast position name_place name operand) k there r =
         followed (below [] id (ops_of code) operand) (CAST id)
         (child operand _ r.operand_is
-        (laws.down id operand (Cast place name_place name operand) there (among_first [] operand) stands))
+        (laws.down id operand (Cast position name_place name operand) there (among_first [] operand) stands))
         (plain (CAST id) (λ x. x) tt (λ n e. cc (e)) (λ n e. cc (e)))
-    node_inner (Call place name object xs) k there r = call_inner place name object xs k there r
+    node_inner (Call position name object xs) k there r = call_inner position name object xs k there r
     node_inner _ k there r = absurd r
 
   -- ---- all values in super calls

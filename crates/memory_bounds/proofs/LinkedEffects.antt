@@ -59,11 +59,11 @@ pub record IsLinked (code : Code) (f : Frame) (e : Effect) : Type 0 where
 -- the call at a node has a first argument
 pub record FirstArgument (code : Code) (id : ℕ) : Type 0 where
   pub size : ℕ
-  pub place : Pos
+  pub position : Pos
   pub name : List ℕ
   pub object : Option ℕ
   pub more : List ℕ
-  pub is : slice_get code.program.nodes id ≡ Some (Call place name object (size ∷ more))
+  pub is : slice_get code.program.nodes id ≡ Some (Call position name object (size ∷ more))
 
 module _ (code : Code) (w : World) (list : List ℕ) (c : ℕ) (sig : Signature) (f : Frame) (op : Op) (rest : List Op)
     (pushers : List Pusher) (came : Comes code f.body (op ∷ rest) pushers)
@@ -85,8 +85,8 @@ module _ (code : Code) (w : World) (list : List ℕ) (c : ℕ) (sig : Signature)
     abbrev first : FirstArgument code r.id
     first = arguments r.id e.is
 
-    node_is : r.node ≡ Call first.place first.name first.object (first.size ∷ first.more)
-    node_is = some_inj r.node (Call first.place first.name first.object (first.size ∷ first.more)) (sym r.is ∙ first.is)
+    node_is : r.node ≡ Call first.position first.name first.object (first.size ∷ first.more)
+    node_is = some_inj r.node (Call first.position first.name first.object (first.size ∷ first.more)) (sym r.is ∙ first.is)
 
     asked_size : entered_with (binding code r.id) r.node ≡ Some first.size
     unfolding entered_with
@@ -213,7 +213,7 @@ module _ (code : Code) (facts : Facts code) (behind : BehindChildren code.progra
         linked class sig (ENTER id) is_ready next is_fine (λ k e.
         (let same_id : id ≡ k = cc (e) in record {
           size = need.size;
-          place = need.place;
+          position = need.position;
           name = need.name;
           object = need.object;
           more = need.runnable ∷ [];
@@ -245,10 +245,10 @@ module _ (code : Code) (facts : Facts code) (behind : BehindChildren code.progra
           full = (plain_effect code frame (environment rows s) op tt).full;
         })
 
-  pub links : (place : ℕ) (r : Release) (a : Activity) (f : Frame) (below : List Frame) (op : Op) (rest : List Op) →
-      IsNext s place r a f below op rest → IsLinked code f (effect_at code rows s f op rest)
-  links place r a f below op rest next =
-      of_op place r a f below rest (stand code facts rows s i place r a f below op rest next).0.class
-      (stand code facts rows s i place r a f below op rest next).0.sig op
-      (ready code facts rows s i place r a f below op rest next) next
-      (fine code facts rows s i place r a f below op rest next)
+  pub links : (index : ℕ) (r : Release) (a : Activity) (f : Frame) (below : List Frame) (op : Op) (rest : List Op) →
+      IsNext s index r a f below op rest → IsLinked code f (effect_at code rows s f op rest)
+  links index r a f below op rest next =
+      of_op index r a f below rest (stand code facts rows s i index r a f below op rest next).0.class
+      (stand code facts rows s i index r a f below op rest next).0.sig op
+      (ready code facts rows s i index r a f below op rest next) next
+      (fine code facts rows s i index r a f below op rest next)

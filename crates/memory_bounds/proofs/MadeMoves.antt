@@ -29,19 +29,19 @@ split x y xs ys e = record { head = cc (e); tail = cc (e) }
 
 module _ (code : Code) (Inner : Op → Type 0) (OnWay : ℕ → Type 0) (laws : InnerLaws code Inner)
     (G : Body → Bool → Type 0) (bare : ClassesAskNothing code) (u : ℕ) (o : Object) (s : State) (heap : Heap u o s)
-    (activity : Activity) (place : Pos) (world : Environment)
+    (activity : Activity) (position : Pos) (world : Environment)
     (objects : (r : ℕ) (x : Object) → world.object_at r ≡ Some x → AllLack u x.slots)
     (statics : AllLack u world.statics) (f : Frame) (below : List Frame) (acts : s.activity.frames ≡ f ∷ below)
     (op : Op) (rest : List Op) (ops : f.rest ≡ op ∷ rest)
     (stays : KeepsBody code G f.body (effect_of code world (record f { rest = rest }) op))
     (gives : GivesAsBound code G world (record f { rest = rest }) op)
     (begin : (id class : ℕ) → (op ≡ CONSTRUCT id) ⊎ (op ≡ SUPER id) → bound_class (binding code id) ≡ Some class →
-    OnWay class → CanBegin code Inner OnWay laws G bare u o s heap activity place world objects statics class) where
+    OnWay class → CanBegin code Inner OnWay laws G bare u o s heap activity position world objects statics class) where
   -- afterwards
   abbrev pub Still : Type 0
   Still =
-      StepGives (Made_in code Inner OnWay laws G bare u o s heap activity place world objects statics)
-      (applied code s TheSequencer activity below place (effect_of code world (record f { rest = rest }) op))
+      StepGives (Made_in code Inner OnWay laws G bare u o s heap activity position world objects statics)
+      (applied code s TheSequencer activity below position (effect_of code world (record f { rest = rest }) op))
 
   pub data MovesOn : Type 0 where
     Is_made : Still → MovesOn
@@ -54,11 +54,11 @@ module _ (code : Code) (Inner : Op → Type 0) (OnWay : ℕ → Type 0) (laws : 
       Next code Inner OnWay u f h.lower op rest h.by.stack → MovesOn
   by_holder still h (Goes_on k p calm) =
       Is_made
-      (holder_step code Inner OnWay laws G bare u o s heap activity place world objects statics f op rest below acts gives
+      (holder_step code Inner OnWay laws G bare u o s heap activity position world objects statics f op rest below acts gives
       h p calm k)
   by_holder still h (Calls_on id class above calls bound way lacks is count) =
       Is_made
-      (call_step code Inner OnWay laws G bare u o s heap activity place world objects statics f rest below id class op calls
+      (call_step code Inner OnWay laws G bare u o s heap activity position world objects statics f rest below id class op calls
       bound (begin id class calls bound way) still above h.lower is lacks count)
 
   by_reader : (r : Reader code Inner OnWay G u f) → MovesOn
@@ -74,7 +74,7 @@ module _ (code : Code) (Inner : Op → Type 0) (OnWay : ℕ → Type 0) (laws : 
           (sym ops ∙ (p.is ∙ ap (λ (xs : List Op). xs ++ PARAMS p.id ∷ p.more) e))).head r.own
       of (x ∷ front) e =
           Is_made
-          (reader_step code Inner OnWay laws G bare u o s heap activity place world objects statics f op rest below acts gives
+          (reader_step code Inner OnWay laws G bare u o s heap activity position world objects statics f op rest below acts gives
           r front p.more p.id lists.tail (subst Inner (sym lists.head) calm.0) calm.1)
         where
           lists : SameLists op x rest (front ++ PARAMS p.id ∷ p.more)
@@ -87,13 +87,13 @@ module _ (code : Code) (Inner : Op → Type 0) (OnWay : ℕ → Type 0) (laws : 
 
   by_start : Starts code Inner OnWay G u f → MovesOn
   by_start b =
-      Is_made (subst (λ (x : Op). StepGives (Made_in code Inner OnWay laws G bare u o s heap activity place world objects statics)
-      (applied code s TheSequencer activity below place (effect_of code world (record f { rest = rest }) x))) (sym lists.head)
+      Is_made (subst (λ (x : Op). StepGives (Made_in code Inner OnWay laws G bare u o s heap activity position world objects statics)
+      (applied code s TheSequencer activity below position (effect_of code world (record f { rest = rest }) x))) (sym lists.head)
       (subst (λ (xs : List Op). StepGives
-      (Made_in code Inner OnWay laws G bare u o s heap activity place world objects statics)
-      (applied code s TheSequencer activity below place (effect_of code world (record f { rest = xs }) (THIS b.id))))
+      (Made_in code Inner OnWay laws G bare u o s heap activity position world objects statics)
+      (applied code s TheSequencer activity below position (effect_of code world (record f { rest = xs }) (THIS b.id))))
       (sym lists.tail)
-      (begins_step code Inner OnWay laws G bare u o s heap activity place world objects statics f below b)))
+      (begins_step code Inner OnWay laws G bare u o s heap activity position world objects statics f below b)))
     where
       lists : SameLists op (THIS b.id) rest (b.front ++ SUPER b.id ∷ b.more)
       lists = split op (THIS b.id) rest (b.front ++ SUPER b.id ∷ b.more) (sym ops ∙ b.is)
@@ -103,9 +103,9 @@ module _ (code : Code) (Inner : Op → Type 0) (OnWay : ℕ → Type 0) (laws : 
       ⊎ ReaderWaits code Inner OnWay G u g (lowest_body f.body upper) → below ≡ upper ++ g ∷ tail → MovesOn
   by_upper upper g tail l others w e =
       Is_made (subst (λ (fs : List Frame). StepGives
-      (Made_in code Inner OnWay laws G bare u o s heap activity place world objects statics)
-      (applied code s TheSequencer activity fs place (effect_of code world (record f { rest = rest }) op))) (sym e)
-      (upper_step code Inner OnWay laws G bare u o s heap activity place world objects statics (record f { rest = rest })
+      (Made_in code Inner OnWay laws G bare u o s heap activity position world objects statics)
+      (applied code s TheSequencer activity fs position (effect_of code world (record f { rest = rest }) op))) (sym e)
+      (upper_step code Inner OnWay laws G bare u o s heap activity position world objects statics (record f { rest = rest })
       (moved l) upper others op stays g tail w f l refl (acts ∙ ap (λ (fs : List Frame). f ∷ fs) e)))
 
   pub moves_on : Made code Inner OnWay G u s.activity.frames → MovesOn
@@ -114,7 +114,7 @@ module _ (code : Code) (Inner : Op → Type 0) (OnWay : ℕ → Type 0) (laws : 
       of : Made code Inner OnWay G u s.activity.frames → MovesOn
       of (Nowhere a) =
           Is_made
-          (free_step code Inner OnWay laws G bare u o s heap activity place world objects statics (record f { rest = rest })
+          (free_step code Inner OnWay laws G bare u o s heap activity position world objects statics (record f { rest = rest })
           (moved all.0) below all.1 op stays f all.0 refl acts)
         where
           all : AllBare u (f ∷ below)

@@ -32,7 +32,7 @@ use Rattle.memory_bounds.proofs.Unnamed.{AllBare, Back, Called, Clean, Further, 
 
 module _ (code : Code) (Inner : Op → Type 0) (OnWay : ℕ → Type 0) (laws : InnerLaws code Inner) (G : Body → Bool → Type 0)
     (bare : ClassesAskNothing code) (u : ℕ) (o : Object) (s : State) (heap : Heap u o s) (activity : Activity)
-    (place : Pos) (world : Environment)
+    (position : Pos) (world : Environment)
     (objects : (r : ℕ) (x : Object) → world.object_at r ≡ Some x → AllLack u x.slots)
     (statics : AllLack u world.statics) where
   -- the object is being made, and the heap doesn't name it
@@ -67,12 +67,12 @@ module _ (code : Code) (Inner : Op → Type 0) (OnWay : ℕ → Type 0) (laws : 
         HolderWaits code Inner OnWay G u f (lowest_body top.body upper) ⊎ ReaderWaits code Inner OnWay G u f (lowest_body top.body upper) →
         (was : Frame) → Lack u was → was.body ≡ top.body → s.activity.frames ≡ was ∷ (upper ++ f ∷ below) →
         StepGives Made_in
-        (applied code s TheSequencer activity (upper ++ f ∷ below) place (effect_of code world top op))
+        (applied code s TheSequencer activity (upper ++ f ∷ below) position (effect_of code world top op))
     upper_step f below w was l same acts =
         mapped _
         (cleaned _ _ (λ fs h. of_held code Inner OnWay G u (lowest_body top.body upper) f below fs w h))
         (upper_acts u top lacks (Given code Inner OnWay G u (lowest_body top.body upper)) upper (f ∷ below) others code o s heap
-        activity (Upper was upper l others (ap (λ b. lowest_body b upper) same) acts) place world objects statics op
+        activity (Upper was upper l others (ap (λ b. lowest_body b upper) same) acts) position world objects statics op
         further)
 
     -- where no frame names it
@@ -86,14 +86,14 @@ module _ (code : Code) (Inner : Op → Type 0) (OnWay : ℕ → Type 0) (laws : 
     free frames (Back (Some v) n g e) = Nowhere (subst (AllBare u) (sym e) tt)
 
     pub free_step : (was : Frame) → Lack u was → was.body ≡ top.body → s.activity.frames ≡ was ∷ upper →
-        StepGives Made_in (applied code s TheSequencer activity upper place (effect_of code world top op))
+        StepGives Made_in (applied code s TheSequencer activity upper position (effect_of code world top op))
     free_step was l same acts =
         subst (λ (fs : List Frame). StepGives Made_in
-        (applied code s TheSequencer activity fs place (effect_of code world top op))) (append-nil upper)
+        (applied code s TheSequencer activity fs position (effect_of code world top op))) (append-nil upper)
         (mapped _ (cleaned _ _ free)
         (upper_acts u top lacks (Given code Inner OnWay G u (lowest_body top.body upper)) upper [] others code o s heap
         activity (Upper was upper l others (ap (λ b. lowest_body b upper) same)
-        (acts ∙ ap (λ (gs : List Frame). was ∷ gs) (sym (append-nil upper)))) place world objects statics op
+        (acts ∙ ap (λ (gs : List Frame). was ∷ gs) (sym (append-nil upper)))) position world objects statics op
         further))
 
   -- ---- the frame that holds it
@@ -154,12 +154,12 @@ module _ (code : Code) (Inner : Op → Type 0) (OnWay : ℕ → Type 0) (laws : 
 
       pub holder_step : Kept u (At u ∷ h.lower) f.this (pops code op) f →
           StepGives Made_in
-          (applied code s TheSequencer activity below place (effect_of code world (record f { rest = rest }) op))
+          (applied code s TheSequencer activity below position (effect_of code world (record f { rest = rest }) op))
       holder_step k =
           mapped _ (cleaned _ _ held)
           (holder_acts u (At u ∷ h.lower) (λ g. ExplainedBy (Pending code Inner OnWay u f.this) g)
           (λ g b. WaitsBy (Pending code Inner OnWay u f.this) G g b) code o s heap activity (record f { rest = rest }) below
-          (Top f h.kept h.by acts) place world objects statics op
+          (Top f h.kept h.by acts) position world objects statics op
           (λ uses own. laws.own op (calm own) uses) (moved (At u ∷ h.lower) (pops code op) k)
           (record {
             is = explained_stays code G (Pending code Inner OnWay u f.this) (effect_of code world (record f { rest = rest }) op) fine;
@@ -221,11 +221,11 @@ module _ (code : Code) (Inner : Op → Type 0) (OnWay : ℕ → Type 0) (laws : 
       }
 
       pub reader_step : StepGives Made_in
-          (applied code s TheSequencer activity below place (effect_of code world (record f { rest = rest }) op))
+          (applied code s TheSequencer activity below position (effect_of code world (record f { rest = rest }) op))
       reader_step =
           mapped _ (cleaned _ _ read)
           (holder_acts u [] (λ g. ExplainedBy (Reading code Inner OnWay G) g) (λ g b. WaitsBy (Reading code Inner OnWay G) G g b) code o s
-          heap activity (record f { rest = rest }) below (Top f r.kept r.by acts) place world objects statics op
+          heap activity (record f { rest = rest }) below (Top f r.kept r.by acts) position world objects statics op
           (λ uses own. laws.own op inner uses) (moved [] (pops code op) (none_under (pops code op)))
           (record {
             is = explained_stays code G (Reading code Inner OnWay G) (effect_of code world (record f { rest = rest }) op) reads_fine;
@@ -258,18 +258,18 @@ module _ (code : Code) (Inner : Op → Type 0) (OnWay : ℕ → Type 0) (laws : 
         by (Faulted e) = subst (Made code Inner OnWay G u) (sym e) still
 
     of_effect : (e : Effect) → OnObject code u id e →
-        StepGives Made_in (applied code s TheSequencer activity below place e)
+        StepGives Made_in (applied code s TheSequencer activity below position e)
     unfolding applied
     of_effect _ Nothing = gives_nothing Made_in
     of_effect _ (A_call other g body area arguments b c l) =
         gives_some Made_in
-        (called code s TheSequencer activity (g ∷ below) place (new_frame code body (Some id) (Some u) area arguments))
+        (called code s TheSequencer activity (g ∷ below) position (new_frame code body (Some id) (Some u) area arguments))
         (begun (g ∷ below) other body b c _
-        (constructor_called code u o s heap activity place (g ∷ below) body (Some id) area arguments l))
+        (constructor_called code u o s heap activity position (g ∷ below) body (Some id) area arguments l))
 
     pub call_step : super_count code id ≡ length above →
         StepGives Made_in
-        (applied code s TheSequencer activity below place (effect_of code world (record f { rest = rest }) op))
+        (applied code s TheSequencer activity below position (effect_of code world (record f { rest = rest }) op))
     call_step count =
         of_effect (effect_of code world (record f { rest = rest }) op)
         (called_on code u id (record f { rest = rest }) above lower is lacks count world op calls)
@@ -309,12 +309,12 @@ module _ (code : Code) (Inner : Op → Type 0) (OnWay : ℕ → Type 0) (laws : 
     }
 
     pub begins_step : StepGives Made_in
-        (applied code s TheSequencer activity below place
+        (applied code s TheSequencer activity below position
         (effect_of code world (record f { rest = b.front ++ SUPER b.id ∷ b.more }) (THIS b.id)))
     unfolding effect_of applied with_activity
     begins_step =
         subst (λ (t : Option ℕ). StepGives Made_in
-        (applied code s TheSequencer activity below place
+        (applied code s TheSequencer activity below position
         (given t (λ r. pushes (record f { rest = b.front ++ SUPER b.id ∷ b.more }) (At r))))) (sym b.own)
         (gives_some Made_in
         (silently (with_frame s TheSequencer activity

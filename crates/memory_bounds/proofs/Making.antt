@@ -238,7 +238,7 @@ module _ (code : Code) (Inner : Op → Type 0) (OnWay : ℕ → Type 0) where
             enough : takes code op ≤ length h.kept.above
             enough =
                 (let k = next_under u code (super_count code p.id) op front h.by.stack whole in
-                let place = at k.place k.is in
+                let place = at k.index k.is in
                 let least = k.enough in
                 omega (arith, place, least))
 

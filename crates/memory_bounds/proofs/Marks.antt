@@ -40,27 +40,27 @@ takes code _ = 0
 module _ (r : ℕ) where
   -- the reference is known under n operands
   pub record Under (n : ℕ) (s : Stack) : Type 0 where
-    pub place : ℕ
-    pub enough : n ≤ place
-    pub is : s place ≡ Exactly (At r)
+    pub index : ℕ
+    pub enough : n ≤ index
+    pub is : s index ≡ Exactly (At r)
 
   abbrev pub Unmarked : Known → Type 0
   Unmarked k = k ≡ Exactly (At r) → ⊥
 
   under_taken : (n : ℕ) (s : Stack) → Under n (taken s) → Under (suc n) s
   under_taken n s u =
-      record { place = suc u.place; enough = (let e = u.enough in omega (arith, e)); is = u.is }
+      record { index = suc u.index; enough = (let e = u.enough in omega (arith, e)); is = u.is }
 
   under_dropped : (count n : ℕ) (s : Stack) → Under n (dropped count s) → Under (n + count) s
-  under_dropped zero n s u = record { place = u.place; enough = (let e = u.enough in omega (arith, e)); is = u.is }
+  under_dropped zero n s u = record { index = u.index; enough = (let e = u.enough in omega (arith, e)); is = u.is }
   under_dropped (suc count) n s u = more (under_dropped count (suc n) s (under_taken n (dropped count s) u))
     where
       more : Under (suc n + count) s → Under (n + suc count) s
-      more v = record { place = v.place; enough = (let e = v.enough in omega (arith, e)); is = v.is }
+      more v = record { index = v.index; enough = (let e = v.enough in omega (arith, e)); is = v.is }
 
   under_put : (k : Known) (s : Stack) (m : ℕ) → Unmarked k → put k s m ≡ Exactly (At r) → Under 0 s
   under_put k s zero n e = absurd (n e)
-  under_put k s (suc m) n e = record { place = m; enough = omega arith; is = e }
+  under_put k s (suc m) n e = record { index = m; enough = omega arith; is = e }
 
   never : (m : ℕ) → nothing m ≡ Exactly (At r) → ⊥
   never m e = cc (e)
@@ -115,7 +115,7 @@ module _ (r : ℕ) where
   right_before (Four a b c d) s m e = absurd (never m e)
 
   here : (s : Stack) (m : ℕ) → s m ≡ Exactly (At r) → Under 0 s
-  here s m e = record { place = m; enough = omega arith; is = e }
+  here s m e = record { index = m; enough = omega arith; is = e }
 
   module _ (code : Code) where
     counted : (id count : ℕ) (o : Option ℕ) → part code argument_count id ≡ o → o ≡ Some count →
@@ -192,11 +192,11 @@ module _ (r : ℕ) where
     somewhere n [] s p = here s n p
     somewhere n (op ∷ ops) s p =
         let u = somewhere n ops (step code op s) p.2 in
-        let v = marked_before op s u.place u.is in
-        record { place = v.place; enough = omega arith; is = v.is }
+        let v = marked_before op s u.index u.is in
+        record { index = v.index; enough = omega arith; is = v.is }
 
     -- it lies under what the next operation takes
     pub next_under : (n : ℕ) (op : Op) (ops : List Op) (s : Stack) → PassesTo code (Some (n, r)) (op ∷ ops) s →
         Under (takes code op) s
     next_under n op ops s p =
-        let u = somewhere n ops (step code op s) p.2 in marked_before op s u.place u.is
+        let u = somewhere n ops (step code op s) p.2 in marked_before op s u.index u.is

@@ -36,9 +36,9 @@ use Rattle.memory_needs.proofs.Agree.{below_lt}
 
 -- what an assignment evaluates of its target
 unfoldable target_parts : Node → List ℕ
-target_parts (SimpleName place name) = []
-target_parts (FieldAccess place name object) = object ∷ []
-target_parts (Element place array index) = array ∷ index ∷ []
+target_parts (SimpleName position name) = []
+target_parts (FieldAccess position name object) = object ∷ []
+target_parts (Element position array index) = array ∷ index ∷ []
 target_parts _ = []
 
 module _ (code : Code) (table : Table) where
@@ -249,21 +249,21 @@ module _ (code : Code) (table : Table) where
         part code f id ≡ f n
     part_at f n there = ap (λ (x : Option Node). elim x [ None ↦ None | Some y ↦ f y ]) there
 
-    short_weight : (place : Pos) (operator left right : ℕ) →
-        slice_get code.program.nodes id ≡ Some (Binary place operator left right) →
+    short_weight : (position : Pos) (operator left right : ℕ) →
+        slice_get code.program.nodes id ≡ Some (Binary position operator left right) →
         sum_of (weight code table) (option_to_list (part code right_operand id)) ≡ weight code table right
     unfolding sum_of right_operand
-    short_weight place operator left right there = rw (part_at right_operand _ there) (omega arith)
+    short_weight position operator left right there = rw (part_at right_operand _ there) (omega arith)
 
-    binary_covered : (place : Pos) (operator left right : ℕ) →
-        slice_get code.program.nodes id ≡ Some (Binary place operator left right) →
+    binary_covered : (position : Pos) (operator left right : ℕ) →
+        slice_get code.program.nodes id ≡ Some (Binary position operator left right) →
         sub right ≡ weight code table right →
         ops_weight code table (binary_ops ops id operator left right) ≤ sub left + (sub right + 0)
     unfolding binary_ops op_weight
-    binary_covered place operator left right there same = first (operator == sign_and_and)
+    binary_covered position operator left right there same = first (operator == sign_and_and)
       where
         short : sum_of (weight code table) (option_to_list (part code right_operand id)) ≡ weight code table right
-        short = short_weight place operator left right there
+        short = short_weight position operator left right there
 
         second : (b : Bool) →
             ops_weight code table (if b then ops left ++ OR id ∷ [] else ops left ++ (ops right ++ BIN id ∷ []))
@@ -363,13 +363,13 @@ module _ (code : Code) (table : Table) where
     unfolding ops_weight op_weight assign_ops sum_of target_parts
     assign_covered value t (Static k) n h =
         let a = one_covered value (PUTSTATIC id) 0 (omega arith) in omega (arith, a)
-    assign_covered value t (Local k) (SimpleName place name) h =
+    assign_covered value t (Local k) (SimpleName position name) h =
         let a = one_covered value (STORE id) 0 (omega arith) in omega (arith, a)
-    assign_covered value t (Field k) (SimpleName place name) h =
+    assign_covered value t (Field k) (SimpleName position name) h =
         let a = one_covered value (PUT id) 0 (omega arith) in omega (arith, a)
-    assign_covered value t (Field k) (FieldAccess place name object) h =
+    assign_covered value t (Field k) (FieldAccess position name object) h =
         let a = two_covered object value (PUT id) 0 (omega arith) in omega (arith, a, h)
-    assign_covered value t b (Element place array index) h =
+    assign_covered value t b (Element position array index) h =
         let a = append_weight (ops array) (ops index ++ (ops value ++ PUTELEM id ∷ [])) in
         let c = covers array in
         let d = two_covered index value (PUTELEM id) 0 (omega arith) in
@@ -377,7 +377,7 @@ module _ (code : Code) (table : Table) where
       where
         element : (b : Binding) →
             ops_weight code table (ops array ++ (ops index ++ (ops value ++ PUTELEM id ∷ []))) ≤ t + (sub value + 0) →
-            ops_weight code table (assign_ops ops id value b (Element place array index)) ≤ t + (sub value + 0)
+            ops_weight code table (assign_ops ops id value b (Element position array index)) ≤ t + (sub value + 0)
         element (Static k) g = let a = one_covered value (PUTSTATIC id) 0 (omega arith) in omega (arith, a)
         element _ g = g
     assign_covered value t _ _ h = omega arith
@@ -411,12 +411,12 @@ module _ (code : Code) (table : Table) where
       all_same [] h = refl
       all_same (x ∷ xs) h = let a = same x h.0 in let b = all_same xs h.1 in omega (arith, a, b)
 
-      if_weight : (place : Pos) (condition then_part : ℕ) (else_part : Option ℕ) →
-          slice_get code.program.nodes id ≡ Some (If place condition then_part else_part) →
+      if_weight : (position : Pos) (condition then_part : ℕ) (else_part : Option ℕ) →
+          slice_get code.program.nodes id ≡ Some (If position condition then_part else_part) →
           AllBelow id (condition ∷ then_part ∷ optional else_part) →
           op_weight code table (IF id) ≡ max (sub then_part) (sum_of sub (optional else_part))
       unfolding op_weight if_parts AllBelow
-      if_weight place condition then_part else_part there h =
+      if_weight position condition then_part else_part there h =
           let a = same then_part h.1.0 in
           let b = all_same (optional else_part) h.1.1 in
           let e : op_weight code table (IF id)
@@ -424,34 +424,34 @@ module _ (code : Code) (table : Table) where
           ap (λ (o : Option (ℕ × Option ℕ)). elim o [
             | None ↦ 0
             | Some parts ↦ max (weight code table parts.0) (sum_of (weight code table) (optional parts.1))
-          ]) (part_at if_parts (If place condition then_part else_part) there) in
+          ]) (part_at if_parts (If position condition then_part else_part) there) in
           omega (arith, e, a, b)
 
-      while_weight : (place : Pos) (condition body : ℕ) →
-          slice_get code.program.nodes id ≡ Some (While place condition body) →
+      while_weight : (position : Pos) (condition body : ℕ) →
+          slice_get code.program.nodes id ≡ Some (While position condition body) →
           AllBelow id (condition ∷ body ∷ []) →
           op_weight code table (LOOP id) ≡ loop_weight (sub condition + sub body)
       unfolding op_weight turn_weight AllBelow
-      while_weight place condition body there h =
+      while_weight position condition body there h =
           let a = same condition h.0 in
           let b = same body h.1.0 in
           let e : op_weight code table (LOOP id) ≡ loop_weight (weight code table condition + weight code table body) =
-          ap (λ (o : Option ℕ). loop_weight (number_or 0 o)) (part_at (turn_weight code table) (While place condition body) there) in
+          ap (λ (o : Option ℕ). loop_weight (number_or 0 o)) (part_at (turn_weight code table) (While position condition body) there) in
           e ∙ ap loop_weight (omega (arith, a, b))
 
-      for_weight : (place : Pos) (begins condition step body : ℕ) →
-          slice_get code.program.nodes id ≡ Some (For place begins condition step body) →
+      for_weight : (position : Pos) (begins condition step body : ℕ) →
+          slice_get code.program.nodes id ≡ Some (For position begins condition step body) →
           AllBelow id (begins ∷ condition ∷ step ∷ body ∷ []) →
           op_weight code table (LOOP id) ≡ loop_weight (sub condition + (sub step + sub body))
       unfolding op_weight turn_weight AllBelow
-      for_weight place begins condition step body there h =
+      for_weight position begins condition step body there h =
           let a = same condition h.1.0 in
           let b = same step h.1.1.0 in
           let c = same body h.1.1.1.0 in
           let e : op_weight code table (LOOP id)
           ≡ loop_weight (weight code table condition + (weight code table step + weight code table body)) =
           ap (λ (o : Option ℕ). loop_weight (number_or 0 o))
-          (part_at (turn_weight code table) (For place begins condition step body) there) in
+          (part_at (turn_weight code table) (For position begins condition step body) there) in
           e ∙ ap loop_weight (omega (arith, a, b, c))
 
       node_covered : (n : Node) → slice_get code.program.nodes id ≡ Some n → AllBelow id (children n) →
@@ -459,51 +459,51 @@ module _ (code : Code) (table : Table) where
           sum_of sub (target_parts t) ≤ sub target) →
           ops_weight code table (node_ops code ops id n) ≤ node_weight code table sub id n
       unfolding node_ops node_weight ops_weight op_weight sum_of children AllBelow
-      node_covered (Number place value is_negative) there h k = omega arith
-      node_covered (True place) there h k = omega arith
-      node_covered (False place) there h k = omega arith
-      node_covered (Null place) there h k = omega arith
-      node_covered (This place) there h k = omega arith
-      node_covered (SimpleName place name) there h k = name_covered (binding code id)
-      node_covered (FieldAccess place name object) there h k =
+      node_covered (Number position value is_negative) there h k = omega arith
+      node_covered (True position) there h k = omega arith
+      node_covered (False position) there h k = omega arith
+      node_covered (Null position) there h k = omega arith
+      node_covered (This position) there h k = omega arith
+      node_covered (SimpleName position name) there h k = name_covered (binding code id)
+      node_covered (FieldAccess position name object) there h k =
           let a = access_covered object (binding code id) in omega (arith, a)
-      node_covered (Element place array index) there h k = two_covered array index (ELEM id) 0 (omega arith)
-      node_covered (Parenthesized place inner) there h k = let a = covers inner in omega (arith, a)
-      node_covered (Unary place operator operand) there h k = one_covered operand (UNARY id) 0 (omega arith)
-      node_covered (Binary place operator left right) there h k =
-          binary_covered place operator left right there (same right h.1.0)
-      node_covered (New place name_place name xs) there h k = new_covered xs (binding code id) refl
-      node_covered (NewArray place element count) there h k = one_covered count (ALLOCARRAY id) (array_weight code id) (omega arith)
-      node_covered (Call place name object xs) there h k = call_covered object xs (binding code id) refl
-      node_covered (Cast place name_place name operand) there h k = one_covered operand (CAST id) 0 (omega arith)
-      node_covered (LocalNode place name flags declared_type) there h k = omega arith
-      node_covered (LocalWithValue place name_place name flags declared_type value) there h k =
+      node_covered (Element position array index) there h k = two_covered array index (ELEM id) 0 (omega arith)
+      node_covered (Parenthesized position inner) there h k = let a = covers inner in omega (arith, a)
+      node_covered (Unary position operator operand) there h k = one_covered operand (UNARY id) 0 (omega arith)
+      node_covered (Binary position operator left right) there h k =
+          binary_covered position operator left right there (same right h.1.0)
+      node_covered (New position name_place name xs) there h k = new_covered xs (binding code id) refl
+      node_covered (NewArray position element count) there h k = one_covered count (ALLOCARRAY id) (array_weight code id) (omega arith)
+      node_covered (Call position name object xs) there h k = call_covered object xs (binding code id) refl
+      node_covered (Cast position name_place name operand) there h k = one_covered operand (CAST id) 0 (omega arith)
+      node_covered (LocalNode position name flags declared_type) there h k = omega arith
+      node_covered (LocalWithValue position name_place name flags declared_type value) there h k =
           let a = one_covered value (STORE id) 0 (omega arith) in omega (arith, a)
-      node_covered (Assign place target value) there h k = of (slice_get code.program.nodes target) refl
+      node_covered (Assign position target value) there h k = of (slice_get code.program.nodes target) refl
         where
           of : (o : Option Node) → slice_get code.program.nodes target ≡ o →
               ops_weight code table (elim o [ None ↦ [] | Some node ↦ assign_ops ops id value (binding code target) node ])
               ≤ sub target + (sub value + 0)
           of None e = omega arith
           of (Some t) e = assign_covered value (sub target) (binding code target) t (k target t h.0 e)
-      node_covered (ExpressionStatement place expression) there h k =
+      node_covered (ExpressionStatement position expression) there h k =
           statement_covered expression (leaves_value (binding code expression))
-      node_covered (Block place statements) there h k = flat_covered statements
-      node_covered (If place condition then_part else_part) there h k =
+      node_covered (Block position statements) there h k = flat_covered statements
+      node_covered (If position condition then_part else_part) there h k =
           one_covered condition (IF id) (max (sub then_part) (sum_of sub (optional else_part)))
-          (let a = if_weight place condition then_part else_part there h in omega (arith, a))
-      node_covered (While place condition body) there h k =
+          (let a = if_weight position condition then_part else_part there h in omega (arith, a))
+      node_covered (While position condition body) there h k =
           one_covered condition (LOOP id) (loop_weight (sub condition + sub body))
-          (let a = while_weight place condition body there h in omega (arith, a))
-      node_covered (For place begins condition step body) there h k =
+          (let a = while_weight position condition body there h in omega (arith, a))
+      node_covered (For position begins condition step body) there h k =
           two_covered begins condition (LOOP id) (loop_weight (sub condition + (sub step + sub body)))
-          (let a = for_weight place begins condition step body there h in omega (arith, a))
-      node_covered (Return place value) there h k = return_covered value
-      node_covered (MethodNode place name flags result_type parameters body) there h k = method_covered result_type body
-      node_covered (SuperCall place xs) there h k = super_covered xs id (binding code id) refl
-      node_covered (Constructor place name flags parameters super_call body) there h k =
+          (let a = for_weight position begins condition step body there h in omega (arith, a))
+      node_covered (Return position value) there h k = return_covered value
+      node_covered (MethodNode position name flags result_type parameters body) there h k = method_covered result_type body
+      node_covered (SuperCall position xs) there h k = super_covered xs id (binding code id) refl
+      node_covered (Constructor position name flags parameters super_call body) there h k =
           constructor_covered super_call (ops body) (sub body) (covers body)
-      node_covered (Class place name flags header members) there h k =
+      node_covered (Class position name flags header members) there h k =
           let a = constructor_covered None [] 0 (omega arith) in omega (arith, a)
       node_covered _ there h k = omega arith
 
@@ -529,8 +529,8 @@ module _ (code : Code) (table : Table) where
         of : (t : Node) → AllBelow target (children t) →
             sum_of (below 0 id (weight code table)) (target_parts t)
             ≤ node_weight code table (below 0 target (weight code table)) target t
-        of (FieldAccess place name object) h = let a = both object h.0 in omega (arith, a)
-        of (Element place array index) h = let a = both array h.0 in let b = both index h.1.0 in omega (arith, a, b)
+        of (FieldAccess position name object) h = let a = both object h.0 in omega (arith, a)
+        of (Element position array index) h = let a = both array h.0 in let b = both index h.1.0 in omega (arith, a, b)
         of _ h = omega arith
 
     step_covered : (id : ℕ) → ((x : ℕ) → x < id → ops_weight code table (ops_of code x) ≤ weight code table x) →
@@ -588,7 +588,7 @@ module _ (code : Code) (table : Table) where
         turn_ops code id node ≡ Some turn → op_weight code table (LOOP id) < too_much →
         ops_weight code table turn ≤ op_weight code table (LOOP id)
     unfolding turn_ops op_weight turn_weight ops_weight
-    turn_covered id (While place condition body) turn there e h =
+    turn_covered id (While position condition body) turn there e h =
         let is : op_weight code table (LOOP id) ≡ loop_weight (weight code table condition + weight code table body) =
         ap (λ (o : Option Node). loop_weight (number_or 0 (elim o [ None ↦ None | Some n ↦ turn_weight code table n ]))) there in
         let none = turn_is (weight code table condition + weight code table body) (omega (arith, is, h)) in
@@ -598,7 +598,7 @@ module _ (code : Code) (table : Table) where
         let c = ops_covered body in
         let d = ops_covered condition in
         omega (arith, none, t, a, b, c, d)
-    turn_covered id (For place begins condition step body) turn there e h =
+    turn_covered id (For position begins condition step body) turn there e h =
         let is : op_weight code table (LOOP id)
         ≡ loop_weight (weight code table condition + (weight code table step + weight code table body)) =
         ap (λ (o : Option Node). loop_weight (number_or 0 (elim o [ None ↦ None | Some n ↦ turn_weight code table n ]))) there in

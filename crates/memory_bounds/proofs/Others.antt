@@ -67,22 +67,22 @@ used_changed f r xs a keeps = of (slice_get xs r) refl
     of None e = refl
     of (Some x) e = let k = keeps x e in used_set xs r x (f x) a e k.0 k.1
 
-module _ (code : Code) (table : Table) (place : ℕ) (s : State) (activity : Activity)
-    (is : activity_of s (ReleaseAt place) ≡ Some activity) (before : Frame) (below : List Frame)
+module _ (code : Code) (table : Table) (index : ℕ) (s : State) (activity : Activity)
+    (is : activity_of s (ReleaseAt index) ≡ Some activity) (before : Frame) (below : List Frame)
     (b : IsBounded code table s (before ∷ below)) where
   -- objects may have other slots, as many as before
-  pub goes_to : (t : State) (h : Frame) (events : List Event) → activity_of t (ReleaseAt place) ≡ Some activity →
+  pub goes_to : (t : State) (h : Frame) (events : List Event) → activity_of t (ReleaseAt index) ≡ Some activity →
       ((a : ℕ) → used t a ≤ used s a) → t.areas ≡ s.areas →
       Within code table (ops_weight code table before.rest) before h 0 →
-      BoundedAfter code table place (telling (with_frame t (ReleaseAt place) activity h below) events)
+      BoundedAfter code table index (telling (with_frame t (ReleaseAt index) activity h below) events)
   goes_to t h events there in_use areas w =
-      goes_with code table place t activity (record activity { frames = h ∷ below }) events there
+      goes_with code table index t activity (record activity { frames = h ∷ below }) events there
       (goes_on code table s t before h below (record { in_use = in_use; areas = same_areas code table s t areas }) w.0 w.1
       (omega (arith, w.2)) b)
 
   pub stores_bounded : (h : Frame) (r slot : ℕ) (v : Value) →
       Within code table (ops_weight code table before.rest) before h 0 →
-      BoundedAfter code table place (silently (with_frame (with_slot s r slot v) (ReleaseAt place) activity h below))
+      BoundedAfter code table index (silently (with_frame (with_slot s r slot v) (ReleaseAt index) activity h below))
   unfolding used activity_of
   stores_bounded h r slot v w =
       goes_to (with_slot s r slot v) h [] is
@@ -93,8 +93,8 @@ module _ (code : Code) (table : Table) (place : ℕ) (s : State) (activity : Act
   pub hidden_bounded : (h : Frame) (r : ℕ) (values : List Value) →
       ((o : Object) → slice_get s.objects r ≡ Some o → length values ≤ length o.slots) →
       Within code table (ops_weight code table before.rest) before h 0 →
-      BoundedAfter code table place
-      (silently (with_frame (record s { objects = changed (with_first values) r s.objects }) (ReleaseAt place) activity h below))
+      BoundedAfter code table index
+      (silently (with_frame (record s { objects = changed (with_first values) r s.objects }) (ReleaseAt index) activity h below))
   unfolding used activity_of
   hidden_bounded h r values hidden w =
       goes_to (record s { objects = changed (with_first values) r s.objects }) h [] is
@@ -107,34 +107,34 @@ module _ (code : Code) (table : Table) (place : ℕ) (s : State) (activity : Act
       omega (arith, e))) refl w
 
 -- ---- requests: other releases wait or are dropped
-module _ (code : Code) (table : Table) (place : ℕ) where
-  then_same : (u v : State) (events : List Event) → BoundedAfter code table place (silently u) →
-      activity_of v (ReleaseAt place) ≡ activity_of u (ReleaseAt place) → v.objects ≡ u.objects → v.areas ≡ u.areas →
-      BoundedAfter code table place (telling v events)
+module _ (code : Code) (table : Table) (index : ℕ) where
+  then_same : (u v : State) (events : List Event) → BoundedAfter code table index (silently u) →
+      activity_of v (ReleaseAt index) ≡ activity_of u (ReleaseAt index) → v.objects ≡ u.objects → v.areas ≡ u.areas →
+      BoundedAfter code table index (telling v events)
   unfolding BoundedAfter
   then_same u v events b same objects areas left e =
       others_keep code table u v left.frames
       (λ a h. (stays code table u v objects (same_areas code table u v areas)).in_use a)
       (same_areas code table u v areas) (b left (sym same ∙ e))
 
-  joined : (u : State) (activity : Activity) (more : List Release) → activity_of u (ReleaseAt place) ≡ Some activity →
-      activity_of (record u { releases = u.releases ++ more }) (ReleaseAt place) ≡ activity_of u (ReleaseAt place)
+  joined : (u : State) (activity : Activity) (more : List Release) → activity_of u (ReleaseAt index) ≡ Some activity →
+      activity_of (record u { releases = u.releases ++ more }) (ReleaseAt index) ≡ activity_of u (ReleaseAt index)
   unfolding activity_of
-  joined u activity more is = of (slice_get u.releases place) refl
+  joined u activity more is = of (slice_get u.releases index) refl
     where
-      of : (o : Option Release) → slice_get u.releases place ≡ o →
-          slice_get (u.releases ++ more) place >>= (λ r. activity_in r.status)
-          ≡ slice_get u.releases place >>= (λ r. activity_in r.status)
+      of : (o : Option Release) → slice_get u.releases index ≡ o →
+          slice_get (u.releases ++ more) index >>= (λ r. activity_in r.status)
+          ≡ slice_get u.releases index >>= (λ r. activity_in r.status)
       of None e = absurd (let n = ap (λ (o : Option Release). o >>= (λ r. activity_in r.status)) e in cc (n, is))
       of (Some r) e = ap (λ (o : Option Release). o >>= (λ r. activity_in r.status))
-          (get_left u.releases more place r e ∙ sym e)
+          (get_left u.releases more index r e ∙ sym e)
 
-  pub released_bounded : (u : State) (activity : Activity) (r : ℕ) → activity_of u (ReleaseAt place) ≡ Some activity →
-      BoundedAfter code table place (silently u) → BoundedAfter code table place (released u r)
+  pub released_bounded : (u : State) (activity : Activity) (r : ℕ) → activity_of u (ReleaseAt index) ≡ Some activity →
+      BoundedAfter code table index (silently u) → BoundedAfter code table index (released u r)
   unfolding released release_taken
   released_bounded u activity r is b = taken (takes_releases u) (handler_number u.registry r)
     where
-      waits : (handler : ℕ) (c : Bool) → BoundedAfter code table place
+      waits : (handler : ℕ) (c : Bool) → BoundedAfter code table index
           (if c then telling u (Lost u.unit handler ∷ [])
           else (let number = length (releases_of u handler) + 1 in
           let new : Release = record { handler = handler; number = number; status = Waits } in
@@ -144,7 +144,7 @@ module _ (code : Code) (table : Table) (place : ℕ) where
           let new : Release = record { handler = handler; number = length (releases_of u handler) + 1; status = Waits } in
           then_same u (record u { releases = u.releases ++ new ∷ [] }) _ b (joined u activity (new ∷ []) is) refl refl
 
-      taken : (c : Bool) (o : Option ℕ) → BoundedAfter code table place
+      taken : (c : Bool) (o : Option ℕ) → BoundedAfter code table index
           (if c then (elim o [ None ↦ silently u | Some handler ↦ release_taken u handler ]) else silently u)
       taken true None = b
       taken true (Some handler) = waits handler (not (nat_lt (length (waiting_of u handler)) most_waiting))
@@ -160,22 +160,22 @@ module _ (code : Code) (table : Table) (place : ℕ) where
       of Ended e = rw e refl
       of Dropped e = rw e refl
 
-  pub termination_bounded : (u : State) (r : ℕ) → BoundedAfter code table place (silently u) →
-      BoundedAfter code table place (termination_asked u r)
+  pub termination_bounded : (u : State) (r : ℕ) → BoundedAfter code table index (silently u) →
+      BoundedAfter code table index (termination_asked u r)
   unfolding termination_asked termination activity_of
   termination_bounded u r b = asked (asks_for_end u.mission u.phase u.is_end_asked r) (is_exec u.phase)
     where
-      mapped : slice_get (map dropped_release u.releases) place >>= (λ x. activity_in x.status)
-          ≡ slice_get u.releases place >>= (λ x. activity_in x.status)
-      mapped = of (slice_get u.releases place) refl
+      mapped : slice_get (map dropped_release u.releases) index >>= (λ x. activity_in x.status)
+          ≡ slice_get u.releases index >>= (λ x. activity_in x.status)
+      mapped = of (slice_get u.releases index) refl
         where
-          of : (o : Option Release) → slice_get u.releases place ≡ o →
-              slice_get (map dropped_release u.releases) place >>= (λ x. activity_in x.status)
-              ≡ slice_get u.releases place >>= (λ x. activity_in x.status)
-          of None e = rw (slice_get-map dropped_release u.releases place, e) refl
-          of (Some x) e = rw (slice_get-map dropped_release u.releases place, e) (dropped_same x)
+          of : (o : Option Release) → slice_get u.releases index ≡ o →
+              slice_get (map dropped_release u.releases) index >>= (λ x. activity_in x.status)
+              ≡ slice_get u.releases index >>= (λ x. activity_in x.status)
+          of None e = rw (slice_get-map dropped_release u.releases index, e) refl
+          of (Some x) e = rw (slice_get-map dropped_release u.releases index, e) (dropped_same x)
 
-      asked : (c d : Bool) → BoundedAfter code table place
+      asked : (c d : Bool) → BoundedAfter code table index
           (if c then (if d then telling (record u { is_end_asked = true; releases = map dropped_release u.releases })
           (Terminate u.unit ∷ tell_dropped u)
           else silently (record u { is_end_asked = true })) else silently u)
@@ -192,78 +192,78 @@ pub record Situated (s : State) (e : Effect) : Type 0 where
       slice_get s.objects r ≡ Some o → length values ≤ length o.slots
   pub no_init : is_init s.phase ≡ false
 
-module _ (code : Code) (table : Table) (place : ℕ) (s : State) (activity : Activity)
-    (is : activity_of s (ReleaseAt place) ≡ Some activity) (pos : Pos) (before : Frame) (below : List Frame)
+module _ (code : Code) (table : Table) (index : ℕ) (s : State) (activity : Activity)
+    (is : activity_of s (ReleaseAt index) ≡ Some activity) (pos : Pos) (before : Frame) (below : List Frame)
     (b : IsBounded code table s (before ∷ below)) where
   abbrev n : ℕ
   n = ops_weight code table before.rest
 
-  told : (u : State) (events : List Event) → BoundedAfter code table place (silently u) →
-      BoundedAfter code table place (telling u events)
-  told u events h = then_same code table place u u events h refl refl refl
+  told : (u : State) (events : List Event) → BoundedAfter code table index (silently u) →
+      BoundedAfter code table index (telling u events)
+  told u events h = then_same code table index u u events h refl refl refl
 
   plain : (h : Frame) → Within code table n before h 0 →
-      BoundedAfter code table place (silently (with_frame s (ReleaseAt place) activity h below))
-  plain h w = goes_bounded code table place s activity is pos before below b h w
+      BoundedAfter code table index (silently (with_frame s (ReleaseAt index) activity h below))
+  plain h w = goes_bounded code table index s activity is pos before below b h w
 
-  still_there : (h : Frame) → activity_of (with_frame s (ReleaseAt place) activity h below) (ReleaseAt place)
+  still_there : (h : Frame) → activity_of (with_frame s (ReleaseAt index) activity h below) (ReleaseAt index)
       ≡ Some (record activity { frames = h ∷ below })
-  still_there h = set_activity s (ReleaseAt place) activity (record activity { frames = h ∷ below }) is
+  still_there h = set_activity s (ReleaseAt index) activity (record activity { frames = h ∷ below }) is
 
   -- each step that the release may come to leaves it bounded
   pub own_step : (e : Effect) → Situated s e → EffectWithin code table n before e → (step : Step) →
-      applied code s (ReleaseAt place) activity below pos e ≡ Some step → BoundedAfter code table place step
+      applied code s (ReleaseAt index) activity below pos e ≡ Some step → BoundedAfter code table index step
   unfolding applied registered
-  own_step (Goes h) k w step q = subst (BoundedAfter code table place) (some_inj _ step q) (plain h w)
+  own_step (Goes h) k w step q = subst (BoundedAfter code table index) (some_inj _ step q) (plain h w)
   own_step (Prints h label value) k w step q =
-      subst (BoundedAfter code table place) (some_inj _ step q)
-      (told (with_frame s (ReleaseAt place) activity h below) (Print s.unit label value ∷ []) (plain h w))
+      subst (BoundedAfter code table index) (some_inj _ step q)
+      (told (with_frame s (ReleaseAt index) activity h below) (Print s.unit label value ∷ []) (plain h w))
   own_step (Makes h class slots) k w step q =
-      subst (BoundedAfter code table place) (some_inj _ step q)
-      (made_bounded code table place s activity is pos before below b h class slots w)
+      subst (BoundedAfter code table index) (some_inj _ step q)
+      (made_bounded code table index s activity is pos before below b h class slots w)
   own_step (Stores h r slot v) k w step q =
-      subst (BoundedAfter code table place) (some_inj _ step q)
-      (stores_bounded code table place s activity is before below b h r slot v w)
+      subst (BoundedAfter code table index) (some_inj _ step q)
+      (stores_bounded code table index s activity is before below b h r slot v w)
   own_step (StoresStatic h place_ v) k w step q =
-      subst (BoundedAfter code table place) (some_inj _ step q)
-      (goes_to code table place s activity is before below b (record s { statics = slice_set s.statics place_ v }) h []
-      (same_activity s (record s { statics = slice_set s.statics place_ v }) (ReleaseAt place) refl refl ∙ is)
+      subst (BoundedAfter code table index) (some_inj _ step q)
+      (goes_to code table index s activity is before below b (record s { statics = slice_set s.statics place_ v }) h []
+      (same_activity s (record s { statics = slice_set s.statics place_ v }) (ReleaseAt index) refl refl ∙ is)
       (λ a. (stays code table s (record s { statics = slice_set s.statics place_ v }) refl (same_areas code table s (record s { statics = slice_set s.statics place_ v }) refl)).in_use a)
       refl w)
   own_step (SetsHidden h r values) k w step q =
-      subst (BoundedAfter code table place) (some_inj _ step q)
-      (hidden_bounded code table place s activity is before below b h r values (k.hidden h r values refl) w)
+      subst (BoundedAfter code table index) (some_inj _ step q)
+      (hidden_bounded code table index s activity is before below b h r values (k.hidden h r values refl) w)
   own_step (SetsCeiling h r ceiling) k w step q =
-      subst (BoundedAfter code table place) (some_inj _ step q)
-      (faults_with code table place s activity pos NotInitializing)
+      subst (BoundedAfter code table index) (some_inj _ step q)
+      (faults_with code table index s activity pos NotInitializing)
   own_step (Calls h g) k w step q =
-      subst (BoundedAfter code table place) (some_inj _ step q)
-      (call_bounded code table place s activity is pos before below b h g w)
+      subst (BoundedAfter code table index) (some_inj _ step q)
+      (call_bounded code table index s activity is pos before below b h g w)
   own_step (Opens h g scope bytes) k w step q =
-      subst (BoundedAfter code table place) (some_inj _ step q)
-      (opened_bounded code table place s activity is pos before below b h g scope bytes w k.empty)
+      subst (BoundedAfter code table index) (some_inj _ step q)
+      (opened_bounded code table index s activity is pos before below b h g scope bytes w k.empty)
   own_step (Leaves h v) k w step q =
-      subst (BoundedAfter code table place) (some_inj _ step q)
-      (left_bounded code table place s activity is pos before below b h v)
+      subst (BoundedAfter code table index) (some_inj _ step q)
+      (left_bounded code table index s activity is pos before below b h v)
   own_step (AsksRelease h r) k w step q =
-      subst (BoundedAfter code table place) (some_inj _ step q)
-      (released_bounded code table place (with_frame s (ReleaseAt place) activity h below)
+      subst (BoundedAfter code table index) (some_inj _ step q)
+      (released_bounded code table index (with_frame s (ReleaseAt index) activity h below)
       (record activity { frames = h ∷ below }) r (still_there h) (plain h w))
   own_step (AsksTermination h r) k w step q =
-      subst (BoundedAfter code table place) (some_inj _ step q)
-      (termination_bounded code table place (with_frame s (ReleaseAt place) activity h below) r (plain h w))
+      subst (BoundedAfter code table index) (some_inj _ step q)
+      (termination_bounded code table index (with_frame s (ReleaseAt index) activity h below) r (plain h w))
   own_step (Faults fault) k w step q =
-      subst (BoundedAfter code table place) (some_inj _ step q) (faults_with code table place s activity pos fault)
+      subst (BoundedAfter code table index) (some_inj _ step q) (faults_with code table index s activity pos fault)
   own_step Stuck k w step q = absurd (cc (q))
   own_step (AsksRegistration h r) k w step q = of (object_at s r) q
     where
       of : (o : Option Object) → option_map
-          (λ (x : Object). registered code s (ReleaseAt place) activity pos r x (with_frame s (ReleaseAt place) activity h below)) o
-          ≡ Some step → BoundedAfter code table place step
+          (λ (x : Object). registered code s (ReleaseAt index) activity pos r x (with_frame s (ReleaseAt index) activity h below)) o
+          ≡ Some step → BoundedAfter code table index step
       of None q = absurd (cc (q))
       of (Some x) q =
           let init : is_init s.phase ≡ false = k.no_init in
-          let f : registered code s (ReleaseAt place) activity pos r x (with_frame s (ReleaseAt place) activity h below)
-          ≡ fault_in s (ReleaseAt place) activity pos NotInitializing = rw init refl in
-          subst (BoundedAfter code table place) (sym f ∙ some_inj _ step q)
-          (faults_with code table place s activity pos NotInitializing)
+          let f : registered code s (ReleaseAt index) activity pos r x (with_frame s (ReleaseAt index) activity h below)
+          ≡ fault_in s (ReleaseAt index) activity pos NotInitializing = rw init refl in
+          subst (BoundedAfter code table index) (sym f ∙ some_inj _ step q)
+          (faults_with code table index s activity pos NotInitializing)

@@ -134,8 +134,8 @@ module _ (code : Code) (top : Frame) where
     full = λ x q. absurd (cc (q));
   }
 
-  static_stored : (f : Frame) → (place : ℕ) → (v : Value) → (l : Like f) → Plain (StoresStatic f place v)
-  static_stored f place v l = record {
+  static_stored : (f : Frame) → (index : ℕ) → (v : Value) → (l : Like f) → Plain (StoresStatic f index v)
+  static_stored f index v l = record {
     makes = λ k c v q. absurd (cc (q));
     calls = λ k x q. absurd (cc (q));
     opens = λ k x s b q. absurd (cc (q));

@@ -28,13 +28,13 @@ abbrev IsQuiet : State → Type 0
 IsQuiet t = is_exec t.phase ≡ false
 
 module _ (code : Code) (s : State) (quiet : is_exec s.phase ≡ false) where
-  opened_quiet : (place : Pos) (scope bytes : ℕ) → IsQuiet (area_opened s place scope bytes).state
+  opened_quiet : (position : Pos) (scope bytes : ℕ) → IsQuiet (area_opened s position scope bytes).state
   unfolding area_opened opening fault_in is_exec
-  opened_quiet place scope bytes = step_if IsQuiet (has_store_for s bytes) _ _ (λ e. quiet) (λ e. refl)
+  opened_quiet position scope bytes = step_if IsQuiet (has_store_for s bytes) _ _ (λ e. quiet) (λ e. refl)
 
-  made_quiet : (place : Pos) (class area : ℕ) → IsQuiet (safelet_made code s place class area).state
+  made_quiet : (position : Pos) (class area : ℕ) → IsQuiet (safelet_made code s position class area).state
   unfolding safelet_made allocating fault_in is_exec
-  made_quiet place class area = step_if IsQuiet (has_room s area _) _ _ (λ e. quiet) (λ e. refl)
+  made_quiet position class area = step_if IsQuiet (has_room s area _) _ _ (λ e. quiet) (λ e. refl)
 
   called_quiet : (r : ℕ) (body : Body) → Gives IsQuiet (body_called code s r body)
   unfolding body_called

@@ -31,8 +31,8 @@ use Rattle.memory_bounds.proofs.ReleaseKeeps.{IsReckoned, AreReckoned}
 
 -- the next operations of started releases do no more than they weigh, and find no memory full of their own accord
 pub record AreCounted (code : Code) (table : Table) (rows : List ReadingRow) (s : State) : Type 0 where
-  pub is : (place : ℕ) (r : Release) (a : Activity) (f : Frame) (below : List Frame) (op : Op) (rest : List Op) →
-      IsNext s place r a f below op rest → op_weight code table op < too_much →
+  pub is : (index : ℕ) (r : Release) (a : Activity) (f : Frame) (below : List Frame) (op : Op) (rest : List Op) →
+      IsNext s index r a f below op rest → op_weight code table op < too_much →
       Knows code table op (effect_at code rows s f op rest)
 
 -- the hidden slots that are set are there
@@ -60,19 +60,19 @@ exec_is_no_init Over e = refl
 module _ (code : Code) (storage : Storage) (table : Table) (facts : Facts code) (rows : List ReadingRow) (s : State)
     (i : Invariant code s) (exec : is_exec s.phase ≡ true) (counted : AreCounted code table rows s)
     (tells : RowsTell storage s) where
-  module _ (place : ℕ) (r : Release) (a : Activity) (f : Frame) (below : List Frame) (op : Op) (rest : List Op)
-      (next : IsNext s place r a f below op rest) where
+  module _ (index : ℕ) (r : Release) (a : Activity) (f : Frame) (below : List Frame) (op : Op) (rest : List Op)
+      (next : IsNext s index r a f below op rest) where
     abbrev list : List ℕ
     list = list_of (areas_of i.base) (f ∷ below)
 
     abbrev stands : FramesFine code (world_of s) (areas_of i.base) (f ∷ below)
-    stands = stand code facts rows s i place r a f below op rest next
+    stands = stand code facts rows s i index r a f below op rest next
 
     of_effect : (e : Effect) → effect_at code rows s f op rest ≡ e →
         EffectIsFine code (world_of s) list stands.0.class stands.0.sig (record f { rest = rest }) e
     of_effect e same =
         subst (EffectIsFine code (world_of s) list stands.0.class stands.0.sig (record f { rest = rest })) same
-        (fine code facts rows s i place r a f below op rest next)
+        (fine code facts rows s i index r a f below op rest next)
 
     hidden : (h : Frame) (slot : ℕ) (values : List Value) → effect_at code rows s f op rest ≡ SetsHidden h slot values →
         (o : Object) → slice_get s.objects slot ≡ Some o → length values ≤ length o.slots
@@ -90,13 +90,13 @@ module _ (code : Code) (storage : Storage) (table : Table) (facts : Facts code) 
         hidden = hidden;
         no_init = exec_is_no_init s.phase exec;
       };
-      counted = λ small. (counted.is place r a f below op rest next small).is;
+      counted = λ small. (counted.is index r a f below op rest next small).is;
     }
 
   pub are_reckoned : AreReckoned code storage table rows s
   are_reckoned = record {
-    effects = λ place r a f below op rest there status frames next.
-        reckoned place r a f below op rest
+    effects = λ index r a f below op rest there status frames next.
+        reckoned index r a f below op rest
         (record { there = there; status = status; frames = frames; ops = next });
     tells = tells;
   }

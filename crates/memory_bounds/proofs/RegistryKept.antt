@@ -15,7 +15,7 @@ use Rattle.scj_model.specs.Apply.{is_full, ceiling_entered, called, opened_in, f
 use Rattle.scj_model.proofs.Reaching.{Gives as StepGives, gives_some}
 use Rattle.priority_laws.proofs.StepCases.{step_if, step_option, gives_nothing, gives_mapped}
 
-module _ (code : Code) (s : State) (activity : Activity) (below : List Frame) (place : Pos) where
+module _ (code : Code) (s : State) (activity : Activity) (below : List Frame) (position : Pos) where
   -- the same rows as before, or handlers may be registered
   abbrev pub RowsStay : State → Type 0
   RowsStay t = (t.registry ≡ s.registry) ⊎ (is_init s.phase ≡ true)
@@ -24,12 +24,12 @@ module _ (code : Code) (s : State) (activity : Activity) (below : List Frame) (p
   unfolding with_activity
   framed t e f = inl e
 
-  faults : (fault : RunFault) → RowsStay (fault_in s TheSequencer activity place fault).state
+  faults : (fault : RunFault) → RowsStay (fault_in s TheSequencer activity position fault).state
   unfolding fault_in
   faults fault = inl refl
 
   made : (f : Frame) (class : ℕ) (slots : List Value) →
-      RowsStay (allocating s TheSequencer activity place class f.area slots (λ t r.
+      RowsStay (allocating s TheSequencer activity position class f.area slots (λ t r.
       silently (with_frame t TheSequencer activity (record f { operands = At r ∷ f.operands }) below))).state
   unfolding allocating
   made f class slots =
@@ -37,7 +37,7 @@ module _ (code : Code) (s : State) (activity : Activity) (below : List Frame) (p
       (λ k. framed (with_object s class f.area slots) refl (record f { operands = At (length s.objects) ∷ f.operands }))
       (λ k. faults _)
 
-  call : (f g : Frame) → RowsStay (called code s TheSequencer activity (f ∷ below) place g).state
+  call : (f g : Frame) → RowsStay (called code s TheSequencer activity (f ∷ below) position g).state
   unfolding called with_activity
   call f g =
       step_if RowsStay (is_full (f ∷ below)) _ _ (λ k. faults _)
@@ -45,7 +45,7 @@ module _ (code : Code) (s : State) (activity : Activity) (below : List Frame) (p
       (λ ceiling k. step_if RowsStay (nat_lt ceiling activity.priority) _ _ (λ k. faults _) (λ k. inl refl)))
 
   entering : (f g : Frame) (scope bytes : ℕ) →
-      RowsStay (opened_in s TheSequencer activity (f ∷ below) place g scope bytes).state
+      RowsStay (opened_in s TheSequencer activity (f ∷ below) position g scope bytes).state
   unfolding opened_in opening with_activity
   entering f g scope bytes =
       step_if RowsStay (is_some (area_with_scope s scope activity.areas)) _ _ (λ k. faults _)
@@ -81,12 +81,12 @@ module _ (code : Code) (s : State) (activity : Activity) (below : List Frame) (p
       of (g ∷ gs) = inl (closed_same f.opened)
 
   register : (f : Frame) (r : ℕ) (x : Object) →
-      RowsStay (registered code s TheSequencer activity place r x (with_frame s TheSequencer activity f below)).state
+      RowsStay (registered code s TheSequencer activity position r x (with_frame s TheSequencer activity f below)).state
   unfolding registered with_activity
   register f r x = of (is_init s.phase) refl
     where
       of : (b : Bool) → is_init s.phase ≡ b → RowsStay
-          (registered code s TheSequencer activity place r x (with_frame s TheSequencer activity f below)).state
+          (registered code s TheSequencer activity position r x (with_frame s TheSequencer activity f below)).state
       of true e = inr e
       of false e =
           step_if RowsStay (not (is_init s.phase)) _ _ (λ k. faults _) (λ k. absurd (cc (e, k)))
@@ -110,7 +110,7 @@ module _ (code : Code) (s : State) (activity : Activity) (below : List Frame) (p
   unfolding with_activity
   framed_same f = refl
 
-  pub rows_stay : (d : Effect) → StepGives RowsStay (applied code s TheSequencer activity below place d)
+  pub rows_stay : (d : Effect) → StepGives RowsStay (applied code s TheSequencer activity below position d)
   unfolding applied
   rows_stay (Goes f) = gives_some _ _ (framed s refl f)
   rows_stay (Prints f label value) = gives_some _ _ (framed s refl f)
@@ -134,6 +134,6 @@ module _ (code : Code) (s : State) (activity : Activity) (below : List Frame) (p
   -- the reading of a form registers nothing
   pub form_registers_none : (f : Frame) (r : ℕ) (values : List Value) →
       StepGives (λ t. t.registry ≡ s.registry)
-      (applied code s TheSequencer activity below place (SetsHidden f r values))
+      (applied code s TheSequencer activity below position (SetsHidden f r values))
   unfolding applied with_activity
   form_registers_none f r values = gives_some _ _ refl

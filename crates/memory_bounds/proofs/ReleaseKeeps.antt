@@ -34,34 +34,34 @@ pub record IsReckoned (code : Code) (table : Table) (rows : List ReadingRow) (s 
 
 -- and of all of them, and of the handlers' rows
 pub record AreReckoned (code : Code) (storage : Storage) (table : Table) (rows : List ReadingRow) (s : State) : Type 0 where
-  pub effects : (place : ℕ) (r : Release) (a : Activity) (f : Frame) (below : List Frame) (op : Op) (rest : List Op) →
-      slice_get s.releases place ≡ Some r → r.status ≡ Started a → a.frames ≡ f ∷ below → f.rest ≡ op ∷ rest →
+  pub effects : (index : ℕ) (r : Release) (a : Activity) (f : Frame) (below : List Frame) (op : Op) (rest : List Op) →
+      slice_get s.releases index ≡ Some r → r.status ≡ Started a → a.frames ≡ f ∷ below → f.rest ≡ op ∷ rest →
       IsReckoned code table rows s f op rest
   pub tells : RowsTell storage s
 
 module _ (code : Code) (storage : Storage) (table : Table) (bound : IsBound code table)
     (first : ChildrenFirst 0 code.program.nodes) (rows : List ReadingRow) (s : State) (i : Invariant code s)
     (b : AreBounded code storage table s) (known : AreReckoned code storage table rows s)
-    (exec : is_exec s.phase ≡ true) (place : ℕ) (r : Release) (there : slice_get s.releases place ≡ Some r) where
+    (exec : is_exec s.phase ≡ true) (index : ℕ) (r : Release) (there : slice_get s.releases index ≡ Some r) where
   operates : (a : Activity) (f : Frame) (below : List Frame) (op : Op) (rest : List Op) (step : Step) →
-      IsNext s place r a f below op rest →
-      applied code s (ReleaseAt place) a below (place_of_op code op) (effect_at code rows s f op rest) ≡ Some step →
-      LeavesOthers s step.state place → SameHandler step.state place r.handler → AreBounded code storage table step.state
+      IsNext s index r a f below op rest →
+      applied code s (ReleaseAt index) a below (place_of_op code op) (effect_at code rows s f op rest) ≡ Some step →
+      LeavesOthers s step.state index → SameHandler step.state index r.handler → AreBounded code storage table step.state
   unfolding started_at started_in activity_of activity_in
   operates a f below op rest step next does leaves same =
-      (let is : activity_of s (ReleaseAt place) ≡ Some a =
+      (let is : activity_of s (ReleaseAt index) ≡ Some a =
       ap (λ (o : Option Release). o >>= (λ x. activity_in x.status)) there ∙ ap activity_in next.status in
-      let began : started_at s.releases place ≡ Some (started_as r.handler a) =
+      let began : started_at s.releases index ≡ Some (started_as r.handler a) =
       ap (λ (o : Option Release). o >>= started_in) there
       ∙ ap (λ (x : ReleaseStatus). started_in (record r { status = x })) next.status in
-      let k = known.effects place r a f below op rest there next.status next.frames next.ops in
-      operation_keeps code storage table bound first rows s i b place r there a is began f below next.frames op rest next.ops
+      let k = known.effects index r a f below op rest there next.status next.frames next.ops in
+      operation_keeps code storage table bound first rows s i b index r there a is began f below next.frames op rest next.ops
       k.puts k.situated k.counted step does leaves same)
 
-  pub release_keeps : (step : Step) → ref_op code rows s (ReleaseAt place) ≡ Some step →
+  pub release_keeps : (step : Step) → ref_op code rows s (ReleaseAt index) ≡ Some step →
       AreBounded code storage table step.state
   release_keeps step e =
-      turn_keeps code rows s (AreBounded code storage table) exec place r there operates
+      turn_keeps code rows s (AreBounded code storage table) exec index r there operates
       (λ row scope body waits is_row is leaves same.
-      start_stays code storage table bound s b place r there row scope body is_row is known.tells
+      start_stays code storage table bound s b index r there row scope body is_row is known.tells
       (new_is_empty code s i.memories.memory) leaves same) step e

@@ -22,33 +22,33 @@ use Rattle.memory_bounds.proofs.Standing.{IsNext}
 
 -- what a step leaves of the handler of the release at a place
 abbrev pub SameHandler : State → ℕ → ℕ → Type 0
-SameHandler t place handler = (w : StartedRelease) → started_at t.releases place ≡ Some w → w.handler ≡ handler
+SameHandler t index handler = (w : StartedRelease) → started_at t.releases index ≡ Some w → w.handler ≡ handler
 
 module _ (code : Code) (rows : List ReadingRow) (s : State) (P : State → Type 0) (exec : is_exec s.phase ≡ true)
-    (place : ℕ) (r : Release) (there : slice_get s.releases place ≡ Some r)
+    (index : ℕ) (r : Release) (there : slice_get s.releases index ≡ Some r)
     (operates : (a : Activity) (f : Frame) (below : List Frame) (op : Op) (rest : List Op) (step : Step) →
-    IsNext s place r a f below op rest →
-    applied code s (ReleaseAt place) a below (place_of_op code op) (effect_at code rows s f op rest) ≡ Some step →
-    LeavesOthers s step.state place → SameHandler step.state place r.handler → P step.state)
+    IsNext s index r a f below op rest →
+    applied code s (ReleaseAt index) a below (place_of_op code op) (effect_at code rows s f op rest) ≡ Some step →
+    LeavesOthers s step.state index → SameHandler step.state index r.handler → P step.state)
     (starts : (row : HandlerRow) (scope : ℕ) (body : Body) → r.status ≡ Waits →
     handler_row s.registry r.handler ≡ Some row →
     body_named code.program row.class (codes "handleAsyncEvent") ≡ Some body →
-    LeavesOthers s (started_with code s place row scope body).state place →
-    SameHandler (started_with code s place row scope body).state place r.handler →
-    P (started_with code s place row scope body).state) where
+    LeavesOthers s (started_with code s index row scope body).state index →
+    SameHandler (started_with code s index row scope body).state index r.handler →
+    P (started_with code s index row scope body).state) where
   handler_of : (condition : Type 0) (priority : ℕ) (old : List Frame) (t : State) →
-      ReleaseMoves code condition s place r.handler priority old t → (w : StartedRelease) →
-      started_at t.releases place ≡ Some w → w.handler ≡ r.handler
+      ReleaseMoves code condition s index r.handler priority old t → (w : StartedRelease) →
+      started_at t.releases index ≡ Some w → w.handler ≡ r.handler
   handler_of condition priority old t moves w e = of moves.own
     where
-      of : GoesOn code condition s t place r.handler priority old ⊎ Ends s t place old → w.handler ≡ r.handler
+      of : GoesOn code condition s t index r.handler priority old ⊎ Ends s t index old → w.handler ≡ r.handler
       of (inl g) = ap (λ (v : StartedRelease). v.handler) (some_inj w (started_as r.handler g.after) (sym e ∙ g.is_there))
       of (inr gone) = absurd (cc (e, gone.is_gone))
 
   -- an operation
-  operated : (a : Activity) → r.status ≡ Started a → (step : Step) → frame_op code rows s (ReleaseAt place) a ≡ Some step →
-      LeavesOthers s step.state place →
-      ((w : StartedRelease) → started_at step.state.releases place ≡ Some w → w.handler ≡ r.handler) →
+  operated : (a : Activity) → r.status ≡ Started a → (step : Step) → frame_op code rows s (ReleaseAt index) a ≡ Some step →
+      LeavesOthers s step.state index →
+      ((w : StartedRelease) → started_at step.state.releases index ≡ Some w → w.handler ≡ r.handler) →
       P step.state
   unfolding frame_op
   operated a status step e leaves same = by_frames a.frames refl e
@@ -56,7 +56,7 @@ module _ (code : Code) (rows : List ReadingRow) (s : State) (P : State → Type 
       by_ops : (f : Frame) (below : List Frame) → a.frames ≡ f ∷ below → (ops : List Op) → f.rest ≡ ops →
           (elim ops as (λ z. Option Step) [
             | [] ↦ None
-            | op ∷ rest ↦ applied code s (ReleaseAt place) a below (place_of_op code op) (effect_at code rows s f op rest)
+            | op ∷ rest ↦ applied code s (ReleaseAt index) a below (place_of_op code op) (effect_at code rows s f op rest)
           ]) ≡ Some step → P step.state
       by_ops f below frames [] next e = absurd (cc (e))
       by_ops f below frames (op ∷ rest) next e =
@@ -68,7 +68,7 @@ module _ (code : Code) (rows : List ReadingRow) (s : State) (P : State → Type 
             | [] ↦ None
             | f ∷ below ↦ elim f.rest [
               | [] ↦ None
-              | op ∷ rest ↦ applied code s (ReleaseAt place) a below (place_of_op code op) (effect_at code rows s f op rest)
+              | op ∷ rest ↦ applied code s (ReleaseAt index) a below (place_of_op code op) (effect_at code rows s f op rest)
             ]
           ]) ≡ Some step → P step.state
       by_frames [] frames e = absurd (cc (e))
@@ -76,60 +76,60 @@ module _ (code : Code) (rows : List ReadingRow) (s : State) (P : State → Type 
 
   -- START
   started : (row : HandlerRow) → r.status ≡ Waits → handler_row s.registry r.handler ≡ Some row → (step : Step) →
-      start_op code s place r ≡ Some step → LeavesOthers s step.state place →
-      ((w : StartedRelease) → started_at step.state.releases place ≡ Some w → w.handler ≡ r.handler) →
+      start_op code s index r ≡ Some step → LeavesOthers s step.state index →
+      ((w : StartedRelease) → started_at step.state.releases index ≡ Some w → w.handler ≡ r.handler) →
       P step.state
   unfolding start_op
   started row waits is_row step e leaves same =
       by_scope (defined_by_chain code.program row.class)
       (sym (ap (λ (o : Option HandlerRow). o >>= (λ x. defined_by_chain code.program x.class >>= (λ scope.
       body_named code.program x.class (codes "handleAsyncEvent") >>= (λ body.
-      Some (started_with code s place x scope body))))) is_row) ∙ e)
+      Some (started_with code s index x scope body))))) is_row) ∙ e)
     where
       by_body : (scope : ℕ) (o : Option Body) → body_named code.program row.class (codes "handleAsyncEvent") ≡ o →
-          o >>= (λ body. Some (started_with code s place row scope body)) ≡ Some step →
+          o >>= (λ body. Some (started_with code s index row scope body)) ≡ Some step →
           P step.state
       by_body scope None is e = absurd (cc (e))
       by_body scope (Some body) is e =
-          let done : started_with code s place row scope body ≡ step = some_inj (started_with code s place row scope body) step e in
+          let done : started_with code s index row scope body ≡ step = some_inj (started_with code s index row scope body) step e in
           subst (λ (x : Step). P x.state) done
           (starts row scope body waits is_row is
-          (subst (λ (x : Step). LeavesOthers s x.state place) (sym done) leaves)
-          (λ w k. same w (ap (λ (x : Step). started_at x.state.releases place) (sym done) ∙ k)))
+          (subst (λ (x : Step). LeavesOthers s x.state index) (sym done) leaves)
+          (λ w k. same w (ap (λ (x : Step). started_at x.state.releases index) (sym done) ∙ k)))
 
       by_scope : (o : Option ℕ) → o >>= (λ scope.
           body_named code.program row.class (codes "handleAsyncEvent") >>= (λ body.
-          Some (started_with code s place row scope body))) ≡ Some step → P step.state
+          Some (started_with code s index row scope body))) ≡ Some step → P step.state
       by_scope None e = absurd (cc (e))
       by_scope (Some scope) e = by_body scope (body_named code.program row.class (codes "handleAsyncEvent")) refl e
 
-  pub turn_keeps : (step : Step) → ref_op code rows s (ReleaseAt place) ≡ Some step →
+  pub turn_keeps : (step : Step) → ref_op code rows s (ReleaseAt index) ≡ Some step →
       P step.state
   unfolding ref_op release_op_of
-  turn_keeps step e = of ((op_turns code rows s place r there exec).is step e)
+  turn_keeps step e = of ((op_turns code rows s index r there exec).is step e)
     where
-      does : release_op_of code rows s place r ≡ Some step
-      does = sym (ap (λ (o : Option Release). o >>= release_op_of code rows s place) there) ∙ e
+      does : release_op_of code rows s index r ≡ Some step
+      does = sym (ap (λ (o : Option Release). o >>= release_op_of code rows s index) there) ∙ e
 
       by_status : (status : ReleaseStatus) → Option Step
       by_status status = elim status [
-        | Waits ↦ start_op code s place r
-        | Started activity ↦ frame_op code rows s (ReleaseAt place) activity
+        | Waits ↦ start_op code s index r
+        | Started activity ↦ frame_op code rows s (ReleaseAt index) activity
         | Ended ↦ None
         | Dropped ↦ None
       ]
 
       by_turn : ((a : Activity) × (r.status ≡ Started a)
-          × ReleaseMoves code (EntersRightly code rows s place) s place r.handler a.priority a.frames step.state)
+          × ReleaseMoves code (EntersRightly code rows s index) s index r.handler a.priority a.frames step.state)
           ⊎ ((row : HandlerRow) × (r.status ≡ Waits) × (handler_row s.registry r.handler ≡ Some row)
-          × ReleaseMoves code (EntersRightly code rows s place) s place r.handler row.priority [] step.state) →
+          × ReleaseMoves code (EntersRightly code rows s index) s index r.handler row.priority [] step.state) →
           P step.state
       by_turn (inl (a, status, moves)) =
           operated a status step (sym (ap by_status status) ∙ does) moves.others
-          (handler_of (EntersRightly code rows s place) a.priority a.frames step.state moves)
+          (handler_of (EntersRightly code rows s index) a.priority a.frames step.state moves)
       by_turn (inr (row, waits, is_row, moves)) =
           started row waits is_row step (sym (ap by_status waits) ∙ does) moves.others
-          (handler_of (EntersRightly code rows s place) row.priority [] step.state moves)
+          (handler_of (EntersRightly code rows s index) row.priority [] step.state moves)
 
-      of : TakesTurn code rows s place r there exec step.state → P step.state
+      of : TakesTurn code rows s index r there exec step.state → P step.state
       of x = by_turn x.turn

@@ -150,7 +150,7 @@ module _ (s : State) where
       by a (inl m) = among_left a s.activity.areas (opened_of s.releases) m
       by a (inr r) =
           among_right a s.activity.areas (opened_of s.releases)
-          (opened_among s.releases r.place r.release a r.is_there r.is_opened)
+          (opened_among s.releases r.index r.release a r.is_there r.is_opened)
 
       within : (a : ℕ) (x : MemoryArea) → slice_get s.areas a ≡ Some x → rounded_up x.bytes ≤ area_bytes a
       within a x e =
@@ -158,14 +158,14 @@ module _ (s : State) where
           omega (arith, same))
 
   -- where one started release has room for so much more
-  pub reserved_with : (each more : ℕ) → AreasAreOpened s → (place : ℕ) (r : Release) (a : Activity) →
-      slice_get s.releases place ≡ Some r → activity_in r.status ≡ Some a →
+  pub reserved_with : (each more : ℕ) → AreasAreOpened s → (index : ℕ) (r : Release) (a : Activity) →
+      slice_get s.releases index ≡ Some r → activity_in r.status ≡ Some a →
       total area_bytes (opened_by a.frames) + more ≤ each →
       ((p : ℕ) (x : Release) (b : Activity) → slice_get s.releases p ≡ Some x → activity_in x.status ≡ Some b →
       total area_bytes (opened_by b.frames) ≤ each) →
       reserved s + more ≤ total area_bytes s.activity.areas + each * started_count s
   unfolding started_activities
-  reserved_with each more opened place r a there is fits h =
+  reserved_with each more opened index r a there is fits h =
       (let all = listed opened in
-      let releases = opened_with area_bytes each more s.releases place r a there is fits h in
+      let releases = opened_with area_bytes each more s.releases index r a there is fits h in
       omega (arith, all, releases))

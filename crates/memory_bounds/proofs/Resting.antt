@@ -33,10 +33,10 @@ bounded_still code storage table s t k b =
           (ap (λ (registry : List HandlerRow). handler_row registry w.handler) (sym k.registry) ∙ row_is) told);
     }
 
-pub start_spares : (code : Code) (s : State) (place : ℕ) (row : HandlerRow) (scope : ℕ) (body : Body) (now : ℕ) →
-    Spares s (started_with code s place row scope body).state now
+pub start_spares : (code : Code) (s : State) (index : ℕ) (row : HandlerRow) (scope : ℕ) (body : Body) (now : ℕ) →
+    Spares s (started_with code s index row scope body).state now
 unfolding started_with opening used
-start_spares code s place row scope body now = of (has_store_for s row.bytes)
+start_spares code s index row scope body now = of (has_store_for s row.bytes)
   where
     t : State
     t = with_area s scope (innermost s.activity.areas) row.bytes
@@ -58,13 +58,13 @@ start_spares code s place row scope body now = of (has_store_for s row.bytes)
     }
 
     of : (c : Bool) → Spares s
-        (if c then silently (with_activity t (ReleaseAt place) a)
-        else fault_in s (ReleaseAt place) no_activity (class_place code.program row.class) StoreFull).state now
-    of true = then_spares s t (with_activity t (ReleaseAt place) a) now more (acts_on t (ReleaseAt place) a now)
-    of false = faulted s (ReleaseAt place) no_activity (class_place code.program row.class) StoreFull now
+        (if c then silently (with_activity t (ReleaseAt index) a)
+        else fault_in s (ReleaseAt index) no_activity (class_place code.program row.class) StoreFull).state now
+    of true = then_spares s t (with_activity t (ReleaseAt index) a) now more (acts_on t (ReleaseAt index) a now)
+    of false = faulted s (ReleaseAt index) no_activity (class_place code.program row.class) StoreFull now
 
 -- so it leaves all others as they were
-pub start_keeps : (code : Code) (table : Table) (s : State) (place : ℕ) (row : HandlerRow) (scope : ℕ) (body : Body)
-    (a : ℕ) → used (started_with code s place row scope body).state a ≤ used s a
-start_keeps code table s place row scope body a =
-    (start_spares code s place row scope body (suc a)).in_use a (λ e. omega (arith, e))
+pub start_keeps : (code : Code) (table : Table) (s : State) (index : ℕ) (row : HandlerRow) (scope : ℕ) (body : Body)
+    (a : ℕ) → used (started_with code s index row scope body).state a ≤ used s a
+start_keeps code table s index row scope body a =
+    (start_spares code s index row scope body (suc a)).in_use a (λ e. omega (arith, e))

@@ -36,9 +36,9 @@ use Rattle.memory_bounds.proofs.Rooms.{room_left}
 asks : (code : Code) (id size : ℕ) (node : Node) → entered_with (binding code id) node ≡ Some size →
     number_asked code id node ≡ Some size
 unfolding number_asked entered_with
-asks code id size (NewArray place element count) e = absurd (none (binding code id) e)
+asks code id size (NewArray position element count) e = absurd (none (binding code id) e)
   where
-    none : (b : Binding) → entered_with b (NewArray place element count) ≡ Some size → ⊥
+    none : (b : Binding) → entered_with b (NewArray position element count) ≡ Some size → ⊥
     none (Builtin t) k = cc (k)
     none _ k = cc (k)
 asks code id size node e = e

@@ -64,9 +64,9 @@ fired_static code values s fire e = of (fired_handler code s fire.handler) (Miss
     of None events = e
     of (Some handler) events = taken_static values s handler e
 
-at_static : (code : Code) (values : List Value) (fires : List Fire) (s : State) (place : ℕ) → s.statics ≡ values →
-    (fired_at code fires s place).state.statics ≡ values
-at_static code values fires s place e = of (slice_get fires place)
+at_static : (code : Code) (values : List Value) (fires : List Fire) (s : State) (index : ℕ) → s.statics ≡ values →
+    (fired_at code fires s index).state.statics ≡ values
+at_static code values fires s index e = of (slice_get fires index)
   where
     of : (o : Option Fire) →
         (elim o as (λ z. Step) [ None ↦ silently s | Some fire ↦ fired code s fire ]).state.statics ≡ values
@@ -76,7 +76,7 @@ at_static code values fires s place e = of (slice_get fires place)
 pub arrivals_static : (code : Code) (plan : Plan) (s : State) → (arrivals code plan s).state.statics ≡ s.statics
 unfolding arrivals
 arrivals_static code plan s =
-    each_static s.statics (fired_at code plan.fires) (λ t place e. at_static code s.statics plan.fires t place e)
+    each_static s.statics (fired_at code plan.fires) (λ t index e. at_static code s.statics plan.fires t index e)
     (fires_due (executes_since s) s.unit plan.fires) (for_each release_taken (due_handlers s) s).state
     (each_static s.statics release_taken (λ t handler e. taken_static s.statics t handler e) (due_handlers s) s refl)
 

@@ -81,26 +81,26 @@ module _ (code : Code) (facts : HasFacts code) (bare : ClassesAskNothing code) (
         outcome : t.outcome ≡ s.outcome
         registry : t.registry ≡ s.registry
 
-      release_rests : is_exec s.phase ≡ true → (place : ℕ) →
-          Gives Rests (ref_op code plan.readings (with_turn s (TurnOf place)) (ReleaseAt place))
+      release_rests : is_exec s.phase ≡ true → (index : ℕ) →
+          Gives Rests (ref_op code plan.readings (with_turn s (TurnOf index)) (ReleaseAt index))
       unfolding ref_op
-      release_rests exec place = of (slice_get s.releases place) refl
+      release_rests exec index = of (slice_get s.releases index) refl
         where
-          turned : (t : State) → LeavesOthers (with_turn s (TurnOf place)) t place → Rests t
+          turned : (t : State) → LeavesOthers (with_turn s (TurnOf index)) t index → Rests t
           turned t l = record { phase = l.phase; outcome = l.outcome; registry = l.registry }
 
-          of : (o : Option Release) → slice_get s.releases place ≡ o →
-              Gives Rests (o >>= release_op_of code plan.readings (with_turn s (TurnOf place)) place)
+          of : (o : Option Release) → slice_get s.releases index ≡ o →
+              Gives Rests (o >>= release_op_of code plan.readings (with_turn s (TurnOf index)) index)
           of None e = gives_nothing Rests
           of (Some r) e = record {
             is = λ step k. by step
-                ((op_turns code plan.readings (with_turn s (TurnOf place)) place r e exec).is step
-                (ap (λ (o : Option Release). o >>= release_op_of code plan.readings (with_turn s (TurnOf place)) place) e
+                ((op_turns code plan.readings (with_turn s (TurnOf index)) index r e exec).is step
+                (ap (λ (o : Option Release). o >>= release_op_of code plan.readings (with_turn s (TurnOf index)) index) e
                 ∙ k));
           }
             where
               by : (step : Step) →
-                  TakesTurn code plan.readings (with_turn s (TurnOf place)) place r e exec step.state → Rests step.state
+                  TakesTurn code plan.readings (with_turn s (TurnOf index)) index r e exec step.state → Rests step.state
               by step x =
                   elim x.turn as (λ z. Rests step.state) [
                     | inl q ↦ turned step.state q.2.others
@@ -114,10 +114,10 @@ module _ (code : Code) (facts : HasFacts code) (bare : ClassesAskNothing code) (
           gives_told Rests (turn_taken s IdleTurn) (Some (silently (with_turn s IdleTurn)))
           (λ second e. subst (λ (y : Step). Rests y.state) (some_inj (silently (with_turn s IdleTurn)) second e)
           (record { phase = refl; outcome = refl; registry = refl }))
-      turn_rests (TurnOf place) exec =
-          gives_told Rests (turn_taken s (TurnOf place))
-          (ref_op code plan.readings (with_turn s (TurnOf place)) (ReleaseAt place))
-          (λ second e. (release_rests exec place).is second e)
+      turn_rests (TurnOf index) exec =
+          gives_told Rests (turn_taken s (TurnOf index))
+          (ref_op code plan.readings (with_turn s (TurnOf index)) (ReleaseAt index))
+          (λ second e. (release_rests exec index).is second e)
 
       exec_no_init : is_exec s.phase ≡ true → is_init s.phase ≡ false
       unfolding is_exec is_init

@@ -250,21 +250,21 @@ module _ (code : Code) where
     pub of_assign : (target value : ℕ) → Contains (run_parts node) target → Contains (run_parts node) value →
         (b : Binding) (n : Node) → slice_get code.program.nodes target ≡ Some n → AllRun id (assign_ops ops id value b n)
     unfolding assign_ops branches_at op_targets run_parts children
-    of_assign target value c d (Local k) (SimpleName place name) e = behind_part value d (STORE id) refl refl
-    of_assign target value c d (Field k) (SimpleName place name) e =
+    of_assign target value c d (Local k) (SimpleName position name) e = behind_part value d (STORE id) refl refl
+    of_assign target value c d (Field k) (SimpleName position name) e =
         (plain id (THIS id) refl refl, behind_part value d (PUT id) refl refl)
-    of_assign target value c d (Field k) (FieldAccess place name object) e =
+    of_assign target value c d (Field k) (FieldAccess position name object) e =
         both id (ops object) _
-        (h object (in_part target object (FieldAccess place name object) (in_part id target node itself is c) e
+        (h object (in_part target object (FieldAccess position name object) (in_part id target node itself is c) e
         (Contains-head object [])))
         (behind_part value d (PUT id) refl refl)
     of_assign target value c d (Static k) _ e = behind_part value d (PUTSTATIC id) refl refl
-    of_assign target value c d _ (Element place array index) e =
+    of_assign target value c d _ (Element position array index) e =
         both id (ops array) _
-        (h array (in_part target array (Element place array index) (in_part id target node itself is c) e
+        (h array (in_part target array (Element position array index) (in_part id target node itself is c) e
         (Contains-head array (index ∷ []))))
         (both id (ops index) _
-        (h index (in_part target index (Element place array index) (in_part id target node itself is c) e
+        (h index (in_part target index (Element position array index) (in_part id target node itself is c) e
         (Contains-tail array (index ∷ []) index (Contains-head index []))))
         (behind_part value d (PUTELEM id) refl refl))
     of_assign target value c d _ _ e = tt

@@ -34,36 +34,36 @@ module _ (code : Code) (ops : ℕ → List Op) (id : ℕ) where
   abbrev All : List Op → Type 0
   All xs = AllRun code id xs
 
-  of_new : (place name_place : Pos) (name arguments : List ℕ)
-      (is : slice_get code.program.nodes id ≡ Some (New place name_place name arguments)) →
+  of_new : (position name_place : Pos) (name arguments : List ℕ)
+      (is : slice_get code.program.nodes id ≡ Some (New position name_place name arguments)) →
       ((k : ℕ) → IsIn code.program.nodes id k → AllRun code id (ops k)) →
       (b : Binding) → binding code id ≡ b → AllRun code id (new_ops ops id arguments b)
   unfolding new_ops branches_at op_targets opens_memory run_parts children targets_here
-  of_new place name_place name arguments is h (ClassNamed class) e = (
+  of_new position name_place name arguments is h (ClassNamed class) e = (
     plain code id (ALLOC id) refl refl,
-    behind_all code ops id (New place name_place name arguments) is h arguments (λ k c. c) (CONSTRUCT id)
-        (runs_here code ops id (New place name_place name arguments) is h (CONSTRUCT id) refl refl (λ target c. c)),
+    behind_all code ops id (New position name_place name arguments) is h arguments (λ k c. c) (CONSTRUCT id)
+        (runs_here code ops id (New position name_place name arguments) is h (CONSTRUCT id) refl refl (λ target c. c)),
   )
-  of_new place name_place name arguments is h _ e =
-      all_of code ops id (New place name_place name arguments) is h arguments (λ k c. c)
+  of_new position name_place name arguments is h _ e =
+      all_of code ops id (New position name_place name arguments) is h arguments (λ k c. c)
 
-  module _ (place : Pos) (name : List ℕ) (object : Option ℕ) (arguments : List ℕ)
-      (is : slice_get code.program.nodes id ≡ Some (Call place name object arguments))
+  module _ (position : Pos) (name : List ℕ) (object : Option ℕ) (arguments : List ℕ)
+      (is : slice_get code.program.nodes id ≡ Some (Call position name object arguments))
       (h : (k : ℕ) → IsIn code.program.nodes id k → AllRun code id (ops k)) where
     abbrev call : Node
-    call = Call place name object arguments
+    call = Call position name object arguments
 
-    args : (k : ℕ) → Contains arguments k → Contains (run_parts (Call place name object arguments)) k
+    args : (k : ℕ) → Contains arguments k → Contains (run_parts (Call position name object arguments)) k
     unfolding run_parts children
     args k c = Contains-append_right (optional object) arguments k c
 
-    object_part : (k : ℕ) → Contains (optional object) k → Contains (run_parts (Call place name object arguments)) k
+    object_part : (k : ℕ) → Contains (optional object) k → Contains (run_parts (Call position name object arguments)) k
     unfolding run_parts children
     object_part k c = Contains-append_left (optional object) arguments k c
 
     memory_is : (t : Target) → binding code id ≡ Builtin t → enters_memory t.id ≡ true → (target : Body) →
         Contains (entered_targets code.program (binding code id)) target →
-        Contains (targets_entered code id (Call place name object arguments)) target
+        Contains (targets_entered code id (Call position name object arguments)) target
     unfolding targets_entered memory_targets
     memory_is t e p target c =
         (let same : memory_targets code.program (binding code id) ≡ entered_targets code.program (binding code id) =
@@ -156,38 +156,38 @@ module _ (code : Code) (ops : ℕ → List Op) (id : ℕ)
     (h : (k : ℕ) → IsIn code.program.nodes id k → AllRun code id (ops k)) where
   of_node : (node : Node) → slice_get code.program.nodes id ≡ Some node → AllRun code id (node_ops code ops id node)
   unfolding node_ops branches_at op_targets run_parts children targets_here
-  of_node (Number place value is_negative) is = one code id (PUSH id) refl refl
-  of_node (True place) is = one code id (PUSH id) refl refl
-  of_node (False place) is = one code id (PUSH id) refl refl
-  of_node (Null place) is = one code id (PUSH id) refl refl
-  of_node (This place) is = one code id (THIS id) refl refl
-  of_node (SimpleName place name) is = of_name code ops id (SimpleName place name) is h (binding code id)
-  of_node (FieldAccess place name object) is =
-      of_access code ops id (FieldAccess place name object) is h object (0, omega arith, refl) (binding code id)
-  of_node (Element place array index) is =
-      both code id (ops array) _ (of_part code ops id (Element place array index) is h array (0, omega arith, refl))
-      (behind_part code ops id (Element place array index) is h index (1, omega arith, refl) (ELEM id) refl refl)
-  of_node (Parenthesized place inner) is =
-      of_part code ops id (Parenthesized place inner) is h inner (0, omega arith, refl)
-  of_node (Unary place operator operand) is =
-      behind_part code ops id (Unary place operator operand) is h operand (0, omega arith, refl) (UNARY id) refl refl
-  of_node (Binary place operator left right) is =
-      of_binary code ops id (Binary place operator left right) is h operator left right (0, omega arith, refl)
+  of_node (Number position value is_negative) is = one code id (PUSH id) refl refl
+  of_node (True position) is = one code id (PUSH id) refl refl
+  of_node (False position) is = one code id (PUSH id) refl refl
+  of_node (Null position) is = one code id (PUSH id) refl refl
+  of_node (This position) is = one code id (THIS id) refl refl
+  of_node (SimpleName position name) is = of_name code ops id (SimpleName position name) is h (binding code id)
+  of_node (FieldAccess position name object) is =
+      of_access code ops id (FieldAccess position name object) is h object (0, omega arith, refl) (binding code id)
+  of_node (Element position array index) is =
+      both code id (ops array) _ (of_part code ops id (Element position array index) is h array (0, omega arith, refl))
+      (behind_part code ops id (Element position array index) is h index (1, omega arith, refl) (ELEM id) refl refl)
+  of_node (Parenthesized position inner) is =
+      of_part code ops id (Parenthesized position inner) is h inner (0, omega arith, refl)
+  of_node (Unary position operator operand) is =
+      behind_part code ops id (Unary position operator operand) is h operand (0, omega arith, refl) (UNARY id) refl refl
+  of_node (Binary position operator left right) is =
+      of_binary code ops id (Binary position operator left right) is h operator left right (0, omega arith, refl)
       (1, omega arith, refl)
-  of_node (New place name_place name arguments) is =
-      of_new code ops id place name_place name arguments is h (binding code id) refl
-  of_node (NewArray place element length) is =
-      behind_part code ops id (NewArray place element length) is h length (1, omega arith, refl) (ALLOCARRAY id) refl refl
-  of_node (Call place name object arguments) is =
-      of_call code ops id place name object arguments is h (binding code id) refl
-  of_node (Cast place name_place name operand) is =
-      behind_part code ops id (Cast place name_place name operand) is h operand (0, omega arith, refl) (CAST id) refl refl
-  of_node (LocalNode place name flags declared_type) is = one code id (ZERO id) refl refl
-  of_node (LocalWithValue place name_place name flags declared_type value) is =
-      behind_part code ops id (LocalWithValue place name_place name flags declared_type value) is h value
+  of_node (New position name_place name arguments) is =
+      of_new code ops id position name_place name arguments is h (binding code id) refl
+  of_node (NewArray position element length) is =
+      behind_part code ops id (NewArray position element length) is h length (1, omega arith, refl) (ALLOCARRAY id) refl refl
+  of_node (Call position name object arguments) is =
+      of_call code ops id position name object arguments is h (binding code id) refl
+  of_node (Cast position name_place name operand) is =
+      behind_part code ops id (Cast position name_place name operand) is h operand (0, omega arith, refl) (CAST id) refl refl
+  of_node (LocalNode position name flags declared_type) is = one code id (ZERO id) refl refl
+  of_node (LocalWithValue position name_place name flags declared_type value) is =
+      behind_part code ops id (LocalWithValue position name_place name flags declared_type value) is h value
       (Contains-append_right (optional flags) (declared_type ∷ value ∷ []) value (1, omega arith, refl)) (STORE id) refl
       refl
-  of_node (Assign place target value) is = go (slice_get code.program.nodes target) refl
+  of_node (Assign position target value) is = go (slice_get code.program.nodes target) refl
     where
       go : (o : Option Node) → slice_get code.program.nodes target ≡ o →
           AllRun code id (elim o as (λ z. List Op) [
@@ -196,53 +196,53 @@ module _ (code : Code) (ops : ℕ → List Op) (id : ℕ)
           ])
       go None e = tt
       go (Some node) e =
-          of_assign code ops id (Assign place target value) is h target value (0, omega arith, refl) (1, omega arith, refl)
+          of_assign code ops id (Assign position target value) is h target value (0, omega arith, refl) (1, omega arith, refl)
           (binding code target) node e
-  of_node (ExpressionStatement place expression) is =
+  of_node (ExpressionStatement position expression) is =
       both code id (ops expression) _
-      (of_part code ops id (ExpressionStatement place expression) is h expression (0, omega arith, refl))
+      (of_part code ops id (ExpressionStatement position expression) is h expression (0, omega arith, refl))
       (either code id (leaves_value (binding code expression)) _ _ (one code id (DROP id) refl refl) tt)
-  of_node (Block place statements) is = all_of code ops id (Block place statements) is h statements (λ k c. c)
-  of_node (If place condition then_part else_part) is =
+  of_node (Block position statements) is = all_of code ops id (Block position statements) is h statements (λ k c. c)
+  of_node (If position condition then_part else_part) is =
       both code id (ops condition) _
-      (of_part code ops id (If place condition then_part else_part) is h condition (0, omega arith, refl))
+      (of_part code ops id (If position condition then_part else_part) is h condition (0, omega arith, refl))
       (branch code id (IF id) refl refl)
-  of_node (While place condition body) is =
+  of_node (While position condition body) is =
       both code id (ops condition) _
-      (of_part code ops id (While place condition body) is h condition (0, omega arith, refl))
+      (of_part code ops id (While position condition body) is h condition (0, omega arith, refl))
       (branch code id (LOOP id) refl refl)
-  of_node (For place first condition step body) is =
+  of_node (For position first condition step body) is =
       both code id (ops first) _
-      (of_part code ops id (For place first condition step body) is h first (0, omega arith, refl))
+      (of_part code ops id (For position first condition step body) is h first (0, omega arith, refl))
       (both code id (ops condition) _
-      (of_part code ops id (For place first condition step body) is h condition (1, omega arith, refl))
+      (of_part code ops id (For position first condition step body) is h condition (1, omega arith, refl))
       (branch code id (LOOP id) refl refl))
-  of_node (Return place value) is = of_return code ops id (Return place value) is h value (λ k c. c)
-  of_node (MethodNode place name flags result_type parameters body) is =
-      of_method code ops id (MethodNode place name flags result_type parameters body) is h result_type body (λ k c.
+  of_node (Return position value) is = of_return code ops id (Return position value) is h value (λ k c. c)
+  of_node (MethodNode position name flags result_type parameters body) is =
+      of_method code ops id (MethodNode position name flags result_type parameters body) is h result_type body (λ k c.
       Contains-append_right (optional flags) (result_type ∷ optional parameters ++ optional body) k
       (Contains-tail result_type (optional parameters ++ optional body) k
       (Contains-append_right (optional parameters) (optional body) k c)))
-  of_node (SuperCall place arguments) is =
-      of_super code ops id (SuperCall place arguments) is h id arguments (binding code id) refl (λ k c. c)
+  of_node (SuperCall position arguments) is =
+      of_super code ops id (SuperCall position arguments) is h id arguments (binding code id) refl (λ k c. c)
       (λ target c. c)
-  of_node (Constructor place name flags parameters None body) is =
-      of_constructor code ops id (Constructor place name flags parameters None body) is h None (ops body)
+  of_node (Constructor position name flags parameters None body) is =
+      of_constructor code ops id (Constructor position name flags parameters None body) is h None (ops body)
       (λ k c. absurd (none_contained k c)) (λ e target c. c)
-      (of_part code ops id (Constructor place name flags parameters None body) is h body
+      (of_part code ops id (Constructor position name flags parameters None body) is h body
       (Contains-append_right (optional flags) (optional parameters ++ (body ∷ [])) body
       (Contains-append_right (optional parameters) (body ∷ []) body (0, omega arith, refl))))
-  of_node (Constructor place name flags parameters (Some call) body) is =
-      of_constructor code ops id (Constructor place name flags parameters (Some call) body) is h (Some call) (ops body)
+  of_node (Constructor position name flags parameters (Some call) body) is =
+      of_constructor code ops id (Constructor position name flags parameters (Some call) body) is h (Some call) (ops body)
       (λ k c. Contains-append_right (optional flags) (optional parameters ++ (call ∷ body ∷ [])) k
       (Contains-append_right (optional parameters) (call ∷ body ∷ []) k
       (Contains-append_left (call ∷ []) (body ∷ []) k c)))
       (λ e target c. absurd (cc (e)))
-      (of_part code ops id (Constructor place name flags parameters (Some call) body) is h body
+      (of_part code ops id (Constructor position name flags parameters (Some call) body) is h body
       (Contains-append_right (optional flags) (optional parameters ++ (call ∷ body ∷ [])) body
       (Contains-append_right (optional parameters) (call ∷ body ∷ []) body (1, omega arith, refl))))
-  of_node (Class place name flags header members) is =
-      of_constructor code ops id (Class place name flags header members) is h None []
+  of_node (Class position name flags header members) is =
+      of_constructor code ops id (Class position name flags header members) is h None []
       (λ k c. absurd (none_contained k c)) (λ e target c. c) tt
   of_node _ is = tt
 
@@ -297,33 +297,33 @@ module _ (code : Code) where
 
     of_turn : (node : Node) → slice_get code.program.nodes id ≡ Some node → Fronts whole (turn_ops code id node)
     unfolding turn_ops run_parts children branches_at op_targets
-    of_turn (While place condition body) is =
+    of_turn (While position condition body) is =
         fronts whole _
-        (both code whole _ _ (part_runs (While place condition body) is body (1, omega arith, refl))
-        (both code whole _ _ (part_runs (While place condition body) is condition (0, omega arith, refl))
+        (both code whole _ _ (part_runs (While position condition body) is body (1, omega arith, refl))
+        (both code whole _ _ (part_runs (While position condition body) is condition (0, omega arith, refl))
         (all_in code whole id inside (LOOP id ∷ []) (branch code id (LOOP id) refl refl))))
-    of_turn (For place first condition step body) is =
+    of_turn (For position first condition step body) is =
         fronts whole _
-        (both code whole _ _ (part_runs (For place first condition step body) is body (3, omega arith, refl))
-        (both code whole _ _ (part_runs (For place first condition step body) is step (2, omega arith, refl))
-        (both code whole _ _ (part_runs (For place first condition step body) is condition (1, omega arith, refl))
+        (both code whole _ _ (part_runs (For position first condition step body) is body (3, omega arith, refl))
+        (both code whole _ _ (part_runs (For position first condition step body) is step (2, omega arith, refl))
+        (both code whole _ _ (part_runs (For position first condition step body) is condition (1, omega arith, refl))
         (all_in code whole id inside (LOOP id ∷ []) (branch code id (LOOP id) refl refl)))))
     of_turn _ is = no_front whole
 
     of_right : (node : Node) → slice_get code.program.nodes id ≡ Some node → (b : Bool) →
         Fronts whole (option_map (λ right. if b then ops_of code right else []) (right_operand node))
     unfolding right_operand run_parts children
-    of_right (Binary place operator left right) is b =
+    of_right (Binary position operator left right) is b =
         fronts whole _
-        (either code whole b _ _ (part_runs (Binary place operator left right) is right (1, omega arith, refl)) tt)
+        (either code whole b _ _ (part_runs (Binary position operator left right) is right (1, omega arith, refl)) tt)
     of_right _ is b = no_front whole
 
     of_left : (node : Node) → slice_get code.program.nodes id ≡ Some node → (b : Bool) →
         Fronts whole (option_map (λ right. if b then [] else ops_of code right) (right_operand node))
     unfolding right_operand run_parts children
-    of_left (Binary place operator left right) is b =
+    of_left (Binary position operator left right) is b =
         fronts whole _
-        (either code whole b _ _ tt (part_runs (Binary place operator left right) is right (1, omega arith, refl)))
+        (either code whole b _ _ tt (part_runs (Binary position operator left right) is right (1, omega arith, refl)))
     of_left _ is b = no_front whole
 
     of_if : (node : Node) → slice_get code.program.nodes id ≡ Some node → (b : Bool) →
@@ -331,14 +331,14 @@ module _ (code : Code) where
         (option_map (λ (parts : ℕ × Option ℕ). if b then ops_of code parts.0 else optional_ops code parts.1)
         (if_parts node))
     unfolding if_parts optional_ops run_parts children
-    of_if (If place condition then_part None) is b =
+    of_if (If position condition then_part None) is b =
         fronts whole _
-        (either code whole b _ _ (part_runs (If place condition then_part None) is then_part (1, omega arith, refl)) tt)
-    of_if (If place condition then_part (Some else_part)) is b =
+        (either code whole b _ _ (part_runs (If position condition then_part None) is then_part (1, omega arith, refl)) tt)
+    of_if (If position condition then_part (Some else_part)) is b =
         fronts whole _
         (either code whole b _ _
-        (part_runs (If place condition then_part (Some else_part)) is then_part (1, omega arith, refl))
-        (part_runs (If place condition then_part (Some else_part)) is else_part (2, omega arith, refl)))
+        (part_runs (If position condition then_part (Some else_part)) is then_part (1, omega arith, refl))
+        (part_runs (If position condition then_part (Some else_part)) is else_part (2, omega arith, refl)))
     of_if _ is b = no_front whole
 
     by_node : {A : Type 0} (which : Node → Option A) (next : A → List Op) →

@@ -60,11 +60,11 @@ module _ (code : Code) (facts : HasFacts code) (storage : Storage) (table : Tabl
   sound moment s h =
       reached_is_sound code facts (operated code facts.bodies facts.sequencer) plan choices moment s h
 
-  known : (s : State) → Reached code plan (by_list choices) Arrived s → is_exec s.phase ≡ true → (place : ℕ) →
-      AreReckoned code storage table plan.readings (with_turn s (TurnOf place))
-  known s h exec place =
-      are_reckoned code storage table facts.bodies plan.readings (with_turn s (TurnOf place))
-      (time_passes code s s.unit (Some (TurnOf place)) (sound Arrived s h).0.settled.invariant) exec
+  known : (s : State) → Reached code plan (by_list choices) Arrived s → is_exec s.phase ≡ true → (index : ℕ) →
+      AreReckoned code storage table plan.readings (with_turn s (TurnOf index))
+  known s h exec index =
+      are_reckoned code storage table facts.bodies plan.readings (with_turn s (TurnOf index))
+      (time_passes code s s.unit (Some (TurnOf index)) (sound Arrived s h).0.settled.invariant) exec
       (record {
         is = λ q r a f below op rest next small.
             (counted s h).is q r a f below op rest
@@ -79,45 +79,45 @@ module _ (code : Code) (facts : HasFacts code) (storage : Storage) (table : Tabl
       all_states code facts plan choices (AreBounded code storage table)
       (λ t none. record { is = λ q w row there row_is told. absurd (none q w there) })
       (bounded_still code storage table)
-      (λ s h b exec place r there step e.
-      release_keeps code storage table bound first plan.readings (with_turn s (TurnOf place))
-      (time_passes code s s.unit (Some (TurnOf place)) (sound Arrived s h).0.settled.invariant)
-      (bounded_still code storage table s (with_turn s (TurnOf place)) (still_turn s (TurnOf place)) b)
-      (known s h exec place) exec place r there step e) moment s h
+      (λ s h b exec index r there step e.
+      release_keeps code storage table bound first plan.readings (with_turn s (TurnOf index))
+      (time_passes code s s.unit (Some (TurnOf index)) (sound Arrived s h).0.settled.invariant)
+      (bounded_still code storage table s (with_turn s (TurnOf index)) (still_turn s (TurnOf index)) b)
+      (known s h exec index) exec index r there step e) moment s h
 
   -- ---- no full memory
 
-  module _ (s : State) (h : Reached code plan (by_list choices) Arrived s) (place : ℕ) (row : HandlerRow)
-      (of : IsReleaseOf s place row) (told : IsYes code storage table row.class) where
+  module _ (s : State) (h : Reached code plan (by_list choices) Arrived s) (index : ℕ) (row : HandlerRow)
+      (of : IsReleaseOf s index row) (told : IsYes code storage table row.class) where
     abbrev r : Release
     r = of.release
 
     module _ (a : Activity) (status : r.status ≡ Started a) where
-      is : activity_of s (ReleaseAt place) ≡ Some a
+      is : activity_of s (ReleaseAt index) ≡ Some a
       unfolding activity_of activity_in
       is = ap (λ (o : Option Release). o >>= (λ x. activity_in x.status)) of.is ∙ ap activity_in status
 
-      began : started_at s.releases place ≡ Some (started_as of.release.handler a)
+      began : started_at s.releases index ≡ Some (started_as of.release.handler a)
       unfolding started_at started_in activity_in
       began =
           ap (λ (o : Option Release). o >>= started_in) of.is
           ∙ ap (λ (x : ReleaseStatus). started_in (record r { status = x })) status
 
       mine : IsBounded code table s a.frames
-      mine = (all_bounded Arrived s h).is place (started_as of.release.handler a) row began of.is_row told
+      mine = (all_bounded Arrived s h).is index (started_as of.release.handler a) row began of.is_row told
 
       room : (f : Frame) (below : List Frame) → a.frames ≡ f ∷ below → (op : Op) (rest : List Op) →
           f.rest ≡ op ∷ rest →
-          HasRoom is_memory_full only_memory_full code s place a below (place_of_op code op) (effect_at code plan.readings s f op rest)
+          HasRoom is_memory_full only_memory_full code s index a below (place_of_op code op) (effect_at code plan.readings s f op rest)
       unfolding is_memory_full
       room f below frames op rest next =
           let here : IsBounded code table s (f ∷ below) = subst (IsBounded code table s) frames mine in
-          let k = (counted s h).is place of.release a f below op rest
+          let k = (counted s h).is index of.release a f below op rest
           (record { there = of.is; status = status; frames = frames; ops = next })
           (small_next code table s f below op rest next here) in
           record {
             makes = λ g class values q. inr
-                (finds code table bound first plan.readings s place a is f below here op rest next k.is g class values q);
+                (finds code table bound first plan.readings s index a is f below here op rest next k.is g class values q);
             opens = λ h g scope bytes q. inl refl;
             full = k.full;
           }
@@ -126,12 +126,12 @@ module _ (code : Code) (facts : HasFacts code) (storage : Storage) (table : Tabl
         by_ops : (f : Frame) (below : List Frame) → a.frames ≡ f ∷ below → (ops : List Op) → f.rest ≡ ops →
             (elim ops as (λ z. Option Step) [
               | [] ↦ None
-              | op ∷ rest ↦ applied code s (ReleaseAt place) a below (place_of_op code op)
+              | op ∷ rest ↦ applied code s (ReleaseAt index) a below (place_of_op code op)
                   (effect_at code plan.readings s f op rest)
             ]) ≡ Some step → TellsNone is_memory_full only_memory_full step
         by_ops f below frames [] next q = absurd (cc (q))
         by_ops f below frames (op ∷ rest) next q =
-            applied_none is_memory_full only_memory_full code s place a below (place_of_op code op) (effect_at code plan.readings s f op rest)
+            applied_none is_memory_full only_memory_full code s index a below (place_of_op code op) (effect_at code plan.readings s f op rest)
             (room f below frames op rest next) step q
 
         by_frames : (fs : List Frame) → a.frames ≡ fs →
@@ -139,14 +139,14 @@ module _ (code : Code) (facts : HasFacts code) (storage : Storage) (table : Tabl
               | [] ↦ None
               | f ∷ below ↦ elim f.rest [
                 | [] ↦ None
-                | op ∷ rest ↦ applied code s (ReleaseAt place) a below (place_of_op code op)
+                | op ∷ rest ↦ applied code s (ReleaseAt index) a below (place_of_op code op)
                     (effect_at code plan.readings s f op rest)
               ]
             ]) ≡ Some step → TellsNone is_memory_full only_memory_full step
         by_frames [] frames q = absurd (cc (q))
         by_frames (f ∷ below) frames q = by_ops f below frames f.rest refl q
 
-        operated_tells : frame_op code plan.readings s (ReleaseAt place) a ≡ Some step → TellsNone is_memory_full only_memory_full step
+        operated_tells : frame_op code plan.readings s (ReleaseAt index) a ≡ Some step → TellsNone is_memory_full only_memory_full step
         unfolding frame_op
         operated_tells e = by_frames a.frames refl e
 
@@ -158,8 +158,8 @@ module _ (code : Code) (facts : HasFacts code) (storage : Storage) (table : Tabl
     none_of (Some a) f h = h a
 
     by_status : (status : ReleaseStatus) → r.status ≡ status → NoneTold (elim status as (λ z. Option Step) [
-      | Waits ↦ start_op code s place r
-      | Started activity ↦ frame_op code plan.readings s (ReleaseAt place) activity
+      | Waits ↦ start_op code s index r
+      | Started activity ↦ frame_op code plan.readings s (ReleaseAt index) activity
       | Ended ↦ None
       | Dropped ↦ None
     ])
@@ -169,20 +169,20 @@ module _ (code : Code) (facts : HasFacts code) (storage : Storage) (table : Tabl
         none_of (defined_by_chain code.program x.class) _ (λ scope.
         none_of (body_named code.program x.class (codes "handleAsyncEvent")) _ (λ body. record {
           is = λ step k.
-              subst (TellsNone is_memory_full only_memory_full) (some_inj (started_with code s place x scope body) step k)
-              (started_none is_memory_full only_memory_full code s place no_activity [] nowhere x scope body (inl refl));
+              subst (TellsNone is_memory_full only_memory_full) (some_inj (started_with code s index x scope body) step k)
+              (started_none is_memory_full only_memory_full code s index no_activity [] nowhere x scope body (inl refl));
         })))
     by_status (Started a) e = record { is = λ step k. operated_tells a e step k }
     by_status Ended e = record { is = λ step k. absurd (cc (k)) }
     by_status Dropped e = record { is = λ step k. absurd (cc (k)) }
 
-    pub tells_none : (step : Step) → ref_op code plan.readings s (ReleaseAt place) ≡ Some step → TellsNone is_memory_full only_memory_full step
+    pub tells_none : (step : Step) → ref_op code plan.readings s (ReleaseAt index) ≡ Some step → TellsNone is_memory_full only_memory_full step
     unfolding ref_op release_op_of
     tells_none step e =
         (by_status of.release.status refl).is step
-        (sym (ap (λ (o : Option Release). o >>= release_op_of code plan.readings s place) of.is) ∙ e)
+        (sym (ap (λ (o : Option Release). o >>= release_op_of code plan.readings s index) of.is) ∙ e)
 
-    pub never_full : (step : Step) → ref_op code plan.readings s (ReleaseAt place) ≡ Some step →
+    pub never_full : (step : Step) → ref_op code plan.readings s (ReleaseAt index) ≡ Some step →
         (unit : ℕ) (pos : Pos) → Contains step.events (Fault unit MemoryFull pos) → ⊥
     unfolding is_memory_full
     never_full step e = never_told is_memory_full only_memory_full step (tells_none step e) MemoryFull refl

@@ -228,7 +228,7 @@ module _ (code : Code) (world : Environment) (f : Frame) where
   exec_found id k q r = given (world.object_at q) (λ there. exec_runs id k there r)
 
   abbrev exec_in_place : ℕ → Frame → Value → Value → Effect
-  exec_in_place id k v place = as_object place (λ q. as_object v (λ r. exec_found id k q r))
+  exec_in_place id k v index = as_object index (λ q. as_object v (λ r. exec_found id k q r))
 
   abbrev ceiling_sets : Frame → ℕ → ℤ → Effect
   ceiling_sets k r n = if is_priority n then SetsCeiling k r (unsigned_abs n) else Faults BadPriority

@@ -51,7 +51,7 @@ then_spares s t u now a b =
 pub acts_on : (s : State) (job : Job) (a : Activity) (now : ℕ) → Spares s (with_activity s job a) now
 unfolding with_activity
 acts_on s TheSequencer a now = still s (record s { activity = a }) now refl refl
-acts_on s (ReleaseAt place) a now = still s (with_activity s (ReleaseAt place) a) now refl refl
+acts_on s (ReleaseAt index) a now = still s (with_activity s (ReleaseAt index) a) now refl refl
 
 -- other objects at their places, of the same size
 objects_changed : (s : State) (f : Object → Object) (r now : ℕ) →

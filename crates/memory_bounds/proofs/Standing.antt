@@ -18,27 +18,27 @@ use Rattle.mission_sound.specs.Invariant.{Invariant}
 use Rattle.reference_sound.proofs.Passes.{highest_ready}
 
 -- a started release with its next operation
-pub record IsNext (s : State) (place : ℕ) (r : Release) (a : Activity) (f : Frame) (below : List Frame) (op : Op)
+pub record IsNext (s : State) (index : ℕ) (r : Release) (a : Activity) (f : Frame) (below : List Frame) (op : Op)
     (rest : List Op) : Type 0 where
-  pub there : slice_get s.releases place ≡ Some r
+  pub there : slice_get s.releases index ≡ Some r
   pub status : r.status ≡ Started a
   pub frames : a.frames ≡ f ∷ below
   pub ops : f.rest ≡ op ∷ rest
 
-module _ (code : Code) (facts : Facts code) (rows : List ReadingRow) (s : State) (i : Invariant code s) (place : ℕ)
+module _ (code : Code) (facts : Facts code) (rows : List ReadingRow) (s : State) (i : Invariant code s) (index : ℕ)
     (r : Release) (a : Activity) (f : Frame) (below : List Frame) (op : Op) (rest : List Op)
-    (next : IsNext s place r a f below op rest) where
+    (next : IsNext s index r a f below op rest) where
   abbrev pub list : List ℕ
   list = list_of (areas_of i.base) (f ∷ below)
 
-  pub is_activity : activity_of s (ReleaseAt place) ≡ Some a
+  pub is_activity : activity_of s (ReleaseAt index) ≡ Some a
   unfolding activity_of activity_in
   is_activity = ap (λ (o : Option Release). o >>= (λ x. activity_in x.status)) next.there ∙ ap activity_in next.status
 
   pub stand : FramesFine code (world_of s) (areas_of i.base) (f ∷ below)
   stand =
       subst (FramesFine code (world_of s) (areas_of i.base)) next.frames
-      (i.memories.jobs (ReleaseAt place) a is_activity).frames
+      (i.memories.jobs (ReleaseAt index) a is_activity).frames
 
   pub ready : Ready code (world_of s) (list_of (areas_of i.base) (f ∷ below)) stand.0.class stand.0.sig
       (record f { rest = op ∷ rest }) None

@@ -35,8 +35,8 @@ module _ (code : Code) (facts : HasFacts code) (plan : Plan) (choices : List ℕ
     (none : (t : State) → ((q : ℕ) (w : StartedRelease) → started_at t.releases q ≡ Some w → ⊥) → P t)
     (still : (s t : State) → IsStill s t → P s → P t)
     (turn : (s : State) → Reached code plan (by_list choices) Arrived s → P s → is_exec s.phase ≡ true →
-    (place : ℕ) (r : Release) → slice_get s.releases place ≡ Some r → (step : Step) →
-    ref_op code plan.readings (with_turn s (TurnOf place)) (ReleaseAt place) ≡ Some step → P step.state) where
+    (index : ℕ) (r : Release) → slice_get s.releases index ≡ Some r → (step : Step) →
+    ref_op code plan.readings (with_turn s (TurnOf index)) (ReleaseAt index) ≡ Some step → P step.state) where
   abbrev Comes : Moment → State → Type 0
   Comes moment s = Reached code plan (by_list choices) moment s
 
@@ -55,17 +55,17 @@ module _ (code : Code) (facts : HasFacts code) (plan : Plan) (choices : List ℕ
 
   module _ (s : State) (h : Reached code plan (by_list choices) Arrived s) (b : P s) where
     -- the release whose turn it is
-    chosen : is_exec s.phase ≡ true → (place : ℕ) →
-        Gives P (ref_op code plan.readings (with_turn s (TurnOf place)) (ReleaseAt place))
+    chosen : is_exec s.phase ≡ true → (index : ℕ) →
+        Gives P (ref_op code plan.readings (with_turn s (TurnOf index)) (ReleaseAt index))
     unfolding ref_op turn_taken
-    chosen exec place = of (slice_get s.releases place) refl
+    chosen exec index = of (slice_get s.releases index) refl
       where
-        of : (o : Option Release) → slice_get s.releases place ≡ o →
-            Gives P (o >>= release_op_of code plan.readings (with_turn s (TurnOf place)) place)
+        of : (o : Option Release) → slice_get s.releases index ≡ o →
+            Gives P (o >>= release_op_of code plan.readings (with_turn s (TurnOf index)) index)
         of None e = gives_nothing P
         of (Some r) e = record {
-          is = λ step x. turn s h b exec place r e step
-              (ap (λ (o : Option Release). o >>= release_op_of code plan.readings (with_turn s (TurnOf place)) place) e ∙ x);
+          is = λ step x. turn s h b exec index r e step
+              (ap (λ (o : Option Release). o >>= release_op_of code plan.readings (with_turn s (TurnOf index)) index) e ∙ x);
         }
 
     any_turn : (turn : Turn) → is_exec s.phase ≡ true →
@@ -75,9 +75,9 @@ module _ (code : Code) (facts : HasFacts code) (plan : Plan) (choices : List ℕ
         gives_told P (turn_taken s IdleTurn) (Some (silently (with_turn s IdleTurn)))
         (λ second e. subst (λ (x : Step). P x.state) (some_inj (silently (with_turn s IdleTurn)) second e)
         (still s (with_turn s IdleTurn) (still_turn s IdleTurn) b))
-    any_turn (TurnOf place) exec =
-        gives_told P (turn_taken s (TurnOf place)) (ref_op code plan.readings (with_turn s (TurnOf place)) (ReleaseAt place))
-        (λ second e. (chosen exec place).is second e)
+    any_turn (TurnOf index) exec =
+        gives_told P (turn_taken s (TurnOf index)) (ref_op code plan.readings (with_turn s (TurnOf index)) (ReleaseAt index))
+        (λ second e. (chosen exec index).is second e)
 
     operation_keeps : (step : Step) → acts code plan.readings (by_list choices) s ≡ Some step →
         P step.state

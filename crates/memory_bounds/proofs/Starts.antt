@@ -24,21 +24,21 @@ use Rattle.memory_bounds.proofs.Resting.{start_spares, start_keeps}
 use Rattle.memory_bounds.proofs.Turns.{started_activity}
 
 module _ (code : Code) (storage : Storage) (table : Table) (bound : IsBound code table) (s : State)
-    (b : AreBounded code storage table s) (place : ℕ) (r : Release) (there : slice_get s.releases place ≡ Some r)
+    (b : AreBounded code storage table s) (index : ℕ) (r : Release) (there : slice_get s.releases index ≡ Some r)
     (row : HandlerRow) (scope : ℕ) (body : Body) (is_row : handler_row s.registry r.handler ≡ Some row)
     (is_body : body_named code.program row.class (codes "handleAsyncEvent") ≡ Some body) (tells : RowsTell storage s)
-    (empty : used s (length s.areas) ≡ 0) (leaves : LeavesOthers s (started_with code s place row scope body).state place)
+    (empty : used s (length s.areas) ≡ 0) (leaves : LeavesOthers s (started_with code s index row scope body).state index)
     (same_handler : (w : StartedRelease) →
-    started_at (started_with code s place row scope body).state.releases place ≡ Some w → w.handler ≡ r.handler) where
+    started_at (started_with code s index row scope body).state.releases index ≡ Some w → w.handler ≡ r.handler) where
   abbrev after : State
-  after = (started_with code s place row scope body).state
+  after = (started_with code s index row scope body).state
 
   row_before : (handler : ℕ) (x : HandlerRow) → handler_row after.registry handler ≡ Some x →
       handler_row s.registry handler ≡ Some x
   row_before handler x e =
       ap (λ (registry : List HandlerRow). handler_row registry handler) (sym leaves.registry) ∙ e
 
-  own : (w : StartedRelease) (x : HandlerRow) → started_at after.releases place ≡ Some w →
+  own : (w : StartedRelease) (x : HandlerRow) → started_at after.releases index ≡ Some w →
       handler_row after.registry w.handler ≡ Some x → IsYes code storage table x.class →
       IsBounded code table after w.activity.frames
   unfolding BoundedAfter
@@ -53,27 +53,27 @@ module _ (code : Code) (storage : Storage) (table : Table) (bound : IsBound code
       let needs : table body ≡ table told.body = ap table (sym same_body) in
       let fits : table body ≤ row.bytes = (let k = told.fits in omega (arith, k, bytes, needs)) in
       let small : row.bytes < too_much = (let k = told.small in omega (arith, k, bytes)) in
-      start_bounded code table bound s place r there row scope body empty fits small w.activity
-      (started_activity after place w e)
+      start_bounded code table bound s index r there row scope body empty fits small w.activity
+      (started_activity after index w e)
 
-  other : (q : ℕ) → (place ≡ q → ⊥) → (w : StartedRelease) (x : HandlerRow) → started_at after.releases q ≡ Some w →
+  other : (q : ℕ) → (index ≡ q → ⊥) → (w : StartedRelease) (x : HandlerRow) → started_at after.releases q ≡ Some w →
       handler_row after.registry w.handler ≡ Some x → IsYes code storage table x.class →
       IsBounded code table after w.activity.frames
   other q differ w x e x_is told =
       others_keep code table s after w.activity.frames
-      (λ a h. start_keeps code table s place row scope body a)
-      (start_spares code s place row scope body 0).areas
+      (λ a h. start_keeps code table s index row scope body a)
+      (start_spares code s index row scope body 0).areas
       (b.is q w x (sym (leaves.others q differ) ∙ e) (row_before w.handler x x_is) told)
 
   pub start_stays : AreBounded code storage table after
-  start_stays = record { is = λ q w x e x_is told. of q w x e x_is told (place == q) refl }
+  start_stays = record { is = λ q w x e x_is told. of q w x e x_is told (index == q) refl }
     where
       of : (q : ℕ) (w : StartedRelease) (x : HandlerRow) → started_at after.releases q ≡ Some w →
           handler_row after.registry w.handler ≡ Some x → IsYes code storage table x.class → (c : Bool) →
-          (place == q) ≡ c → IsBounded code table after w.activity.frames
+          (index == q) ≡ c → IsBounded code table after w.activity.frames
       of q w x e x_is told true p =
-          let same : place ≡ q = grind (arith, nat_tests) in
+          let same : index ≡ q = grind (arith, nat_tests) in
           own w x (ap (started_at after.releases) same ∙ e) x_is told
       of q w x e x_is told false p =
-          let differ : place ≡ q → ⊥ = grind (arith, nat_tests) in
+          let differ : index ≡ q → ⊥ = grind (arith, nat_tests) in
           other q differ w x e x_is told

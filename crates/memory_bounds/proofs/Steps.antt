@@ -22,8 +22,8 @@ use Rattle.memory_bounds.proofs.Applied.{BoundedAfter, make_bounded}
 use Rattle.memory_bounds.proofs.Others.{Situated, own_step}
 
 module _ (code : Code) (table : Table) (bound : IsBound code table) (first : ChildrenFirst 0 code.program.nodes)
-    (rows : List ReadingRow) (s : State) (place : ℕ) (activity : Activity)
-    (is : activity_of s (ReleaseAt place) ≡ Some activity) (f : Frame) (below : List Frame)
+    (rows : List ReadingRow) (s : State) (index : ℕ) (activity : Activity)
+    (is : activity_of s (ReleaseAt index) ≡ Some activity) (f : Frame) (below : List Frame)
     (b : IsBounded code table s (f ∷ below)) (op : Op) (rest : List Op) (next : f.rest ≡ op ∷ rest)
     (counted : IsCounted code table op (effect_at code rows s f op rest)) where
   pub within : EffectWithin code table (ops_weight code table f.rest) f (effect_at code rows s f op rest)
@@ -37,13 +37,13 @@ module _ (code : Code) (table : Table) (bound : IsBound code table) (first : Chi
   pub finds : (h : Frame) (class : ℕ) (values : List Value) → effect_at code rows s f op rest ≡ Makes h class values →
       has_room s h.area (length values) ≡ true
   finds h class values e =
-      make_bounded code table place s activity is (place_of_op code op) f below b h class values
+      make_bounded code table index s activity is (place_of_op code op) f below b h class values
       (subst (EffectWithin code table (ops_weight code table f.rest) f) e within)
 
   -- and it leaves the release bounded
   pub keeps : Situated s (effect_at code rows s f op rest) → (step : Step) →
-      applied code s (ReleaseAt place) activity below (place_of_op code op) (effect_at code rows s f op rest) ≡ Some step →
-      BoundedAfter code table place step
+      applied code s (ReleaseAt index) activity below (place_of_op code op) (effect_at code rows s f op rest) ≡ Some step →
+      BoundedAfter code table index step
   keeps situated step q =
-      own_step code table place s activity is (place_of_op code op) f below b (effect_at code rows s f op rest) situated within
+      own_step code table index s activity is (place_of_op code op) f below b (effect_at code rows s f op rest) situated within
       step q

@@ -60,46 +60,46 @@ module _ (storage : Storage) (s : State) (e : Effect) where
   like t v a objects = record { is = λ r x h. a.is r x (ap (λ (xs : List Object). slice_get xs r) (sym objects) ∙ h) }
 
   -- one object has changed
-  one_changed : (f : Object → Object) (place : ℕ) → ((x : Object) → (f x).class ≡ x.class) →
+  one_changed : (f : Object → Object) (index : ℕ) → ((x : Object) → (f x).class ≡ x.class) →
       ((x : Object) → (f x).area ≡ x.area) →
-      ((x : Object) → object_at s place ≡ Some x → Tells storage x → Tells storage (f x)) → (t : State) →
-      t.objects ≡ changed f place s.objects → AllLater storage s e t
-  one_changed f place class area keeps t objects = record {
-    is = λ r x h. of r x (ap (λ (xs : List Object). slice_get xs r) (sym objects) ∙ h) (cases_eq place r);
+      ((x : Object) → object_at s index ≡ Some x → Tells storage x → Tells storage (f x)) → (t : State) →
+      t.objects ≡ changed f index s.objects → AllLater storage s e t
+  one_changed f index class area keeps t objects = record {
+    is = λ r x h. of r x (ap (λ (xs : List Object). slice_get xs r) (sym objects) ∙ h) (cases_eq index r);
   }
     where
-      here : (r : ℕ) (x : Object) → slice_get (changed f place s.objects) r ≡ Some x → (found : Option Object) →
-          slice_get s.objects place ≡ found → place ≡ r → Later storage s e r x
+      here : (r : ℕ) (x : Object) → slice_get (changed f index s.objects) r ≡ Some x → (found : Option Object) →
+          slice_get s.objects index ≡ found → index ≡ r → Later storage s e r x
       here r x h None none one =
-          let whole : changed f place s.objects ≡ s.objects =
-          ap (λ (y : Option Object). elim y as (λ z. List Object) [ None ↦ s.objects | Some z ↦ slice_set s.objects place (f z) ])
+          let whole : changed f index s.objects ≡ s.objects =
+          ap (λ (y : Option Object). elim y as (λ z. List Object) [ None ↦ s.objects | Some z ↦ slice_set s.objects index (f z) ])
           none in
           Was x (ap (λ (ys : List Object). slice_get ys r) (sym whole) ∙ h) refl refl (λ k. k)
       here r x h (Some o) there one =
           let now : x ≡ f o =
           some_inj x (f o)
-          (sym h ∙ (ap (slice_get (changed f place s.objects)) (sym one) ∙ changed_at f place s.objects o there)) in
+          (sym h ∙ (ap (slice_get (changed f index s.objects)) (sym one) ∙ changed_at f index s.objects o there)) in
           Was o (ap (slice_get s.objects) (sym one) ∙ there) (ap (λ (y : Object). y.class) now ∙ class o)
           (ap (λ (y : Object). y.area) now ∙ area o)
           (λ k. subst (Tells storage) (sym now) (keeps o there k))
 
-      of : (r : ℕ) (x : Object) → slice_get (changed f place s.objects) r ≡ Some x →
-          (place ≡ r) ⊎ (place ≡ r → ⊥) → Later storage s e r x
-      of r x h (inl one) = here r x h (slice_get s.objects place) refl one
-      of r x h (inr n) = Was x (sym (changed_off f place s.objects r n) ∙ h) refl refl (λ k. k)
+      of : (r : ℕ) (x : Object) → slice_get (changed f index s.objects) r ≡ Some x →
+          (index ≡ r) ⊎ (index ≡ r → ⊥) → Later storage s e r x
+      of r x h (inl one) = here r x h (slice_get s.objects index) refl one
+      of r x h (inr n) = Was x (sym (changed_off f index s.objects r n) ∙ h) refl refl (λ k. k)
 
-  module _ (code : Code) (activity : Activity) (below : List Frame) (place : Pos) where
+  module _ (code : Code) (activity : Activity) (below : List Frame) (position : Pos) where
     framed : (t : State) → AllLater storage s e t → (f : Frame) →
         AllLater storage s e (with_frame t TheSequencer activity f below)
     unfolding with_activity
     framed t a f = like t (record t { activity = record activity { frames = f ∷ below } }) a refl
 
-    faults : (fault : RunFault) → AllLater storage s e (fault_in s TheSequencer activity place fault).state
+    faults : (fault : RunFault) → AllLater storage s e (fault_in s TheSequencer activity position fault).state
     unfolding fault_in
     faults fault = same _ refl
 
     made : (f : Frame) (class : ℕ) (slots : List Value) → e ≡ Makes f class slots →
-        AllLater storage s e (allocating s TheSequencer activity place class f.area slots (λ t r.
+        AllLater storage s e (allocating s TheSequencer activity position class f.area slots (λ t r.
         silently (with_frame t TheSequencer activity (record f { operands = At r ∷ f.operands }) below))).state
     unfolding allocating
     made f class slots q =
@@ -114,7 +114,7 @@ module _ (storage : Storage) (s : State) (e : Effect) where
         of r x (inl h) = Was x h refl refl (λ k. k)
         of r x (inr h) = New f class slots q h.0 (sym h.1)
 
-    call : (f g : Frame) → AllLater storage s e (called code s TheSequencer activity (f ∷ below) place g).state
+    call : (f g : Frame) → AllLater storage s e (called code s TheSequencer activity (f ∷ below) position g).state
     unfolding called with_activity
     call f g =
         step_if (AllLater storage s e) (is_full (f ∷ below)) _ _ (λ k. faults _)
@@ -123,7 +123,7 @@ module _ (storage : Storage) (s : State) (e : Effect) where
         (λ k. same _ refl)))
 
     entering : (f g : Frame) (scope bytes : ℕ) →
-        AllLater storage s e (opened_in s TheSequencer activity (f ∷ below) place g scope bytes).state
+        AllLater storage s e (opened_in s TheSequencer activity (f ∷ below) position g scope bytes).state
     unfolding opened_in opening with_activity
     entering f g scope bytes =
         step_if (AllLater storage s e) (is_some (area_with_scope s scope activity.areas)) _ _ (λ k. faults _)
@@ -160,7 +160,7 @@ module _ (storage : Storage) (s : State) (e : Effect) where
         of (g ∷ gs) = same _ (closed_same f.opened)
 
     register : (f : Frame) (r : ℕ) (x : Object) → AllLater storage s e
-        (registered code s TheSequencer activity place r x (with_frame s TheSequencer activity f below)).state
+        (registered code s TheSequencer activity position r x (with_frame s TheSequencer activity f below)).state
     unfolding registered with_activity
     register f r x =
         step_if (AllLater storage s e) (not (is_init s.phase)) _ _ (λ k. faults _)
@@ -207,7 +207,7 @@ module _ (storage : Storage) (s : State) (e : Effect) where
     pub hidden_tells : (f : Frame) (r : ℕ) (values : List Value) → ((o : Object) (n : ℕ) → object_at s r ≡ Some o →
         storage o.class ≡ Some n → slice_get values storage_slot ≡ Some (Int (pos n))) →
         StepGives (λ t. (x : Object) → object_at t r ≡ Some x → Tells storage x)
-        (applied code s TheSequencer activity below place (SetsHidden f r values))
+        (applied code s TheSequencer activity below position (SetsHidden f r values))
     unfolding applied with_activity
     hidden_tells f r values w = gives_some _ _ (λ x h. of x h (slice_get s.objects r) refl)
       where
@@ -226,7 +226,7 @@ module _ (storage : Storage) (s : State) (e : Effect) where
             })
 
     pub objects_later : (d : Effect) → e ≡ d → SparesStorage storage s d →
-        StepGives (AllLater storage s e) (applied code s TheSequencer activity below place d)
+        StepGives (AllLater storage s e) (applied code s TheSequencer activity below position d)
     unfolding applied
     objects_later (Goes f) q w = gives_some _ _ (framed s (same s refl) f)
     objects_later (Prints f label value) q w = gives_some _ _ (framed s (same s refl) f)

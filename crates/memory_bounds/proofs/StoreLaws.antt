@@ -60,13 +60,13 @@ module _ (forest : Forest) (a : IsAcceptedProgram forest) (rows : List BoundRow)
   code = code_of forest
 
   module _ (plan : Plan) (suffices : store_needed (code_of forest).program rooms ≤ plan.store) (s : State)
-      (reached : Reached (code_of forest) plan by_priority Arrived s) (exec : is_exec s.phase ≡ true) (place : ℕ)
-      (turn : by_priority s ≡ Some (TurnOf place)) where
+      (reached : Reached (code_of forest) plan by_priority Arrived s) (exec : is_exec s.phase ≡ true) (index : ℕ)
+      (turn : by_priority s ≡ Some (TurnOf index)) where
     abbrev r : Release
-    r = (k forest a rows are all rooms are_rooms plan s reached exec place turn).release
+    r = (k forest a rows are all rooms are_rooms plan s reached exec index turn).release
 
-    there : slice_get s.releases place ≡ Some r
-    there = (k forest a rows are all rooms are_rooms plan s reached exec place turn).is_there
+    there : slice_get s.releases index ≡ Some r
+    there = (k forest a rows are all rooms are_rooms plan s reached exec index turn).is_there
 
     held : Jobs (All (code_of forest)) s
     held =
@@ -77,7 +77,7 @@ module _ (forest : Forest) (a : IsAcceptedProgram forest) (rows : List BoundRow)
     -- ---- an operation
 
     module _ (b : Activity) (status : r.status ≡ Started b) where
-      active : activity_of s (ReleaseAt place) ≡ Some b
+      active : activity_of s (ReleaseAt index) ≡ Some b
       unfolding activity_of activity_in
       active = ap (λ (o : Option Release). o >>= (λ x. activity_in x.status)) there ∙ ap activity_in status
 
@@ -87,11 +87,11 @@ module _ (forest : Forest) (a : IsAcceptedProgram forest) (rows : List BoundRow)
       linked f below frames op rest next =
           links (code_of forest) (facts forest a rows are all rooms are_rooms plan s reached exec).bodies
           (behind_children forest a.whole) plan.readings s (i forest a rows are all rooms are_rooms plan s reached exec) held
-          place r b f below op rest (record { there = there; status = status; frames = frames; ops = next })
+          index r b f below op rest (record { there = there; status = status; frames = frames; ops = next })
 
       room : (f : Frame) (below : List Frame) → b.frames ≡ f ∷ below → (op : Op) (rest : List Op) →
           f.rest ≡ op ∷ rest →
-          HasRoom is_store_full only_store_full (code_of forest) s place b below (place_of_op (code_of forest) op)
+          HasRoom is_store_full only_store_full (code_of forest) s index b below (place_of_op (code_of forest) op)
           (effect_at (code_of forest) plan.readings s f op rest)
       unfolding is_store_full
       room f below frames op rest next =
@@ -99,7 +99,7 @@ module _ (forest : Forest) (a : IsAcceptedProgram forest) (rows : List BoundRow)
           record {
             makes = λ h class values q. inl refl;
             opens = λ h g scope bytes q. inr
-                (entering_has_store forest a rows are all rooms are_rooms plan s reached exec suffices place b f below active
+                (entering_has_store forest a rows are all rooms are_rooms plan s reached exec suffices index b f below active
                 frames bytes g.body (subst (EffectLinks (code_of forest) f) q l.links).1);
             full = l.full;
           }
@@ -108,12 +108,12 @@ module _ (forest : Forest) (a : IsAcceptedProgram forest) (rows : List BoundRow)
         by_ops : (f : Frame) (below : List Frame) → b.frames ≡ f ∷ below → (ops : List Op) → f.rest ≡ ops →
             (elim ops as (λ z. Option Step) [
               | [] ↦ None
-              | op ∷ rest ↦ applied (code_of forest) s (ReleaseAt place) b below (place_of_op (code_of forest) op)
+              | op ∷ rest ↦ applied (code_of forest) s (ReleaseAt index) b below (place_of_op (code_of forest) op)
                   (effect_at (code_of forest) plan.readings s f op rest)
             ]) ≡ Some step → TellsNone is_store_full only_store_full step
         by_ops f below frames [] next q = absurd (cc (q))
         by_ops f below frames (op ∷ rest) next q =
-            applied_none is_store_full only_store_full (code_of forest) s place b below (place_of_op (code_of forest) op)
+            applied_none is_store_full only_store_full (code_of forest) s index b below (place_of_op (code_of forest) op)
             (effect_at (code_of forest) plan.readings s f op rest) (room f below frames op rest next) step q
 
         by_frames : (fs : List Frame) → b.frames ≡ fs →
@@ -121,14 +121,14 @@ module _ (forest : Forest) (a : IsAcceptedProgram forest) (rows : List BoundRow)
               | [] ↦ None
               | f ∷ below ↦ elim f.rest [
                 | [] ↦ None
-                | op ∷ rest ↦ applied (code_of forest) s (ReleaseAt place) b below (place_of_op (code_of forest) op)
+                | op ∷ rest ↦ applied (code_of forest) s (ReleaseAt index) b below (place_of_op (code_of forest) op)
                     (effect_at (code_of forest) plan.readings s f op rest)
               ]
             ]) ≡ Some step → TellsNone is_store_full only_store_full step
         by_frames [] frames q = absurd (cc (q))
         by_frames (f ∷ below) frames q = by_ops f below frames f.rest refl q
 
-        operated_tells : frame_op (code_of forest) plan.readings s (ReleaseAt place) b ≡ Some step →
+        operated_tells : frame_op (code_of forest) plan.readings s (ReleaseAt index) b ≡ Some step →
             TellsNone is_store_full only_store_full step
         unfolding frame_op
         operated_tells e = by_frames b.frames refl e
@@ -136,8 +136,8 @@ module _ (forest : Forest) (a : IsAcceptedProgram forest) (rows : List BoundRow)
     -- ---- a start
 
     by_status : (status : ReleaseStatus) → r.status ≡ status → NoneTold (elim status as (λ z. Option Step) [
-      | Waits ↦ start_op (code_of forest) s place r
-      | Started activity ↦ frame_op (code_of forest) plan.readings s (ReleaseAt place) activity
+      | Waits ↦ start_op (code_of forest) s index r
+      | Started activity ↦ frame_op (code_of forest) plan.readings s (ReleaseAt index) activity
       | Ended ↦ None
       | Dropped ↦ None
     ])
@@ -148,23 +148,23 @@ module _ (forest : Forest) (a : IsAcceptedProgram forest) (rows : List BoundRow)
         none_of (body_named (code_of forest).program x.class (codes "handleAsyncEvent")) _ (λ body is_body. record {
           is = λ step told.
               subst (TellsNone is_store_full only_store_full)
-              (some_inj (started_with (code_of forest) s place x scope body) step told)
-              (started_none is_store_full only_store_full (code_of forest) s place no_activity [] nowhere x scope body
-              (inr (starting_has_store forest a rows are all rooms are_rooms plan s reached exec place turn x e is_row
+              (some_inj (started_with (code_of forest) s index x scope body) step told)
+              (started_none is_store_full only_store_full (code_of forest) s index no_activity [] nowhere x scope body
+              (inr (starting_has_store forest a rows are all rooms are_rooms plan s reached exec index turn x e is_row
               suffices)));
         })))
     by_status (Started b) e = record { is = λ step told. operated_tells b e step told }
     by_status Ended e = record { is = λ step told. absurd (cc (told)) }
     by_status Dropped e = record { is = λ step told. absurd (cc (told)) }
 
-    tells_none : (step : Step) → ref_op (code_of forest) plan.readings s (ReleaseAt place) ≡ Some step →
+    tells_none : (step : Step) → ref_op (code_of forest) plan.readings s (ReleaseAt index) ≡ Some step →
         TellsNone is_store_full only_store_full step
     unfolding ref_op release_op_of
     tells_none step e =
         (by_status r.status refl).is step
-        (sym (ap (λ (o : Option Release). o >>= release_op_of (code_of forest) plan.readings s place) there) ∙ e)
+        (sym (ap (λ (o : Option Release). o >>= release_op_of (code_of forest) plan.readings s index) there) ∙ e)
 
-    pub never_full : (step : Step) → ref_op (code_of forest) plan.readings s (ReleaseAt place) ≡ Some step →
+    pub never_full : (step : Step) → ref_op (code_of forest) plan.readings s (ReleaseAt index) ≡ Some step →
         (unit : ℕ) (pos : Pos) → Contains step.events (Fault unit StoreFull pos) → ⊥
     unfolding is_store_full
     never_full step e = never_told is_store_full only_store_full step (tells_none step e) StoreFull refl
@@ -173,9 +173,9 @@ module _ (forest : Forest) (a : IsAcceptedProgram forest) (rows : List BoundRow)
 
 pub never_lacks : (forest : Forest) → IsAcceptedProgram forest → (rows : List BoundRow) → AreRows (code_of forest) rows →
     (bytes : ℕ) → TellsStore (code_of forest) rows (Some bytes) → NeverLacksStore (code_of forest) bytes
-never_lacks forest a rows are bytes told plan s place step large reached exec turn e =
+never_lacks forest a rows are bytes told plan s index step large reached exec turn e =
     never_full forest a rows are told.0 told.1.rooms told.1.are_rooms plan
-    (subst (λ n. n ≤ plan.store) told.1.is large) s reached exec place turn step e
+    (subst (λ n. n ≤ plan.store) told.1.is large) s reached exec index turn step e
 
 pub need_suffices : (forest : Forest) → IsAcceptedProgram forest → (rows : List BoundRow) →
     AreRows (code_of forest) rows → (need : Option ℕ) → TellsStore (code_of forest) rows need →

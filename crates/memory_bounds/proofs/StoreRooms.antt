@@ -93,15 +93,15 @@ yes_of (Yes bytes) e = (bytes, refl)
 yes_of (No cause at) e = absurd (cc (e))
 
 turn_of : Option ℕ → Turn
-turn_of o = elim o as (λ z. Turn) [ None ↦ IdleTurn | Some place ↦ TurnOf place ]
+turn_of o = elim o as (λ z. Turn) [ None ↦ IdleTurn | Some index ↦ TurnOf index ]
 
-chosen_of : (s : State) (place : ℕ) → by_priority s ≡ Some (TurnOf place) → chosen s ≡ Some place
+chosen_of : (s : State) (index : ℕ) → by_priority s ≡ Some (TurnOf index) → chosen s ≡ Some index
 unfolding by_priority turn_of
-chosen_of s place e = of (chosen s) (some_inj (turn_of (chosen s)) (TurnOf place) e)
+chosen_of s index e = of (chosen s) (some_inj (turn_of (chosen s)) (TurnOf index) e)
   where
-    of : (o : Option ℕ) → turn_of o ≡ TurnOf place → o ≡ Some place
+    of : (o : Option ℕ) → turn_of o ≡ TurnOf index → o ≡ Some index
     of None k = absurd (cc (k))
-    of (Some q) k = (let same : q ≡ place = cc (k) in ap (λ n. Some n) same)
+    of (Some q) k = (let same : q ≡ index = cc (k) in ap (λ n. Some n) same)
 
 module _ (forest : Forest) (a : IsAcceptedProgram forest) (rows : List BoundRow) (are : AreRows (code_of forest) rows)
     (all : AllSuffice rows) (rooms : ℕ → ℕ)
@@ -184,9 +184,9 @@ module _ (forest : Forest) (a : IsAcceptedProgram forest) (rows : List BoundRow)
         let most = one_of_highest (release_bytes p rooms) (handler_classes p) row.class (is_listed p row.class k) in
         omega (arith, bytes, most))
 
-    record Underway (place : ℕ) (b : Activity) : Type 0 where
+    record Underway (index : ℕ) (b : Activity) : Type 0 where
       r : Release
-      there : slice_get s.releases place ≡ Some r
+      there : slice_get s.releases index ≡ Some r
       active : activity_in r.status ≡ Some b
       row : HandlerRow
       is_row : handler_row s.registry r.handler ≡ Some row
@@ -198,16 +198,16 @@ module _ (forest : Forest) (a : IsAcceptedProgram forest) (rows : List BoundRow)
     started_is (Started c) b e = refl
     started_is _ b e = absurd (cc (e))
 
-    underway : (place : ℕ) (b : Activity) → activity_of s (ReleaseAt place) ≡ Some b → Underway place b
+    underway : (index : ℕ) (b : Activity) → activity_of s (ReleaseAt index) ≡ Some b → Underway index b
     unfolding activity_of started_at started_in
-    underway place b e = of (slice_get s.releases place) refl e
+    underway index b e = of (slice_get s.releases index) refl e
       where
-        of : (o : Option Release) → slice_get s.releases place ≡ o → o >>= (λ r. activity_in r.status) ≡ Some b →
-            Underway place b
+        of : (o : Option Release) → slice_get s.releases index ≡ o → o >>= (λ r. activity_in r.status) ≡ Some b →
+            Underway index b
         of None there k = absurd (cc (k))
         of (Some r) there k =
-            (let h = i.handlers.handled place r there (started_is r.status b k) in
-            let began : started_at s.releases place ≡ Some (started_as r.handler b) =
+            (let h = i.handlers.handled index r there (started_is r.status b k) in
+            let began : started_at s.releases index ≡ Some (started_as r.handler b) =
             ap (λ (o : Option Release). o >>= started_in) there
             ∙ ap (λ (o : Option Activity). elim o as (λ z. Option StartedRelease) [
               | None ↦ None
@@ -219,16 +219,16 @@ module _ (forest : Forest) (a : IsAcceptedProgram forest) (rows : List BoundRow)
               active = k;
               row = h.0;
               is_row = h.1;
-              chain = chains.is place (started_as r.handler b) h.0 began h.1;
+              chain = chains.is index (started_as r.handler b) h.0 began h.1;
             })
 
     handler_is : (h : ℕ) (row : HandlerRow) → handler_row s.registry h ≡ Some row → IsConcreteHandler p row.class
     handler_is h row there = row_is_handler forest a plan listed.0 s listed.1 h row there
 
-    all_fits : (place : ℕ) (b : Activity) → activity_of s (ReleaseAt place) ≡ Some b →
+    all_fits : (index : ℕ) (b : Activity) → activity_of s (ReleaseAt index) ≡ Some b →
         total (area_bytes s) (opened_by b.frames) ≤ each
-    all_fits place b e =
-        (let u = underway place b e in
+    all_fits index b e =
+        (let u = underway index b e in
         let k = handler_is u.r.handler u.row u.is_row in
         let y = class_yes u.row.class k in
         let fit = all_fit (code_of forest) (first forest a) u.row.class y.answer.table y.none s u.row refl
@@ -259,12 +259,12 @@ module _ (forest : Forest) (a : IsAcceptedProgram forest) (rows : List BoundRow)
         omega (arith, m, same, h, e))
 
     -- a release under way that enters a memory
-    pub entering_has_store : store_needed p rooms ≤ plan.store → (place : ℕ) (b : Activity) (f : Frame) (below : List Frame) →
-        activity_of s (ReleaseAt place) ≡ Some b → b.frames ≡ f ∷ below → (bytes : ℕ) (target : Body) →
+    pub entering_has_store : store_needed p rooms ≤ plan.store → (index : ℕ) (b : Activity) (f : Frame) (below : List Frame) →
+        activity_of s (ReleaseAt index) ≡ Some b → b.frames ≡ f ∷ below → (bytes : ℕ) (target : Body) →
         EntersIn (code_of forest) f.body target bytes → has_store_for s bytes ≡ true
     unfolding has_store_for
-    entering_has_store suffices place b f below e frames bytes target enters =
-        (let u = underway place b e in
+    entering_has_store suffices index b f below e frames bytes target enters =
+        (let u = underway index b e in
         let k = handler_is u.r.handler u.row u.is_row in
         let y = class_yes u.row.class k in
         let chain : Chain (code_of forest) s u.row (f ∷ below) = subst (Chain (code_of forest) s u.row) frames u.chain in
@@ -279,7 +279,7 @@ module _ (forest : Forest) (a : IsAcceptedProgram forest) (rows : List BoundRow)
         ap (λ (fs : List Frame). total (area_bytes s) (opened_by fs)) frames in
         let fits : total (area_bytes s) (opened_by b.frames) + rounded_up bytes ≤ each =
         omega (arith, same, held, more, most) in
-        let all_reserved = reserved_with s each (rounded_up bytes) order.opened place u.r b u.there u.active fits
+        let all_reserved = reserved_with s each (rounded_up bytes) order.opened index u.r b u.there u.active fits
         (λ q x c there is. all_fits q c (active_of s.releases s refl q x c there is)) in
         let base = base_fits forest a plan.store s i has exec in
         let le : reserved s + rounded_up bytes ≤ plan.store =
@@ -289,20 +289,20 @@ module _ (forest : Forest) (a : IsAcceptedProgram forest) (rows : List BoundRow)
 
     -- ---- a release that starts: as if it had started without a frame
 
-    pub k : (place : ℕ) → by_priority s ≡ Some (TurnOf place) → IsChosen s place
-    k place turn = is_chosen s place (chosen_of s place turn)
+    pub k : (index : ℕ) → by_priority s ≡ Some (TurnOf index) → IsChosen s index
+    k index turn = is_chosen s index (chosen_of s index turn)
 
-    module _ (place : ℕ) (turn : by_priority s ≡ Some (TurnOf place)) (row : HandlerRow) where
+    module _ (index : ℕ) (turn : by_priority s ≡ Some (TurnOf index)) (row : HandlerRow) where
       abbrev without_frames : Activity
       without_frames = record { frames = []; areas = []; priority = row.priority }
 
       abbrev t : State
-      t = with_activity s (ReleaseAt place) without_frames
+      t = with_activity s (ReleaseAt index) without_frames
 
-      module _ (waits : (k place turn).release.status ≡ Waits) (is_row : handler_row s.registry (k place turn).release.handler ≡ Some row) where
-        moves : ReleaseMoves (code_of forest) (Unit {0}) s place (k place turn).release.handler row.priority [] t
+      module _ (waits : (k index turn).release.status ≡ Waits) (is_row : handler_row s.registry (k index turn).release.handler ≡ Some row) where
+        moves : ReleaseMoves (code_of forest) (Unit {0}) s index (k index turn).release.handler row.priority [] t
         moves =
-            moves_on (code_of forest) (Unit {0}) s place (k place turn).release (k place turn).is_there row.priority [] s
+            moves_on (code_of forest) (Unit {0}) s index (k index turn).release (k index turn).is_there row.priority [] s
             (record {
               phase = refl;
               activity = refl;
@@ -316,8 +316,8 @@ module _ (forest : Forest) (a : IsAcceptedProgram forest) (rows : List BoundRow)
 
         order_then : IsInOrder t
         order_then =
-            order_kept (code_of forest) (Unit {0}) s t place (k place turn).release.handler row.priority [] order exec
-            (latest_waits s order place (k place turn) row waits is_row) moves
+            order_kept (code_of forest) (Unit {0}) s t index (k index turn).release.handler row.priority [] order exec
+            (latest_waits s order index (k index turn) row waits is_row) moves
 
         right : PrioritiesAreRight (code_of forest) s
         right =
@@ -336,19 +336,19 @@ module _ (forest : Forest) (a : IsAcceptedProgram forest) (rows : List BoundRow)
             total (area_bytes t) (opened_by b.frames) ≤ each
         unfolding with_activity
         fits_then q b e =
-            elim (jobs_with_activity s (ReleaseAt place) without_frames (ReleaseAt q) b e) as
+            elim (jobs_with_activity s (ReleaseAt index) without_frames (ReleaseAt q) b e) as
             (λ z. total (area_bytes t) (opened_by b.frames) ≤ each) [
               | inl same ↦ subst (λ (x : Activity). total (area_bytes t) (opened_by x.frames) ≤ each) same (omega arith)
               | inr was ↦ all_fits q b was
             ]
 
         begun : Release
-        begun = record (k place turn).release { status = Started without_frames }
+        begun = record (k index turn).release { status = Started without_frames }
 
-        there_then : slice_get t.releases place ≡ Some begun
+        there_then : slice_get t.releases index ≡ Some begun
         unfolding with_activity begun
         there_then =
-            changed_at (λ (r : Release). record r { status = Started without_frames }) place s.releases (k place turn).release (k place turn).is_there
+            changed_at (λ (r : Release). record r { status = Started without_frames }) index s.releases (k index turn).release (k index turn).is_there
 
         active_then : activity_in begun.status ≡ Some without_frames
         unfolding begun activity_in
@@ -357,10 +357,10 @@ module _ (forest : Forest) (a : IsAcceptedProgram forest) (rows : List BoundRow)
         starting_reserved : reserved s + rounded_up row.bytes ≤ (immortal_bytes p + mission_bytes p) + each * started_count t
         unfolding with_activity reserved
         starting_reserved =
-            (let most = fits_class (k place turn).release.handler row is_row in
+            (let most = fits_class (k index turn).release.handler row is_row in
             let fits : total (area_bytes t) (opened_by without_frames.frames) + rounded_up row.bytes ≤ each =
             omega (arith, most) in
-            let all_reserved = reserved_with t each (rounded_up row.bytes) order_then.opened place begun without_frames
+            let all_reserved = reserved_with t each (rounded_up row.bytes) order_then.opened index begun without_frames
             there_then active_then fits (λ q x c there is. fits_then q c (active_of t.releases t refl q x c there is)) in
             let base = base_fits forest a plan.store s i has exec in
             omega (arith, all_reserved, base))

@@ -87,7 +87,7 @@ pub record IsHarmless (code : Code) (t u : Table) (id : ℕ) (node : Node) : Typ
   pub fits : (n : ℕ) → size_entered code id node ≡ Some n → (b : Body) → Contains (targets_entered code id node) b →
       t b ≤ n
   -- no private memory is entered without a size
-  pub sized : (place : Pos) (name : List ℕ) (object : Option ℕ) (x : Target) → node ≡ Call place name object [] →
+  pub sized : (position : Pos) (name : List ℕ) (object : Option ℕ) (x : Target) → node ≡ Call position name object [] →
       binding code id ≡ Builtin x → (x.id == managed_memory_enter_private_memory) ≡ true → ⊥
   -- nothing is put into the area of another object
   pub none : executes_in_area (binding code id) ≡ true → (b : Body) → Contains (targets_entered code id node) b → t b ≡ 0
@@ -165,35 +165,35 @@ module _ (code : Code) (t u : Table) (id : ℕ) where
 
 -- ---- a call, by what it is bound to
 
-record HasSize (place : Pos) (name : List ℕ) (object : Option ℕ) (arguments : List ℕ) (x : Target) : Type 0 where
+record HasSize (position : Pos) (name : List ℕ) (object : Option ℕ) (arguments : List ℕ) (x : Target) : Type 0 where
   size : ℕ
-  is : size_node (Call place name object arguments) ≡ Some size
-  asked : entered_with (Builtin x) (Call place name object arguments) ≡ Some size
+  is : size_node (Call position name object arguments) ≡ Some size
+  asked : entered_with (Builtin x) (Call position name object arguments) ≡ Some size
 
-has_size : (place : Pos) (name : List ℕ) (object : Option ℕ) (arguments : List ℕ) (x : Target) →
+has_size : (position : Pos) (name : List ℕ) (object : Option ℕ) (arguments : List ℕ) (x : Target) →
     (x.id == managed_memory_enter_private_memory) ≡ true → (arguments ≡ [] → ⊥) →
-    HasSize place name object arguments x
+    HasSize position name object arguments x
 unfolding size_node entered_with
-has_size place name object [] x p some = absurd (some refl)
-has_size place name object (a ∷ more) x p some = record { size = a; is = refl; asked = rw p refl }
+has_size position name object [] x p some = absurd (some refl)
+has_size position name object (a ∷ more) x p some = record { size = a; is = refl; asked = rw p refl }
 
 memory_is : (p : Declarations) (b : Binding) (x : Target) → b ≡ Builtin x → enters_memory x.id ≡ true →
     memory_targets p b ≡ entered_targets p b
 unfolding memory_targets
 memory_is p b x e q = rw (e, q) refl
 
-module _ (code : Code) (t u : Table) (id : ℕ) (place : Pos) (name : List ℕ) (object : Option ℕ) (arguments : List ℕ)
-    (k : IsHarmless code t u id (Call place name object arguments)) where
+module _ (code : Code) (t u : Table) (id : ℕ) (position : Pos) (name : List ℕ) (object : Option ℕ) (arguments : List ℕ)
+    (k : IsHarmless code t u id (Call position name object arguments)) where
   abbrev call : Node
-  call = Call place name object arguments
+  call = Call position name object arguments
 
   entered_le : (x : Target) → binding code id ≡ Builtin x → (x.id == managed_memory_enter_private_memory) ≡ true →
       entered_weight code t id ≡ 0
   unfolding number_asked targets_entered
   entered_le x e p =
       let m =
-      has_size place name object arguments x p
-      (λ none. k.sized place name object x (ap (λ xs. Call place name object xs) none) e p) in
+      has_size position name object arguments x p
+      (λ none. k.sized position name object x (ap (λ xs. Call position name object xs) none) e p) in
       let there : part code size_node id ≡ Some m.size =
       ap (λ (o : Option Node). elim o [ None ↦ None | Some y ↦ size_node y ]) k.is ∙ m.is in
       let w : entered_with (binding code id) call ≡ Some m.size =
@@ -253,19 +253,19 @@ module _ (code : Code) (t u : Table) (f g : ℕ → ℕ) (id : ℕ) where
       (is_loop node ≡ true → node_need code u g id node ≡ 0) →
       node_weight code t f id node ≤ node_need code u g id node
   unfolding node_weight node_need run_parts children own_bytes targets_here number_asked is_loop sum_of greatest length_node
-  node_le (If place condition then_part else_part) k h still =
+  node_le (If position condition then_part else_part) k h still =
       let a = h condition (0, omega arith, refl) in
       let b = h then_part (1, omega arith, refl) in
       let c = sum_le f g (optional else_part) (λ x m.
       h x (Contains-tail condition (then_part ∷ optional else_part) x (Contains-tail then_part (optional else_part) x m))) in
       omega (arith, a, b, c)
-  node_le (While place condition body) k h still =
+  node_le (While position condition body) k h still =
       let a = h condition (0, omega arith, refl) in
       let b = h body (1, omega arith, refl) in
       let s : (g condition + (g body + 0)) + (0 + 0) ≡ 0 = still refl in
       let z = loop_free code t u id (f condition + f body) (omega (arith, a, b, s)) in
       omega (arith, a, z)
-  node_le (For place begins condition step body) k h still =
+  node_le (For position begins condition step body) k h still =
       let y = h begins (0, omega arith, refl) in
       let a = h condition (1, omega arith, refl) in
       let d = h step (2, omega arith, refl) in
@@ -273,27 +273,27 @@ module _ (code : Code) (t u : Table) (f g : ℕ → ℕ) (id : ℕ) where
       let s : (g begins + (g condition + (g step + (g body + 0)))) + (0 + 0) ≡ 0 = still refl in
       let z = loop_free code t u id (f condition + (f step + f body)) (omega (arith, a, b, d, s)) in
       omega (arith, y, a, z)
-  node_le (New place name_place name xs) k h still =
+  node_le (New position name_place name xs) k h still =
       let a = sum_le f g xs h in
       let b = new_le code t u id (binding code id) k.here in
       omega (arith, a, b)
-  node_le (NewArray place element count) k h still =
+  node_le (NewArray position element count) k h still =
       let a = h count (1, omega arith, refl) in
       let n = k.number count refl in
       let e : part code length_node id ≡ Some count =
       ap (λ (o : Option Node). elim o [ None ↦ None | Some y ↦ length_node y ]) k.is in
       let b = array_le code t u id count e n.0 n.1 in
       omega (arith, a, b)
-  node_le (Call place name object xs) k h still =
+  node_le (Call position name object xs) k h still =
       let a = sum_le f g (optional object ++ xs) h in
-      let b = called code t u id place name object xs k (binding code id) refl in
+      let b = called code t u id position name object xs k (binding code id) refl in
       let c = sum_append f (optional object) xs in
       omega (arith, a, b, c)
-  node_le (SuperCall place xs) k h still =
+  node_le (SuperCall position xs) k h still =
       let a = sum_le f g xs h in
       let b = super_le code t u id (binding code id) k.here in
       omega (arith, a, b)
-  node_le (MethodNode place name flags result_type parameters body) k h still =
+  node_le (MethodNode position name flags result_type parameters body) k h still =
       let inner : List ℕ = optional parameters ++ optional body in
       let a = sum_le f g (optional body) (λ x m.
       h x (Contains-append_right (optional flags) (result_type ∷ inner) x
@@ -301,14 +301,14 @@ module _ (code : Code) (t u : Table) (f g : ℕ → ℕ) (id : ℕ) where
       let b = last_of g (optional flags) (result_type ∷ inner) in
       let c = last_of g (optional parameters) (optional body) in
       omega (arith, a, b, c)
-  node_le (Constructor place name flags parameters None body) k h still =
+  node_le (Constructor position name flags parameters None body) k h still =
       let a = h body (Contains-append_right (optional flags) (optional parameters ++ (body ∷ [])) body
       (Contains-append_right (optional parameters) (body ∷ []) body (0, omega arith, refl))) in
       let b = last_of g (optional flags) (optional parameters ++ (body ∷ [])) in
       let c = last_of g (optional parameters) (body ∷ []) in
       let d = unwritten_le code t u id id k.here in
       omega (arith, a, b, c, d)
-  node_le (Constructor place name flags parameters (Some call) body) k h still =
+  node_le (Constructor position name flags parameters (Some call) body) k h still =
       let inner : List ℕ = optional parameters ++ (call ∷ body ∷ []) in
       let a = h body (Contains-append_right (optional flags) inner body
       (Contains-append_right (optional parameters) (call ∷ body ∷ []) body (1, omega arith, refl))) in
@@ -317,10 +317,10 @@ module _ (code : Code) (t u : Table) (f g : ℕ → ℕ) (id : ℕ) where
       let b = last_of g (optional flags) inner in
       let c = last_of g (optional parameters) (call ∷ body ∷ []) in
       omega (arith, a, e, b, c)
-  node_le (Class place name flags header members) k h still =
+  node_le (Class position name flags header members) k h still =
       let d = unwritten_le code t u id id k.here in omega (arith, d)
-  node_le (LocalNode place name flags declared_type) k h still = omega arith
-  node_le (LocalWithValue place name_place name flags declared_type value) k h still =
+  node_le (LocalNode position name flags declared_type) k h still = omega arith
+  node_le (LocalWithValue position name_place name flags declared_type value) k h still =
       let a = h value (Contains-append_right (optional flags) (declared_type ∷ value ∷ []) value (1, omega arith, refl)) in
       let b = last_of g (optional flags) (declared_type ∷ value ∷ []) in
       omega (arith, a, b)
@@ -334,8 +334,8 @@ pub record IsPlain (code : Code) : Type 0 where
   -- a number is smaller than what no memory has
   pub small : (id n : ℕ) → read code.program.nodes number_literal id ≡ Some n → n < too_much
   -- no private memory is entered without a size
-  pub sized : (id : ℕ) (place : Pos) (name : List ℕ) (object : Option ℕ) (x : Target) →
-      slice_get code.program.nodes id ≡ Some (Call place name object []) → binding code id ≡ Builtin x →
+  pub sized : (id : ℕ) (position : Pos) (name : List ℕ) (object : Option ℕ) (x : Target) →
+      slice_get code.program.nodes id ≡ Some (Call position name object []) → binding code id ≡ Builtin x →
       (x.id == managed_memory_enter_private_memory) ≡ true → ⊥
 
 -- a set with what the class reaches, and of the nodes of the program with nothing else
@@ -380,8 +380,8 @@ module _ (code : Code) (plain : IsPlain code) (class : ℕ) (table : Table) (rea
       number = λ m asked. numbers m asked (read code.program.nodes number_literal m) refl;
       fits = λ n written b c. fit n written b c (nat_lt n (table b)) refl;
       none = λ executes b c. empty executes b c (nat_lt 0 (table b)) refl;
-      sized = λ place name object x same e p.
-          plain.sized id place name object x (is ∙ ap (λ (n : Node). Some n) same) e p;
+      sized = λ position name object x same e p.
+          plain.sized id position name object x (is ∙ ap (λ (n : Node). Some n) same) e p;
     }
       where
         rn : ReachesNode code class id node

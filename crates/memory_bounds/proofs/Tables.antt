@@ -118,37 +118,37 @@ module _ (code : Code) (t u : Table) (le : (body : Body) → t body ≤ u body) 
 
     node_le : (n : Node) → node_weight code t f id n ≤ node_weight code u g id n
     unfolding node_weight
-    node_le (If place condition then_part else_part) =
+    node_le (If position condition then_part else_part) =
         let a = sub condition in let b = sub then_part in let c = all_le (optional else_part) in omega (arith, a, b, c)
-    node_le (While place condition body) =
+    node_le (While position condition body) =
         let a = sub condition in
         let b = sub body in
         let c = loop_le (f condition + f body) (g condition + g body) (omega (arith, a, b)) in
         omega (arith, a, c)
-    node_le (For place begins condition step body) =
+    node_le (For position begins condition step body) =
         let z = sub begins in
         let a = sub condition in
         let b = sub body in
         let d = sub step in
         let c = loop_le (f condition + (f step + f body)) (g condition + (g step + g body)) (omega (arith, a, b, d)) in
         omega (arith, z, a, c)
-    node_le (New place name_place name xs) =
+    node_le (New position name_place name xs) =
         let a = all_le xs in let b = new_le (binding code id) in omega (arith, a, b)
-    node_le (NewArray place element count) = let a = sub count in omega (arith, a)
-    node_le (Call place name object xs) =
+    node_le (NewArray position element count) = let a = sub count in omega (arith, a)
+    node_le (Call position name object xs) =
         let a = all_le (optional object) in
         let b = all_le xs in
         let c = call_le id (binding code id) in
         omega (arith, a, b, c)
-    node_le (SuperCall place xs) = let a = all_le xs in let b = super_le (binding code id) in omega (arith, a, b)
-    node_le (MethodNode place name flags result_type parameters body) = all_le (optional body)
-    node_le (Constructor place name flags parameters None body) =
+    node_le (SuperCall position xs) = let a = all_le xs in let b = super_le (binding code id) in omega (arith, a, b)
+    node_le (MethodNode position name flags result_type parameters body) = all_le (optional body)
+    node_le (Constructor position name flags parameters None body) =
         let a = unwritten_le id in let b = sub body in omega (arith, a, b)
-    node_le (Constructor place name flags parameters (Some call) body) =
+    node_le (Constructor position name flags parameters (Some call) body) =
         let a = sub call in let b = sub body in omega (arith, a, b)
-    node_le (Class place name flags header members) = unwritten_le id
-    node_le (LocalNode place name flags declared_type) = omega arith
-    node_le (LocalWithValue place name_place name flags declared_type value) = sub value
+    node_le (Class position name flags header members) = unwritten_le id
+    node_le (LocalNode position name flags declared_type) = omega arith
+    node_le (LocalWithValue position name_place name flags declared_type value) = sub value
     node_le n = all_le (children n)
 
   weight_step : (id : ℕ) → ((x : ℕ) → x < id → weight code t x ≤ weight code u x) → weight code t id ≤ weight code u id

@@ -75,23 +75,23 @@ module _ (bad : RunFault → Bool) (only : (x : RunFault) → is_memory_fault x 
   of_none None tell h = refl
   of_none (Some r) tell h = h r
 
-  faulted : (s : State) (place : ℕ) (activity : Activity) (pos : Pos) (fault : RunFault) → bad fault ≡ false →
-      TellsNone (fault_in s (ReleaseAt place) activity pos fault)
+  faulted : (s : State) (index : ℕ) (activity : Activity) (pos : Pos) (fault : RunFault) → bad fault ≡ false →
+      TellsNone (fault_in s (ReleaseAt index) activity pos fault)
   unfolding fault_in fills
-  faulted s place activity pos fault h = record {
-    is = ap (λ b. b || list_any fills (of_release s (ReleaseAt place) (λ r. End s.unit r.handler r.number ∷ []))) h
-        ∙ of_none (slice_get s.releases place) (λ r. End s.unit r.handler r.number ∷ []) (λ r. refl);
+  faulted s index activity pos fault h = record {
+    is = ap (λ b. b || list_any fills (of_release s (ReleaseAt index) (λ r. End s.unit r.handler r.number ∷ []))) h
+        ∙ of_none (slice_get s.releases index) (λ r. End s.unit r.handler r.number ∷ []) (λ r. refl);
   }
 
-  priority_none : (s : State) (place before after : ℕ) →
-      list_any fills (tell_priority s (ReleaseAt place) before after) ≡ false
+  priority_none : (s : State) (index before after : ℕ) →
+      list_any fills (tell_priority s (ReleaseAt index) before after) ≡ false
   unfolding fills
-  priority_none s place before after = of (before == after)
+  priority_none s index before after = of (before == after)
     where
       of : (b : Bool) → list_any fills (if b then []
-          else of_release s (ReleaseAt place) (λ r. Prio s.unit r.handler after ∷ [])) ≡ false
+          else of_release s (ReleaseAt index) (λ r. Prio s.unit r.handler after ∷ [])) ≡ false
       of true = refl
-      of false = of_none (slice_get s.releases place) (λ r. Prio s.unit r.handler after ∷ []) (λ r. refl)
+      of false = of_none (slice_get s.releases index) (λ r. Prio s.unit r.handler after ∷ []) (λ r. refl)
 
   drops_none : (unit : ℕ) (rs : List Release) →
       list_any fills (map (λ (r : Release). Drop unit r.handler r.number) rs) ≡ false
@@ -100,47 +100,47 @@ module _ (bad : RunFault → Bool) (only : (x : RunFault) → is_memory_fault x 
   drops_none unit (r ∷ rs) = drops_none unit rs
 
   -- where a fault of this kind is none of those, or doesn't come
-  spared : (x : RunFault) (room : Bool) (s : State) (place : ℕ) (activity : Activity) (pos : Pos) →
-      (bad x ≡ false) ⊎ (room ≡ true) → room ≡ false → TellsNone (fault_in s (ReleaseAt place) activity pos x)
-  spared x room s place activity pos (inl none) e = faulted s place activity pos x none
-  spared x room s place activity pos (inr there) e = absurd (true≢false (sym there ∙ e))
+  spared : (x : RunFault) (room : Bool) (s : State) (index : ℕ) (activity : Activity) (pos : Pos) →
+      (bad x ≡ false) ⊎ (room ≡ true) → room ≡ false → TellsNone (fault_in s (ReleaseAt index) activity pos x)
+  spared x room s index activity pos (inl none) e = faulted s index activity pos x none
+  spared x room s index activity pos (inr there) e = absurd (true≢false (sym there ∙ e))
 
-  module _ (code : Code) (s : State) (place : ℕ) (activity : Activity) (below : List Frame) (pos : Pos) where
+  module _ (code : Code) (s : State) (index : ℕ) (activity : Activity) (below : List Frame) (pos : Pos) where
     abbrev job : Job
-    job = ReleaseAt place
+    job = ReleaseAt index
 
-    called_none : (frames : List Frame) (g : Frame) → TellsNone (called code s (ReleaseAt place) activity frames pos g)
+    called_none : (frames : List Frame) (g : Frame) → TellsNone (called code s (ReleaseAt index) activity frames pos g)
     unfolding called
     called_none frames g =
-        either (is_full frames) _ _ (λ e. faulted s place activity pos DepthFull (only DepthFull refl)) (λ e. by (ceiling_entered code s g))
+        either (is_full frames) _ _ (λ e. faulted s index activity pos DepthFull (only DepthFull refl)) (λ e. by (ceiling_entered code s g))
       where
         by : (o : Option ℕ) → TellsNone (elim o as (λ z. Step) [
-          | None ↦ silently (with_activity s (ReleaseAt place) (record activity { frames = g ∷ frames }))
+          | None ↦ silently (with_activity s (ReleaseAt index) (record activity { frames = g ∷ frames }))
           | Some ceiling ↦
-              if nat_lt ceiling activity.priority then fault_in s (ReleaseAt place) activity pos CeilingViolation
+              if nat_lt ceiling activity.priority then fault_in s (ReleaseAt index) activity pos CeilingViolation
               else telling
-              (with_activity s (ReleaseAt place) (record activity {
+              (with_activity s (ReleaseAt index) (record activity {
                 frames = record g { saved = Some activity.priority } ∷ frames;
                 priority = ceiling;
               }))
-              (tell_priority s (ReleaseAt place) activity.priority ceiling)
+              (tell_priority s (ReleaseAt index) activity.priority ceiling)
         ])
         by None = quiet _
         by (Some ceiling) =
-            either (nat_lt ceiling activity.priority) _ _ (λ e. faulted s place activity pos CeilingViolation (only CeilingViolation refl))
-            (λ e. record { is = priority_none s place activity.priority ceiling })
+            either (nat_lt ceiling activity.priority) _ _ (λ e. faulted s index activity pos CeilingViolation (only CeilingViolation refl))
+            (λ e. record { is = priority_none s index activity.priority ceiling })
 
     opened_none : (frames : List Frame) (g : Frame) (scope bytes : ℕ) →
         (bad StoreFull ≡ false) ⊎ (has_store_for s bytes ≡ true) →
-        TellsNone (opened_in s (ReleaseAt place) activity frames pos g scope bytes)
+        TellsNone (opened_in s (ReleaseAt index) activity frames pos g scope bytes)
     unfolding opened_in opening
     opened_none frames g scope bytes room =
-        either (is_some (area_with_scope s scope activity.areas)) _ _ (λ e. faulted s place activity pos ScopedCycle (only ScopedCycle refl))
-        (λ e. either (is_full frames) _ _ (λ e. faulted s place activity pos DepthFull (only DepthFull refl))
+        either (is_some (area_with_scope s scope activity.areas)) _ _ (λ e. faulted s index activity pos ScopedCycle (only ScopedCycle refl))
+        (λ e. either (is_full frames) _ _ (λ e. faulted s index activity pos DepthFull (only DepthFull refl))
         (λ e. either (has_store_for s bytes) _ _ (λ e. quiet _)
-        (λ e. spared StoreFull (has_store_for s bytes) s place activity pos room e)))
+        (λ e. spared StoreFull (has_store_for s bytes) s index activity pos room e)))
 
-    left_none : (f : Frame) (value : Option Value) → TellsNone (frame_left s (ReleaseAt place) activity f below value)
+    left_none : (f : Frame) (value : Option Value) → TellsNone (frame_left s (ReleaseAt index) activity f below value)
     unfolding frame_left job_ended fills
     left_none f value = of below
       where
@@ -159,27 +159,27 @@ module _ (bad : RunFault → Bool) (only : (x : RunFault) → is_memory_fault x 
 
         of : (fs : List Frame) → TellsNone
             (let second = elim fs as (λ z. Step) [
-              | [] ↦ job_ended t (ReleaseAt place) after value
-              | g ∷ gs ↦ silently (with_activity t (ReleaseAt place) after)
-            ] in telling second.state (tell_priority s (ReleaseAt place) activity.priority priority ++ second.events))
+              | [] ↦ job_ended t (ReleaseAt index) after value
+              | g ∷ gs ↦ silently (with_activity t (ReleaseAt index) after)
+            ] in telling second.state (tell_priority s (ReleaseAt index) activity.priority priority ++ second.events))
         of [] = record {
-          is = both_none (tell_priority s (ReleaseAt place) activity.priority priority) _
-              (priority_none s place activity.priority priority)
-              (of_none (slice_get t.releases place) (λ r. End t.unit r.handler r.number ∷ []) (λ r. refl));
+          is = both_none (tell_priority s (ReleaseAt index) activity.priority priority) _
+              (priority_none s index activity.priority priority)
+              (of_none (slice_get t.releases index) (λ r. End t.unit r.handler r.number ∷ []) (λ r. refl));
         }
         of (g ∷ gs) = record {
-          is = both_none (tell_priority s (ReleaseAt place) activity.priority priority) []
-              (priority_none s place activity.priority priority) refl;
+          is = both_none (tell_priority s (ReleaseAt index) activity.priority priority) []
+              (priority_none s index activity.priority priority) refl;
         }
 
     registered_none : (r : ℕ) (o : Object) (after : State) →
-        TellsNone (registered code s (ReleaseAt place) activity pos r o after)
+        TellsNone (registered code s (ReleaseAt index) activity pos r o after)
     unfolding registered fills
     registered_none r o after =
-        either (not (is_init s.phase)) _ _ (λ e. faulted s place activity pos NotInitializing (only NotInitializing refl))
+        either (not (is_init s.phase)) _ _ (λ e. faulted s index activity pos NotInitializing (only NotInitializing refl))
         (λ e. either (is_some (handler_number s.registry r)) _ _ (λ e. quiet after)
         (λ e. either (not (nat_lt (length s.registry) most_handlers)) _ _
-        (λ e. faulted s place activity pos TooManyHandlers (only TooManyHandlers refl)) (λ e. record { is = refl })))
+        (λ e. faulted s index activity pos TooManyHandlers (only TooManyHandlers refl)) (λ e. record { is = refl })))
 
   taken_none : (t : State) (handler : ℕ) → TellsNone (release_taken t handler)
   unfolding release_taken fills
@@ -205,7 +205,7 @@ module _ (bad : RunFault → Bool) (only : (x : RunFault) → is_memory_fault x 
 
   -- ---- each effect
 
-  module _ (code : Code) (s : State) (place : ℕ) (activity : Activity) (below : List Frame) (pos : Pos) where
+  module _ (code : Code) (s : State) (index : ℕ) (activity : Activity) (below : List Frame) (pos : Pos) where
     -- that a new object finds room and a new area store, as far as that is asked, and that the effect is no such fault of
     -- its own accord
     pub record HasRoom (e : Effect) : Type 0 where
@@ -219,42 +219,42 @@ module _ (bad : RunFault → Bool) (only : (x : RunFault) → is_memory_fault x 
     one x step n e = subst TellsNone (some_inj x step e) n
 
     pub applied_none : (e : Effect) → HasRoom e → (step : Step) →
-        applied code s (ReleaseAt place) activity below pos e ≡ Some step → TellsNone step
+        applied code s (ReleaseAt index) activity below pos e ≡ Some step → TellsNone step
     unfolding applied allocating fills
     applied_none (Goes h) r step q = one _ step (quiet _) q
     applied_none (Prints h label value) r step q = one _ step (record { is = refl }) q
     applied_none (Makes h class values) r step q =
         one _ step (either (has_room s h.area (length values)) _ _ (λ e. quiet _)
-        (λ e. spared MemoryFull (has_room s h.area (length values)) s place activity pos (r.makes h class values refl) e)) q
+        (λ e. spared MemoryFull (has_room s h.area (length values)) s index activity pos (r.makes h class values refl) e)) q
     applied_none (Stores h x slot v) r step q = one _ step (quiet _) q
     applied_none (StoresStatic h n v) r step q = one _ step (quiet _) q
     applied_none (SetsHidden h x values) r step q = one _ step (quiet _) q
-    applied_none (SetsCeiling h x ceiling) r step q = one _ step (faulted s place activity pos NotInitializing (only NotInitializing refl)) q
-    applied_none (Calls h g) r step q = one _ step (called_none code s place activity below pos (h ∷ below) g) q
+    applied_none (SetsCeiling h x ceiling) r step q = one _ step (faulted s index activity pos NotInitializing (only NotInitializing refl)) q
+    applied_none (Calls h g) r step q = one _ step (called_none code s index activity below pos (h ∷ below) g) q
     applied_none (Opens h g scope bytes) r step q =
-        one _ step (opened_none code s place activity below pos (h ∷ below) g scope bytes (r.opens h g scope bytes refl)) q
-    applied_none (Leaves h v) r step q = one _ step (left_none code s place activity below pos h v) q
+        one _ step (opened_none code s index activity below pos (h ∷ below) g scope bytes (r.opens h g scope bytes refl)) q
+    applied_none (Leaves h v) r step q = one _ step (left_none code s index activity below pos h v) q
     applied_none (AsksRelease h x) r step q =
-        one _ step (released_none (with_frame s (ReleaseAt place) activity h below) x) q
+        one _ step (released_none (with_frame s (ReleaseAt index) activity h below) x) q
     applied_none (AsksTermination h x) r step q =
-        one _ step (asked_none (with_frame s (ReleaseAt place) activity h below) x) q
-    applied_none (Faults fault) r step q = one _ step (faulted s place activity pos fault (only fault (r.full fault refl))) q
+        one _ step (asked_none (with_frame s (ReleaseAt index) activity h below) x) q
+    applied_none (Faults fault) r step q = one _ step (faulted s index activity pos fault (only fault (r.full fault refl))) q
     applied_none Stuck r step q = absurd (cc (q))
     applied_none (AsksRegistration h x) r step q = of (object_at s x) q
       where
         of : (o : Option Object) → (elim o as (λ z. Option Step) [
           | None ↦ None
-          | Some y ↦ Some (registered code s (ReleaseAt place) activity pos x y
-              (with_frame s (ReleaseAt place) activity h below))
+          | Some y ↦ Some (registered code s (ReleaseAt index) activity pos x y
+              (with_frame s (ReleaseAt index) activity h below))
         ]) ≡ Some step → TellsNone step
         of None q = absurd (cc (q))
         of (Some y) q =
-            one _ step (registered_none code s place activity below pos x y (with_frame s (ReleaseAt place) activity h below)) q
+            one _ step (registered_none code s index activity below pos x y (with_frame s (ReleaseAt index) activity h below)) q
 
     pub started_none : (row : HandlerRow) (scope : ℕ) (body : Body) →
         (bad StoreFull ≡ false) ⊎ (has_store_for s row.bytes ≡ true) →
-        TellsNone (started_with code s place row scope body)
+        TellsNone (started_with code s index row scope body)
     unfolding started_with opening
     started_none row scope body room =
         either (has_store_for s row.bytes) _ _ (λ e. quiet _)
-        (λ e. spared StoreFull (has_store_for s row.bytes) s place no_activity (class_place code.program row.class) room e)
+        (λ e. spared StoreFull (has_store_for s row.bytes) s index no_activity (class_place code.program row.class) room e)

@@ -54,21 +54,21 @@ small_next code table s f below op rest next before =
 
 module _ (code : Code) (storage : Storage) (table : Table) (bound : IsBound code table)
     (first : ChildrenFirst 0 code.program.nodes) (rows : List ReadingRow) (s : State) (i : Invariant code s)
-    (b : AreBounded code storage table s) (place : ℕ) (r : Release) (there : slice_get s.releases place ≡ Some r)
-    (a : Activity) (is : activity_of s (ReleaseAt place) ≡ Some a)
-    (began : started_at s.releases place ≡ Some (started_as r.handler a)) (f : Frame) (below : List Frame)
+    (b : AreBounded code storage table s) (index : ℕ) (r : Release) (there : slice_get s.releases index ≡ Some r)
+    (a : Activity) (is : activity_of s (ReleaseAt index) ≡ Some a)
+    (began : started_at s.releases index ≡ Some (started_as r.handler a)) (f : Frame) (below : List Frame)
     (frames : a.frames ≡ f ∷ below) (op : Op) (rest : List Op) (next : f.rest ≡ op ∷ rest)
     (puts : PutsInto s f.area (effect_at code rows s f op rest)) (situated : Situated s (effect_at code rows s f op rest))
     (counted : op_weight code table op < too_much → IsCounted code table op (effect_at code rows s f op rest)) (step : Step)
-    (does : applied code s (ReleaseAt place) a below (place_of_op code op) (effect_at code rows s f op rest) ≡ Some step)
-    (leaves : LeavesOthers s step.state place)
-    (same_handler : (w : StartedRelease) → started_at step.state.releases place ≡ Some w → w.handler ≡ r.handler) where
+    (does : applied code s (ReleaseAt index) a below (place_of_op code op) (effect_at code rows s f op rest) ≡ Some step)
+    (leaves : LeavesOthers s step.state index)
+    (same_handler : (w : StartedRelease) → started_at step.state.releases index ≡ Some w → w.handler ≡ r.handler) where
   row_before : (handler : ℕ) (row : HandlerRow) → handler_row step.state.registry handler ≡ Some row →
       handler_row s.registry handler ≡ Some row
   row_before handler row e =
       ap (λ (registry : List HandlerRow). handler_row registry handler) (sym leaves.registry) ∙ e
 
-  own : (w : StartedRelease) (row : HandlerRow) → started_at step.state.releases place ≡ Some w →
+  own : (w : StartedRelease) (row : HandlerRow) → started_at step.state.releases index ≡ Some w →
       handler_row step.state.registry w.handler ≡ Some row → IsYes code storage table row.class →
       IsBounded code table step.state w.activity.frames
   unfolding BoundedAfter
@@ -76,30 +76,30 @@ module _ (code : Code) (storage : Storage) (table : Table) (bound : IsBound code
       let mine : handler_row s.registry r.handler ≡ Some row =
       ap (handler_row s.registry) (sym (same_handler w e)) ∙ row_before w.handler row row_is in
       let before : IsBounded code table s (f ∷ below) =
-      subst (IsBounded code table s) frames (b.is place (started_as r.handler a) row began mine told) in
-      keeps code table bound first rows s place a is f below before op rest next (counted (small_next code table s f below op rest next before)) situated step does
-      w.activity (started_activity step.state place w e)
+      subst (IsBounded code table s) frames (b.is index (started_as r.handler a) row began mine told) in
+      keeps code table bound first rows s index a is f below before op rest next (counted (small_next code table s f below op rest next before)) situated step does
+      w.activity (started_activity step.state index w e)
 
-  other : (q : ℕ) → (place ≡ q → ⊥) → (w : StartedRelease) (row : HandlerRow) →
+  other : (q : ℕ) → (index ≡ q → ⊥) → (w : StartedRelease) (row : HandlerRow) →
       started_at step.state.releases q ≡ Some w → handler_row step.state.registry w.handler ≡ Some row →
       IsYes code storage table row.class → IsBounded code table step.state w.activity.frames
   other q differ w row e row_is told =
       let was : started_at s.releases q ≡ Some w = sym (leaves.others q differ) ∙ e in
-      other_stays code s i.base i.memories (ReleaseAt place) (ReleaseAt q) (λ same. differ (cc (same))) a w.activity is
+      other_stays code s i.base i.memories (ReleaseAt index) (ReleaseAt q) (λ same. differ (cc (same))) a w.activity is
       (started_activity s q w was) table f below frames step.state
-      (effect_spares code table s (ReleaseAt place) a (place_of_op code op) below f.area (effect_at code rows s f op rest)
+      (effect_spares code table s (ReleaseAt index) a (place_of_op code op) below f.area (effect_at code rows s f op rest)
       puts step does)
       (b.is q w row was (row_before w.handler row row_is) told)
 
   pub operation_keeps : AreBounded code storage table step.state
-  operation_keeps = record { is = λ q w row e row_is told. of q w row e row_is told (place == q) refl }
+  operation_keeps = record { is = λ q w row e row_is told. of q w row e row_is told (index == q) refl }
     where
       of : (q : ℕ) (w : StartedRelease) (row : HandlerRow) → started_at step.state.releases q ≡ Some w →
           handler_row step.state.registry w.handler ≡ Some row → IsYes code storage table row.class → (c : Bool) →
-          (place == q) ≡ c → IsBounded code table step.state w.activity.frames
+          (index == q) ≡ c → IsBounded code table step.state w.activity.frames
       of q w row e row_is told true p =
-          let same : place ≡ q = grind (arith, nat_tests) in
+          let same : index ≡ q = grind (arith, nat_tests) in
           own w row (ap (started_at step.state.releases) same ∙ e) row_is told
       of q w row e row_is told false p =
-          let differ : place ≡ q → ⊥ = grind (arith, nat_tests) in
+          let differ : index ≡ q → ⊥ = grind (arith, nat_tests) in
           other q differ w row e row_is told

@@ -81,33 +81,33 @@ module _ (u : ℕ) (o : Object) where
   dropped (suc n) (v ∷ vs) l = dropped n vs l.1
 
   -- objects of which one has changed
-  changed_lack : (f : Object → Object) (place : ℕ) (xs : List Object) →
+  changed_lack : (f : Object → Object) (index : ℕ) (xs : List Object) →
       ((r : ℕ) (x : Object) → slice_get xs r ≡ Some x → AllLack u x.slots) →
       ((x : Object) → AllLack u x.slots → AllLack u (f x).slots) →
-      (r : ℕ) (y : Object) → slice_get (changed f place xs) r ≡ Some y → AllLack u y.slots
-  changed_lack f place xs all keeps r y e = of (cases_eq place r)
+      (r : ℕ) (y : Object) → slice_get (changed f index xs) r ≡ Some y → AllLack u y.slots
+  changed_lack f index xs all keeps r y e = of (cases_eq index r)
     where
-      here : (found : Option Object) → slice_get xs place ≡ found → place ≡ r → AllLack u y.slots
+      here : (found : Option Object) → slice_get xs index ≡ found → index ≡ r → AllLack u y.slots
       here None none same =
-          let whole : changed f place xs ≡ xs =
-          ap (λ (x : Option Object). elim x as (λ z. List Object) [ None ↦ xs | Some z ↦ slice_set xs place (f z) ]) none in
+          let whole : changed f index xs ≡ xs =
+          ap (λ (x : Option Object). elim x as (λ z. List Object) [ None ↦ xs | Some z ↦ slice_set xs index (f z) ]) none in
           all r y (ap (λ (ys : List Object). slice_get ys r) (sym whole) ∙ e)
       here (Some x) there same =
           let now : Some y ≡ Some (f x) =
-          sym e ∙ (ap (slice_get (changed f place xs)) (sym same) ∙ changed_at f place xs x there) in
-          subst (λ (z : Object). AllLack u z.slots) (sym (some_inj y (f x) now)) (keeps x (all place x there))
+          sym e ∙ (ap (slice_get (changed f index xs)) (sym same) ∙ changed_at f index xs x there) in
+          subst (λ (z : Object). AllLack u z.slots) (sym (some_inj y (f x) now)) (keeps x (all index x there))
 
-      of : (place ≡ r) ⊎ (place ≡ r → ⊥) → AllLack u y.slots
-      of (inl same) = here (slice_get xs place) refl same
-      of (inr n) = all r y (sym (changed_off f place xs r n) ∙ e)
+      of : (index ≡ r) ⊎ (index ≡ r → ⊥) → AllLack u y.slots
+      of (inl same) = here (slice_get xs index) refl same
+      of (inr n) = all r y (sym (changed_off f index xs r n) ∙ e)
 
-  heap_changed : (s : State) (f : Object → Object) (place : ℕ) → Heap u o s → (place ≡ u → ⊥) →
+  heap_changed : (s : State) (f : Object → Object) (index : ℕ) → Heap u o s → (index ≡ u → ⊥) →
       ((x : Object) → AllLack u x.slots → AllLack u (f x).slots) →
-      Heap u o (record s { objects = changed f place s.objects })
-  heap_changed s f place h n keeps = record {
+      Heap u o (record s { objects = changed f index s.objects })
+  heap_changed s f index h n keeps = record {
     statics = h.statics;
-    objects = changed_lack f place s.objects h.objects keeps;
-    object = changed_off f place s.objects u n ∙ h.object;
+    objects = changed_lack f index s.objects h.objects keeps;
+    object = changed_off f index s.objects u n ∙ h.object;
     outcome = h.outcome;
     rows = h.rows;
   }
@@ -143,7 +143,7 @@ module _ (u : ℕ) (o : Object) where
     }
 
     module _ (code : Code) (s : State) (heap : Heap u o s) (held : Good s.activity.frames) (activity : Activity)
-        (place : Pos) where
+        (position : Pos) where
       with_frames : (t : State) → Heap u o t → (a : Activity) → Good a.frames →
           Clean u o Good (with_activity t TheSequencer a)
       unfolding with_activity
@@ -153,7 +153,7 @@ module _ (u : ℕ) (o : Object) where
           Clean u o Good (with_frame t TheSequencer activity f below)
       goes t h f l x = with_frames t h (record activity { frames = f ∷ below }) (one f l x)
 
-      faults : (fault : RunFault) → Clean u o Good (fault_in s TheSequencer activity place fault).state
+      faults : (fault : RunFault) → Clean u o Good (fault_in s TheSequencer activity position fault).state
       unfolding fault_in
       faults fault = record {
         heap = record {
@@ -168,7 +168,7 @@ module _ (u : ℕ) (o : Object) where
 
       made : (f : Frame) (class : ℕ) (slots : List Value) → Kept u under this 0 f → AllLack u slots →
           ((r : ℕ) → Stays (record f { operands = At r ∷ f.operands })) →
-          Clean u o Good (allocating s TheSequencer activity place class f.area slots (λ t r.
+          Clean u o Good (allocating s TheSequencer activity position class f.area slots (λ t r.
           silently (with_frame t TheSequencer activity (record f { operands = At r ∷ f.operands }) below))).state
       unfolding allocating
       made f class slots l a x =
@@ -200,7 +200,7 @@ module _ (u : ℕ) (o : Object) where
               past s.objects o (ap (slice_get s.objects) same ∙ heap.object)
 
       call : (f g : Frame) → Kept u under this 0 f → Lack u g → Waits f g.body →
-          Clean u o Good (called code s TheSequencer activity (f ∷ below) place g).state
+          Clean u o Good (called code s TheSequencer activity (f ∷ below) position g).state
       unfolding called
       call f g l m x =
           step_if (Clean u o Good) (is_full (f ∷ below)) _ _ (λ e. faults _)
@@ -211,7 +211,7 @@ module _ (u : ℕ) (o : Object) where
           (record { locals = m.locals; operands = m.operands; this = m.this }) l x))))
 
       entering : (f g : Frame) (scope bytes : ℕ) → Kept u under this 0 f → Lack u g → Waits f g.body →
-          Clean u o Good (opened_in s TheSequencer activity (f ∷ below) place g scope bytes).state
+          Clean u o Good (opened_in s TheSequencer activity (f ∷ below) position g scope bytes).state
       unfolding opened_in opening
       entering f g scope bytes l m x =
           step_if (Clean u o Good) (is_some (area_with_scope s scope activity.areas)) _ _ (λ e. faults _)
@@ -266,7 +266,7 @@ module _ (u : ℕ) (o : Object) where
       -- ---- what is asked of the framework
 
       register : (f : Frame) (r : ℕ) (x : Object) → Kept u under this 0 f → Stays f → (r ≡ u → ⊥) →
-          Clean u o Good (registered code s TheSequencer activity place r x (with_frame s TheSequencer activity f below)).state
+          Clean u o Good (registered code s TheSequencer activity position r x (with_frame s TheSequencer activity f below)).state
       unfolding registered
       register f r x l y n =
           step_if (Clean u o Good) (not (is_init s.phase)) _ _ (λ e. faults _)
@@ -310,7 +310,7 @@ module _ (u : ℕ) (o : Object) where
       -- ---- each effect that doesn't name the object
 
       pub stays_clean : (e : Effect) → Spares u under this e → Further Stays Waits Gives e →
-          StepGives (Clean u o Good) (applied code s TheSequencer activity below place e)
+          StepGives (Clean u o Good) (applied code s TheSequencer activity below position e)
       unfolding applied
       stays_clean (Goes f) w x = gives_some _ _ (goes s heap f w.is x.is)
       stays_clean (Prints f label value) w x = gives_some _ _ (goes s heap f w.is x.is)
@@ -390,7 +390,7 @@ module _ (u : ℕ) (top : Frame) (l : Lack u top) where
   -- an operation of a frame that doesn't name it, over frames that don't, over the tail
   module _ (Gives : Option Value → Type 0) (upper tail : List Frame) (others : AllBare u upper) (code : Code)
       (o : Object) (s : State) (heap : Heap u o s) (activity : Activity)
-      (now : Held u Gives (lowest_body top.body upper) tail s.activity.frames) (place : Pos) where
+      (now : Held u Gives (lowest_body top.body upper) tail s.activity.frames) (position : Pos) where
     abbrev Next : List Frame → Type 0
     Next frames = Held u Gives (lowest_body top.body upper) tail frames
 
@@ -422,14 +422,14 @@ module _ (u : ℕ) (top : Frame) (l : Lack u top) where
         Further (λ f. f.body ≡ top.body) (λ f b. f.body ≡ top.body) (λ v. upper ≡ [] → Gives v)
         (effect_of code world top op) →
         StepGives (Clean u o Next)
-        (applied code s TheSequencer activity (upper ++ tail) place (effect_of code world top op))
+        (applied code s TheSequencer activity (upper ++ tail) position (effect_of code world top op))
     upper_acts world objects statics op more =
         stays_clean u o [] top.this (upper ++ tail) Next
         (λ f. f.body ≡ top.body) (λ f b. f.body ≡ top.body) (λ v. upper ≡ [] → Gives v)
         (λ f k e. Upper f upper (bare f k) others (lowest_same f upper e) refl)
         (λ g f m k e. Upper g (f ∷ upper) m (bare f k, others) (lowest_same f upper e) refl)
         (λ value n g. given_back upper refl value n g)
-        code s heap now activity place (effect_of code world top op)
+        code s heap now activity position (effect_of code world top op)
         (operation_spares u [] top.this code top world objects statics op (λ x. l.this) (kept (pops code op))) more
 
 -- ---- the frame that holds it among its operands, under those that the operation takes
@@ -442,16 +442,16 @@ pub data Holds (u : ℕ) (under : List Value) (this : Option ℕ) (Stays : Frame
 
 module _ (u : ℕ) (under : List Value) (Stays : Frame → Type 0) (Waits : Frame → Body → Type 0) (code : Code)
     (o : Object) (s : State) (heap : Heap u o s) (activity : Activity) (top : Frame) (below : List Frame)
-    (now : Holds u under top.this Stays Waits below s.activity.frames) (place : Pos) where
+    (now : Holds u under top.this Stays Waits below s.activity.frames) (position : Pos) where
   -- the operation doesn't look at `this` where that is the object; the frame doesn't leave
   pub holder_acts : (world : Environment) →
       ((r : ℕ) (x : Object) → world.object_at r ≡ Some x → AllLack u x.slots) → AllLack u world.statics → (op : Op) →
       (UsesThis op → top.this ≡ Some u → ⊥) → Kept u under top.this (pops code op) top →
       Further Stays Waits (λ v. ⊥) (effect_of code world top op) →
       StepGives (Clean u o (Holds u under top.this Stays Waits below))
-      (applied code s TheSequencer activity below place (effect_of code world top op))
+      (applied code s TheSequencer activity below position (effect_of code world top op))
   holder_acts world objects statics op own k more =
       stays_clean u o under top.this below (Holds u under top.this Stays Waits below) Stays Waits (λ v. ⊥)
       (λ f m x. Top f m x refl) (λ g f n m x. Called g f n m x refl) (λ value n x. absurd x)
-      code s heap now activity place (effect_of code world top op)
+      code s heap now activity position (effect_of code world top op)
       (operation_spares u under top.this code top world objects statics op own k) more

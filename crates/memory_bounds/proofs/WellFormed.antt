@@ -39,8 +39,8 @@ use Rattle.memory_bounds.proofs.Suffices.{IsPlain}
 
 number_small : (node : Node) (n : ℕ) → HasInt node → number_literal node ≡ Some n → n < too_much
 unfolding number_literal HasInt
-number_small (Number place value true) n h e = absurd (cc (e))
-number_small (Number place value false) n h e = (let same = some_inj value n e in omega (arith, h, same))
+number_small (Number position value true) n h e = absurd (cc (e))
+number_small (Number position value false) n h e = (let same = some_inj value n e in omega (arith, h, same))
 number_small _ n h e = absurd (cc (e))
 
 module _ (forest : Forest) (a : IsAcceptedProgram forest) where
@@ -134,5 +134,5 @@ module _ (forest : Forest) (a : IsAcceptedProgram forest) where
   is_plain = record {
     first = first forest a;
     small = numbers;
-    sized = λ id place name object x there bound enters. no_bare_entry forest a id place name object x there enters bound;
+    sized = λ id position name object x there bound enters. no_bare_entry forest a id position name object x there enters bound;
   }

@@ -117,12 +117,12 @@ module _ (forest : Forest) (accepted : IsAccepted forest) (whole : IsForest fore
     pub without_object : StandWithoutObject (code_of forest) InSuper
     unfolding code_of declarations_of children is_super_call binding_of call_receiver
     without_object = record {
-      first = λ call x place arguments there among. in_super call x (SuperCall place arguments) there among;
+      first = λ call x position arguments there among. in_super call x (SuperCall position arguments) there among;
       down = λ id x node there among h. in_super id x node there among ∙ or_true (is_super_call node) h;
-      this = λ id place there h.
-          none id h (right_this p types id place (unbroken forest accepted whole sorted id (This place) there));
-      field = λ id k place name there bound h. of_field id k place name there bound h;
-      call = λ b c id place name arguments t there inside bound h. of_call b c id place name arguments t there inside bound h;
+      this = λ id position there h.
+          none id h (right_this p types id position (unbroken forest accepted whole sorted id (This position) there));
+      field = λ id k position name there bound h. of_field id k position name there bound h;
+      call = λ b c id position name arguments t there inside bound h. of_call b c id position name arguments t there inside bound h;
     }
       where
         or_true : (a : Bool) {b : Bool} → b ≡ true → (a || b) ≡ true
@@ -132,24 +132,24 @@ module _ (forest : Forest) (accepted : IsAccepted forest) (whole : IsForest fore
         none : (id : ℕ) → InSuper id → not (has_object p id) ≡ false → ⊥
         none id h e = true≢false (sym (lacks_one id h) ∙ e)
 
-        of_field : (id k : ℕ) (place : Pos) (name : List ℕ) → slice_get forest.nodes id ≡ Some (SimpleName place name) →
+        of_field : (id k : ℕ) (position : Pos) (name : List ℕ) → slice_get forest.nodes id ≡ Some (SimpleName position name) →
             binding_at_node p id ≡ InstanceField k → InSuper id → ⊥
-        of_field id k place name there bound h =
+        of_field id k position name there bound h =
             true≢false
             (sym (instance_field p id k (meaning p id name)
-            (sym (binding_is forest accepted whole sorted id (SimpleName place name) there) ∙ bound))
+            (sym (binding_is forest accepted whole sorted id (SimpleName position name) there) ∙ bound))
             ∙ both (is_instance_field (meaning p id name)) (not (has_object p id))
-            (right_name p types id place name
-            (unbroken forest accepted whole sorted id (SimpleName place name) there)).has_object (lacks_one id h))
+            (right_name p types id position name
+            (unbroken forest accepted whole sorted id (SimpleName position name) there)).has_object (lacks_one id h))
 
-        of_call : (b c id : ℕ) (place : Pos) (name arguments : List ℕ) (t : Target) →
-            slice_get forest.nodes id ≡ Some (Call place name None arguments) → Inside p b c id →
+        of_call : (b c id : ℕ) (position : Pos) (name arguments : List ℕ) (t : Target) →
+            slice_get forest.nodes id ≡ Some (Call position name None arguments) → Inside p b c id →
             binding_at_node p id ≡ Method t → InSuper id → ⊥
-        of_call b c id place name arguments t there inside bound h =
+        of_call b c id position name arguments t there inside bound h =
             of (called_method p (own_object c) name) refl
             (sym (ap (λ o. plain_or (λ r. plain_or (method_binding p types r arguments) (called_method p r name)) o)
             receiver)
-            ∙ (sym (binding_is forest accepted whole sorted id (Call place name None arguments) there) ∙ bound))
+            ∙ (sym (binding_is forest accepted whole sorted id (Call position name None arguments) there) ∙ bound))
           where
             receiver : call_receiver p types id None ≡ Some (own_object c)
             receiver = ap (option_map (λ class. own_object class)) inside.class
@@ -158,9 +158,9 @@ module _ (forest : Forest) (accepted : IsAccepted forest) (whole : IsForest fore
                 plain_or (method_binding p types (own_object c) arguments) o ≡ Method t → ⊥
             of None e k = cc (k)
             of (Some f) e k =
-                (let x = call_parts forest accepted whole sorted b c id place name None arguments there inside in
-                let w = right_call p types id place name None arguments
-                (unbroken forest accepted whole sorted id (Call place name None arguments) there) in
+                (let x = call_parts forest accepted whole sorted b c id position name None arguments there inside in
+                let w = right_call p types id position name None arguments
+                (unbroken forest accepted whole sorted id (Call position name None arguments) there) in
                 let rules = call_rules forest accepted whole sorted id name None arguments (own_object c) x.ts receiver x.typed
                 w in
                 none id h (called id c name f e (calls_plain p types (own_object c) arguments f t k) rules.has_method

@@ -47,8 +47,8 @@ module _ (code : Code) where
     where
       literal : (node : Node) → slice_get code.program.nodes x ≡ Some node → number_literal node ≡ Some n →
           left_by_node code (left_below code x) x node ≡ One (Exactly (Int (pos n)))
-      literal (Number place value true) there h = absurd (cc (h))
-      literal (Number place value false) there h =
+      literal (Number position value true) there h = absurd (cc (h))
+      literal (Number position value false) there h =
           ap (λ (o : Option Node). left_by_literal (o >>= literal_value)) there
           ∙ ap (λ (m : ℕ). One (Exactly (Int (pos m)))) (some_inj value n h)
       literal _ there h = absurd (cc (h))
@@ -86,13 +86,13 @@ module _ (code : Code) where
       where
         at : (node : Node) → slice_get code.program.nodes id ≡ Some node → (n : ℕ) →
             length_node node >>= part code number_literal ≡ Some n → slice_get f.operands 0 ≡ Some (Int (pos n))
-        at (NewArray place element count) there n e =
+        at (NewArray position element count) there n e =
             highest (left_by code count) (Int (pos n)) nothing f.operands (number_leaves count n e)
             (subst (λ (t : Stack). Operands t f.operands)
             (ap (λ (o : Option ℕ). with_left (part_left code id o) nothing)
             (ap (λ (o : Option Node). o >>= array_length) there)
             ∙ ap (λ (l : Left). with_left l nothing)
-            (below_is code id count (behind id (NewArray place element count) there).1.0))
+            (below_is code id count (behind id (NewArray position element count) there).1.0))
             (operands_are (asked code (ALLOCARRAY id)) s f.operands less shadows))
         at _ there n e = absurd (cc (e))
 
@@ -125,7 +125,7 @@ module _ (code : Code) where
           first : AllBelow id (need.size ∷ (need.runnable ∷ []))
           first =
               below-right id (optional need.object) (need.size ∷ (need.runnable ∷ []))
-              (behind id (Call need.place need.name need.object (need.size ∷ (need.runnable ∷ []))) need.is_there)
+              (behind id (Call need.position need.name need.object (need.size ∷ (need.runnable ∷ []))) need.is_there)
 
           operands : Operands (with_left (left_by code need.runnable) (with_left (left_by code need.size) nothing)) f.operands
           operands =

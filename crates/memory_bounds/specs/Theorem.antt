@@ -37,27 +37,27 @@ pub record IsYes (code : Code) (storage : Storage) (table : Table) (class : ℕ)
   pub fits : table body ≤ bytes
   pub small : bytes < too_much
 
-pub record IsReleaseOf (s : State) (place : ℕ) (row : HandlerRow) : Type 0 where
+pub record IsReleaseOf (s : State) (index : ℕ) (row : HandlerRow) : Type 0 where
   pub release : Release
-  pub is : slice_get s.releases place ≡ Some release
+  pub is : slice_get s.releases index ≡ Some release
   pub is_row : handler_row s.registry release.handler ≡ Some row
 
 -- memory bounds, first part
 abbrev pub NeverFull : Code → Storage → Type 0
 NeverFull code storage =
-    (plan : Plan) (choices : List ℕ) (s : State) (place : ℕ) (row : HandlerRow) (table : Table) (step : Step) →
-    Reached code plan (by_list choices) Arrived s → job_may_act s (ReleaseAt place) ≡ true →
-    IsReleaseOf s place row → IsYes code storage table row.class →
-    ref_op code plan.readings s (ReleaseAt place) ≡ Some step →
+    (plan : Plan) (choices : List ℕ) (s : State) (index : ℕ) (row : HandlerRow) (table : Table) (step : Step) →
+    Reached code plan (by_list choices) Arrived s → job_may_act s (ReleaseAt index) ≡ true →
+    IsReleaseOf s index row → IsYes code storage table row.class →
+    ref_op code plan.readings s (ReleaseAt index) ≡ Some step →
     (unit : ℕ) (pos : Pos) → Contains step.events (Fault unit MemoryFull pos) → ⊥
 
 -- no release of this class finds its memory full
 abbrev pub NeverFillsMemory : Code → ℕ → Type 0
 NeverFillsMemory code class =
-    (plan : Plan) (choices : List ℕ) (s : State) (place : ℕ) (row : HandlerRow) (step : Step) →
-    Reached code plan (by_list choices) Arrived s → job_may_act s (ReleaseAt place) ≡ true →
-    IsReleaseOf s place row → row.class ≡ class →
-    ref_op code plan.readings s (ReleaseAt place) ≡ Some step →
+    (plan : Plan) (choices : List ℕ) (s : State) (index : ℕ) (row : HandlerRow) (step : Step) →
+    Reached code plan (by_list choices) Arrived s → job_may_act s (ReleaseAt index) ≡ true →
+    IsReleaseOf s index row → row.class ≡ class →
+    ref_op code plan.readings s (ReleaseAt index) ≡ Some step →
     (unit : ℕ) (pos : Pos) → Contains step.events (Fault unit MemoryFull pos) → ⊥
 
 -- none of a class whose row is Yes does
@@ -68,9 +68,9 @@ YesNeverFull code rows =
 -- memory bounds, second part: of releases alone, and of the one that the machine chooses
 abbrev pub NeverLacksStore : Code → ℕ → Type 0
 NeverLacksStore code weight =
-    (plan : Plan) (s : State) (place : ℕ) (step : Step) → weight ≤ plan.store →
-    Reached code plan by_priority Arrived s → is_exec s.phase ≡ true → by_priority s ≡ Some (TurnOf place) →
-    ref_op code plan.readings s (ReleaseAt place) ≡ Some step →
+    (plan : Plan) (s : State) (index : ℕ) (step : Step) → weight ≤ plan.store →
+    Reached code plan by_priority Arrived s → is_exec s.phase ≡ true → by_priority s ≡ Some (TurnOf index) →
+    ref_op code plan.readings s (ReleaseAt index) ≡ Some step →
     (unit : ℕ) (pos : Pos) → Contains step.events (Fault unit StoreFull pos) → ⊥
 
 -- the store that is needed, where it is found, is one that no release finds too small

@@ -29,7 +29,7 @@ only_if test bytes = if test then bytes else too_much
 
 -- an array whose length is a number
 unfoldable pub length_node : Node → Option ℕ
-length_node (NewArray place element count) = Some count
+length_node (NewArray position element count) = Some count
 length_node _ = None
 
 unfoldable pub array_weight : Code → ℕ → ℕ
@@ -38,7 +38,7 @@ array_weight code id =
 
 -- the first argument of a call
 unfoldable pub size_node : Node → Option ℕ
-size_node (Call place name object (first ∷ more)) = Some first
+size_node (Call position name object (first ∷ more)) = Some first
 size_node _ = None
 
 -- the memory that is entered has room for what is run there
@@ -89,26 +89,26 @@ abbrev pub loop_weight : ℕ → ℕ
 loop_weight turn = only_if (turn == 0) 0
 
 unfoldable pub node_weight : Code → Table → (ℕ → ℕ) → ℕ → Node → ℕ
-node_weight code table sub id (If place condition then_part else_part) =
+node_weight code table sub id (If position condition then_part else_part) =
     sub condition + max (sub then_part) (sum_of sub (optional else_part))
-node_weight code table sub id (While place condition body) =
+node_weight code table sub id (While position condition body) =
     sub condition + loop_weight (sub condition + sub body)
-node_weight code table sub id (For place first condition step body) =
+node_weight code table sub id (For position first condition step body) =
     sub first + (sub condition + loop_weight (sub condition + (sub step + sub body)))
-node_weight code table sub id (New place name_place name arguments) =
+node_weight code table sub id (New position name_place name arguments) =
     sum_of sub arguments + new_weight code table (binding code id)
-node_weight code table sub id (NewArray place element count) = sub count + array_weight code id
-node_weight code table sub id (Call place name object arguments) =
+node_weight code table sub id (NewArray position element count) = sub count + array_weight code id
+node_weight code table sub id (Call position name object arguments) =
     sum_of sub (optional object) + (sum_of sub arguments + call_weight code table id (binding code id))
-node_weight code table sub id (SuperCall place arguments) =
+node_weight code table sub id (SuperCall position arguments) =
     sum_of sub arguments + super_weight code table (binding code id)
-node_weight code table sub id (MethodNode place name flags result_type parameters body) =
+node_weight code table sub id (MethodNode position name flags result_type parameters body) =
     sum_of sub (optional body)
-node_weight code table sub id (Constructor place name flags parameters super_call body) =
+node_weight code table sub id (Constructor position name flags parameters super_call body) =
     (elim super_call [ None ↦ unwritten_super_weight code table id | Some call ↦ sub call ]) + sub body
-node_weight code table sub id (Class place name flags header members) = unwritten_super_weight code table id
-node_weight code table sub id (LocalNode place name flags declared_type) = 0
-node_weight code table sub id (LocalWithValue place name_place name flags declared_type value) = sub value
+node_weight code table sub id (Class position name flags header members) = unwritten_super_weight code table id
+node_weight code table sub id (LocalNode position name flags declared_type) = 0
+node_weight code table sub id (LocalWithValue position name_place name flags declared_type value) = sub value
 node_weight code table sub id node = sum_of sub (children node)
 
 unfoldable pub next_weight : Code → Table → ℕ → (ℕ → ℕ) → ℕ
@@ -123,8 +123,8 @@ weight code table id = by_smaller 0 (next_weight code table) id
 
 -- what a loop puts at most in one turn
 unfoldable pub turn_weight : Code → Table → Node → Option ℕ
-turn_weight code table (While place condition body) = Some (weight code table condition + weight code table body)
-turn_weight code table (For place first condition step body) =
+turn_weight code table (While position condition body) = Some (weight code table condition + weight code table body)
+turn_weight code table (For position first condition step body) =
     Some (weight code table condition + (weight code table step + weight code table body))
 turn_weight code table _ = None
 

@@ -61,7 +61,7 @@ all_below_at n x (y ∷ xs) h (suc k) l e = all_below_at n x xs h.1 k (omega (ar
 
 parts_in : (node : Node) (x : ℕ) → Contains (run_parts node) x → Contains (children node) x
 unfolding run_parts
-parts_in (Class place name flags header members) x c = absurd (none_contained x c)
+parts_in (Class position name flags header members) x c = absurd (none_contained x c)
 parts_in node x c = c
 
 pub part_is_smaller : (nodes : List Node) → ChildrenFirst 0 nodes → (id x : ℕ) (node : Node) →
@@ -85,7 +85,7 @@ pub node_agrees : (code : Code) (t u : Table) (f g : ℕ → ℕ) (id : ℕ) (no
     ((b : Body) → Contains (targets_here code id node) b → t b ≡ u b) →
     node_need code t f id node ≡ node_need code u g id node
 unfolding node_need run_parts children
-node_agrees code t u f g id (If place condition then_part else_part) h k =
+node_agrees code t u f g id (If position condition then_part else_part) h k =
     let a = h condition (Contains-head condition (then_part ∷ optional else_part)) in
     let b = h then_part (Contains-tail condition (then_part ∷ optional else_part) then_part
     (Contains-head then_part (optional else_part))) in

@@ -41,7 +41,7 @@ module _ (code : Code) (t u : Table) (f g : ℕ → ℕ) (tables : (b : Body) �
     (subs : (x : ℕ) → cap (f x) ≡ cap (g x)) where
   node_capped : (id : ℕ) (node : Node) → cap (node_need code t f id node) ≡ cap (node_need code u g id node)
   unfolding node_need
-  node_capped id (If place condition then_part else_part) =
+  node_capped id (If position condition then_part else_part) =
       let a = subs condition in
       let b = subs then_part in
       let c = sum_capped f g (optional else_part) subs in
@@ -114,12 +114,12 @@ capped_more code rows exact id row are same e = record { each = λ k. of k (case
 -- ---- one after the other
 
 -- the rows after the first ones of an order; `exact` are those without the ceiling
-pub record IsSolving (code : Code) (order : List ℕ) (place : ℕ) (rows : List ℕ) : Type 0 where
+pub record IsSolving (code : Code) (order : List ℕ) (index : ℕ) (rows : List ℕ) : Type 0 where
   pub exact : List ℕ
   pub whole : length rows ≡ length code.program.nodes
   pub same : length exact ≡ length code.program.nodes
   pub capped : AreCapped rows exact
-  pub left : solved code (drop place order) exact
+  pub left : solved code (drop index order) exact
       ≡ solved code order (zero_rows code)
 
 pub solving_none : (code : Code) (order rows : List ℕ) → rows ≡ zero_rows code →
@@ -147,24 +147,24 @@ dropped (x ∷ xs) (suc k) l =
     let e : suc k + 1 ≡ suc (k + 1) = omega arith in
     dropped xs k (omega (arith, l)) ∙ ap (λ n. slice_index_or xs k 0 ∷ drop n (x ∷ xs)) (sym e)
 
-pub solving_more : (code : Code) (order : List ℕ) (place : ℕ) (rows : List ℕ) (row : ℕ) →
-    IsSolving code order place rows → place < length order →
-    row ≡ min too_much (need_by code rows (slice_index_or order place 0)) →
-    IsSolving code order (place + 1) (slice_set rows (slice_index_or order place 0) row)
+pub solving_more : (code : Code) (order : List ℕ) (index : ℕ) (rows : List ℕ) (row : ℕ) →
+    IsSolving code order index rows → index < length order →
+    row ≡ min too_much (need_by code rows (slice_index_or order index 0)) →
+    IsSolving code order (index + 1) (slice_set rows (slice_index_or order index 0) row)
 unfolding solved_by
-solving_more code order place rows row s l e = record {
+solving_more code order index rows row s l e = record {
   exact = slice_set s.exact id (need_by code s.exact id);
   whole = length-set rows id row ∙ s.whole;
   same = length-set s.exact id (need_by code s.exact id) ∙ s.same;
   capped = capped_more code rows s.exact id row s.capped (s.whole ∙ sym s.same) e;
-  left = sym (ap (λ xs. solved code xs s.exact) (dropped order place l)) ∙ s.left;
+  left = sym (ap (λ xs. solved code xs s.exact) (dropped order index l)) ∙ s.left;
 }
   where
     id : ℕ
-    id = slice_index_or order place 0
+    id = slice_index_or order index 0
 
-pub solving_all : (code : Code) (order : List ℕ) (place : ℕ) (rows : List ℕ) → IsSolving code order place rows →
-    length order ≤ place → AreCapped rows (solved code order (zero_rows code))
+pub solving_all : (code : Code) (order : List ℕ) (index : ℕ) (rows : List ℕ) → IsSolving code order index rows →
+    length order ≤ index → AreCapped rows (solved code order (zero_rows code))
 unfolding solved_by
-solving_all code order place rows s l =
-    subst (AreCapped rows) (sym (ap (λ xs. solved code xs s.exact) (drop_all place order l)) ∙ s.left) s.capped
+solving_all code order index rows s l =
+    subst (AreCapped rows) (sym (ap (λ xs. solved code xs s.exact) (drop_all index order l)) ∙ s.left) s.capped

@@ -36,25 +36,25 @@ use Rattle.memory_needs.proofs.NeedLemmas.{highest_written}
 pub none_entered : (t : Target) (node : Node) → (t.id == managed_memory_enter_private_memory) ≡ false →
     None ≡ entered_with (Builtin t) node
 unfolding entered_with
-none_entered t (Call place name object (size ∷ more)) e = sym (ap (λ b. if b then Some size else None) e)
-none_entered t (Call place name object []) e = refl
+none_entered t (Call position name object (size ∷ more)) e = sym (ap (λ b. if b then Some size else None) e)
+none_entered t (Call position name object []) e = refl
 none_entered t node e = refl
 
-pub first_entered : (t : Target) (place : Pos) (name : List ℕ) (object : Option ℕ) (arguments : List ℕ) →
+pub first_entered : (t : Target) (position : Pos) (name : List ℕ) (object : Option ℕ) (arguments : List ℕ) →
     (t.id == managed_memory_enter_private_memory) ≡ true →
-    slice_get arguments 0 ≡ entered_with (Builtin t) (Call place name object arguments)
+    slice_get arguments 0 ≡ entered_with (Builtin t) (Call position name object arguments)
 unfolding entered_with
-first_entered t place name object [] e = refl
-first_entered t place name object (size ∷ more) e = sym (ap (λ b. if b then Some size else None) e)
+first_entered t position name object [] e = refl
+first_entered t position name object (size ∷ more) e = sym (ap (λ b. if b then Some size else None) e)
 
 -- what enters a private memory is a call
 data Enters (b : Binding) : Node → Type 0 where
-  by_call : (t : Target) → b ≡ Builtin t → (place : Pos) (name : List ℕ) (object : Option ℕ) (arguments : List ℕ) →
-      Enters b (Call place name object arguments)
+  by_call : (t : Target) → b ≡ Builtin t → (position : Pos) (name : List ℕ) (object : Option ℕ) (arguments : List ℕ) →
+      Enters b (Call position name object arguments)
 
 enters : (b : Binding) (node : Node) (size : ℕ) → entered_with b node ≡ Some size → Enters b node
 unfolding entered_with
-enters (Builtin t) (Call place name object arguments) size e = by_call t refl place name object arguments
+enters (Builtin t) (Call position name object arguments) size e = by_call t refl position name object arguments
 enters (Builtin t) node size e = absurd (cc (e))
 enters b node size e = absurd (cc (e))
 
@@ -154,9 +154,9 @@ any_runs p on =
 
 -- ---- one after the other
 
-pub record IsRooming (code : Code) (order : List ℕ) (place : ℕ) (rows : List ℕ) : Type 0 where
+pub record IsRooming (code : Code) (order : List ℕ) (index : ℕ) (rows : List ℕ) : Type 0 where
   pub whole : length rows ≡ count code
-  pub left : solved_rooms code (drop place order) rows ≡ solved_rooms code order (zero_rows code)
+  pub left : solved_rooms code (drop index order) rows ≡ solved_rooms code order (zero_rows code)
 
 pub rooms_none : (code : Code) (order rows : List ℕ) → rows ≡ zero_rows code → IsRooming code order 0 rows
 rooms_none code order rows e = record {
@@ -164,22 +164,22 @@ rooms_none code order rows e = record {
   left = ap (solved_rooms code order) e;
 }
 
-pub rooms_more : (code : Code) (order : List ℕ) (place : ℕ) (rows after : List ℕ) → IsRooming code order place rows →
-    place < length order →
-    after ≡ slice_set rows (slice_index_or order place 0) (room_by code rows (slice_index_or order place 0)) →
-    IsRooming code order (place + 1) after
+pub rooms_more : (code : Code) (order : List ℕ) (index : ℕ) (rows after : List ℕ) → IsRooming code order index rows →
+    index < length order →
+    after ≡ slice_set rows (slice_index_or order index 0) (room_by code rows (slice_index_or order index 0)) →
+    IsRooming code order (index + 1) after
 unfolding solved_by
-rooms_more code order place rows after r l e = record {
+rooms_more code order index rows after r l e = record {
   whole =
       ap (λ (xs : List ℕ). length xs) e
-      ∙ (length-set rows (slice_index_or order place 0) (room_by code rows (slice_index_or order place 0)) ∙ r.whole);
+      ∙ (length-set rows (slice_index_or order index 0) (room_by code rows (slice_index_or order index 0)) ∙ r.whole);
   left =
-      ap (solved_rooms code (drop (place + 1) order)) e
-      ∙ (sym (ap (λ xs. solved_rooms code xs rows) (dropped order place l)) ∙ r.left);
+      ap (solved_rooms code (drop (index + 1) order)) e
+      ∙ (sym (ap (λ xs. solved_rooms code xs rows) (dropped order index l)) ∙ r.left);
 }
 
-pub rooms_all : (code : Code) (order : List ℕ) (place : ℕ) (rows : List ℕ) → IsRooming code order place rows →
-    length order ≤ place → rows ≡ solved_rooms code order (zero_rows code)
+pub rooms_all : (code : Code) (order : List ℕ) (index : ℕ) (rows : List ℕ) → IsRooming code order index rows →
+    length order ≤ index → rows ≡ solved_rooms code order (zero_rows code)
 unfolding solved_by
-rooms_all code order place rows r l =
-    sym (ap (λ xs. solved_rooms code xs rows) (drop_all place order l)) ∙ r.left
+rooms_all code order index rows r l =
+    sym (ap (λ xs. solved_rooms code xs rows) (drop_all index order l)) ∙ r.left

@@ -237,12 +237,12 @@ module _ (code : Code) (table : Table) (needs : ℕ → ℕ) (id : ℕ) where
 
   -- whether it is a call
   is_call : Node → Bool
-  is_call (Call place name object arguments) = true
+  is_call (Call position name object arguments) = true
   is_call node = false
 
   not_entered : (b : Binding) (node : Node) → is_call node ≡ false → entered_with b node ≡ None
   unfolding entered_with is_call
-  not_entered (Builtin t) (Call place name object arguments) e = absurd (true≢false e)
+  not_entered (Builtin t) (Call position name object arguments) e = absurd (true≢false e)
   not_entered (Builtin t) node e = refl
   not_entered b node e = refl
 
@@ -255,70 +255,70 @@ module _ (code : Code) (table : Table) (needs : ℕ → ℕ) (id : ℕ) where
   asked_in enters [] = None
   asked_in enters (size ∷ more) = if enters then Some size else None
 
-  module _ (place : Pos) (name : List ℕ) (object : Option ℕ) (arguments : List ℕ) where
+  module _ (position : Pos) (name : List ℕ) (object : Option ℕ) (arguments : List ℕ) where
     abbrev call : Node
-    call = Call place name object arguments
+    call = Call position name object arguments
 
     entered_is : (t : Target) → binding code id ≡ Builtin t → (y : Bool) →
         (t.id == managed_memory_enter_private_memory) ≡ y → (given : List ℕ) → arguments ≡ given →
-        entered_with (binding code id) (Call place name object arguments) ≡ asked_in y given
+        entered_with (binding code id) (Call position name object arguments) ≡ asked_in y given
     unfolding entered_with asked_in
     entered_is t e y q given a =
-        ap (λ b. entered_with b (Call place name object arguments)) e
-        ∙ (ap (λ xs. entered_with (Builtin t) (Call place name object xs)) a ∙ of given)
+        ap (λ b. entered_with b (Call position name object arguments)) e
+        ∙ (ap (λ xs. entered_with (Builtin t) (Call position name object xs)) a ∙ of given)
       where
-        of : (xs : List ℕ) → entered_with (Builtin t) (Call place name object xs) ≡ asked_in y xs
+        of : (xs : List ℕ) → entered_with (Builtin t) (Call position name object xs) ≡ asked_in y xs
         of [] = refl
         of (size ∷ more) = ap (λ b. if b then Some size else None) q
 
     by_builtin : (t : Target) → binding code id ≡ Builtin t → (x y : Bool) →
         (t.id == managed_memory_execute_in_area_of) ≡ x → (t.id == managed_memory_enter_private_memory) ≡ y →
         (given : List ℕ) → arguments ≡ given →
-        ShowsOne code table needs id (Call place name object arguments)
+        ShowsOne code table needs id (Call position name object arguments)
         (if x then shown_if_needed code id OuterArea
-        (greatest table (targets_entered code id (Call place name object arguments)))
+        (greatest table (targets_entered code id (Call position name object arguments)))
         else (if y then entered_shown code id given
-        (greatest table (targets_entered code id (Call place name object arguments))) else None))
+        (greatest table (targets_entered code id (Call position name object arguments))) else None))
     unfolding number_asked executes_in_area is_loop entered_shown asked_in
     by_builtin t e true true p q given a = absurd (let n = apart t.id p in true≢false (sym q ∙ n))
     by_builtin t e true false p q [] a =
-        by_area (Call place name object arguments) refl (entered_is t e false q [] a) (entered_is t e false q [] a)
+        by_area (Call position name object arguments) refl (entered_is t e false q [] a) (entered_is t e false q [] a)
         (ap executes_in_area e ∙ p)
     by_builtin t e true false p q (size ∷ more) a =
-        by_area (Call place name object arguments) refl (entered_is t e false q (size ∷ more) a)
+        by_area (Call position name object arguments) refl (entered_is t e false q (size ∷ more) a)
         (entered_is t e false q (size ∷ more) a) (ap executes_in_area e ∙ p)
     by_builtin t e false true p q [] a =
-        by_none (Call place name object arguments) refl (entered_is t e true q [] a) (entered_is t e true q [] a)
+        by_none (Call position name object arguments) refl (entered_is t e true q [] a) (entered_is t e true q [] a)
         (ap executes_in_area e ∙ p)
     by_builtin t e false true p q (size ∷ more) a =
-        by_size (Call place name object arguments) refl size (entered_is t e true q (size ∷ more) a)
+        by_size (Call position name object arguments) refl size (entered_is t e true q (size ∷ more) a)
         (entered_is t e true q (size ∷ more) a) (ap executes_in_area e ∙ p)
     by_builtin t e false false p q [] a =
-        by_none (Call place name object arguments) refl (entered_is t e false q [] a) (entered_is t e false q [] a)
+        by_none (Call position name object arguments) refl (entered_is t e false q [] a) (entered_is t e false q [] a)
         (ap executes_in_area e ∙ p)
     by_builtin t e false false p q (size ∷ more) a =
-        by_none (Call place name object arguments) refl (entered_is t e false q (size ∷ more) a)
+        by_none (Call position name object arguments) refl (entered_is t e false q (size ∷ more) a)
         (entered_is t e false q (size ∷ more) a) (ap executes_in_area e ∙ p)
 
     call_of : (b : Binding) → binding code id ≡ b →
-        ShowsOne code table needs id (Call place name object arguments)
-        (call_shown code id b arguments (greatest table (targets_entered code id (Call place name object arguments))))
+        ShowsOne code table needs id (Call position name object arguments)
+        (call_shown code id b arguments (greatest table (targets_entered code id (Call position name object arguments))))
     unfolding call_shown number_asked executes_in_area is_loop entered_with
     call_of (Builtin t) e =
         by_builtin t e (t.id == managed_memory_execute_in_area_of) (t.id == managed_memory_enter_private_memory) refl refl
         arguments refl
     call_of b e =
-        by_none (Call place name object arguments) refl (ap (λ d. entered_with d (Call place name object arguments)) e)
-        (ap (λ d. entered_with d (Call place name object arguments)) e) (ap executes_in_area e)
+        by_none (Call position name object arguments) refl (ap (λ d. entered_with d (Call position name object arguments)) e)
+        (ap (λ d. entered_with d (Call position name object arguments)) e) (ap executes_in_area e)
 
   pub shows_one : (node : Node) →
       ShowsOne code table needs id node (node_shown code needs (greatest table (targets_entered code id node)) id node)
   unfolding node_shown number_asked targets_entered is_loop is_call
-  shows_one (NewArray place element count) = shows_array (NewArray place element count) count refl refl refl
-  shows_one (While place condition body) =
-      shows_loop (While place condition body) (not_entered (binding code id) (While place condition body) refl) refl refl
-  shows_one (For place first condition step body) =
-      shows_loop (For place first condition step body)
-      (not_entered (binding code id) (For place first condition step body) refl) refl refl
-  shows_one (Call place name object arguments) = call_of place name object arguments (binding code id) refl
+  shows_one (NewArray position element count) = shows_array (NewArray position element count) count refl refl refl
+  shows_one (While position condition body) =
+      shows_loop (While position condition body) (not_entered (binding code id) (While position condition body) refl) refl refl
+  shows_one (For position first condition step body) =
+      shows_loop (For position first condition step body)
+      (not_entered (binding code id) (For position first condition step body) refl) refl refl
+  shows_one (Call position name object arguments) = call_of position name object arguments (binding code id) refl
   shows_one node = shows_none node (not_entered (binding code id) node refl) refl refl

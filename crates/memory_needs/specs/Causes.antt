@@ -28,7 +28,7 @@ use Rattle.memory_needs.specs.Room.{entered_with, size_entered}
 
 -- the argument of a part of a form
 unfoldable pub only_argument : Node → Option ℕ
-only_argument (New place name_place name (argument ∷ [])) = Some argument
+only_argument (New position name_place name (argument ∷ [])) = Some argument
 only_argument _ = None
 
 -- the class of a handler's chain whose constructor begins with the form
@@ -55,7 +55,7 @@ pub record Recurs (code : Code) (class : ℕ) (at : Pos) : Type 0 where
 
 -- the node of the size of a private memory, and of the length of an array
 unfoldable pub number_asked : Code → ℕ → Node → Option ℕ
-number_asked code id (NewArray place element count) = Some count
+number_asked code id (NewArray position element count) = Some count
 number_asked code id node = entered_with (binding code id) node
 
 pub data AsksNumber (code : Code) (class : ℕ) (number : ℕ) : Type 0 where
@@ -86,8 +86,8 @@ pub record FillsOuterArea (code : Code) (class : ℕ) (table : Table) (at : Pos)
   pub is_place : place_of_node code id ≡ at
 
 unfoldable pub is_loop : Node → Bool
-is_loop (While place condition body) = true
-is_loop (For place first condition step body) = true
+is_loop (While position condition body) = true
+is_loop (For position first condition step body) = true
 is_loop _ = false
 
 pub record MakesInLoop (code : Code) (class : ℕ) (table : Table) (at : Pos) : Type 0 where

@@ -46,8 +46,8 @@ unfoldable pub array_bytes : List Node → ℕ → ℕ
 array_bytes nodes count = elim (read nodes number_literal count) [ None ↦ size_with_slots 0 | Some n ↦ size_with_slots n ]
 
 unfoldable pub own_bytes : Code → ℕ → Node → ℕ
-own_bytes code id (New place name_place name arguments) = object_bytes code.program (binding code id)
-own_bytes code id (NewArray place element count) = array_bytes code.program.nodes count
+own_bytes code id (New position name_place name arguments) = object_bytes code.program (binding code id)
+own_bytes code id (NewArray position element count) = array_bytes code.program.nodes count
 own_bytes code id _ = 0
 
 -- ---- Need
@@ -55,7 +55,7 @@ own_bytes code id _ = 0
 -- of an `if` the greater part counts. Of any other node all parts count, those of a loop once; and of the bodies that it
 -- may run in its own area the one with the greatest Need
 unfoldable pub node_need : Code → Table → (ℕ → ℕ) → ℕ → Node → ℕ
-node_need code table sub id (If place condition then_part else_part) =
+node_need code table sub id (If position condition then_part else_part) =
     sub condition + max (sub then_part) (sum_of sub (optional else_part))
 node_need code table sub id node =
     sum_of sub (run_parts node) + (own_bytes code id node + greatest table (targets_here code id node))

@@ -13,7 +13,7 @@ use Rattle.memory_needs.specs.Targets.{targets}
 
 -- the parts that run where a node does: a class is the body of its unwritten constructor, and its members aren't in it
 unfoldable pub run_parts : Node → List ℕ
-run_parts (Class place name flags header members) = []
+run_parts (Class position name flags header members) = []
 run_parts node = children node
 
 -- the nodes in a node: itself, and the parts of each

@@ -21,7 +21,7 @@ use Rattle.memory_needs.specs.Need.{Table, greatest}
 
 -- the size with which a node enters a private memory, as it is written
 unfoldable pub entered_with : Binding → Node → Option ℕ
-entered_with (Builtin t) (Call place name object (size ∷ more)) =
+entered_with (Builtin t) (Call position name object (size ∷ more)) =
     if t.id == managed_memory_enter_private_memory then Some size else None
 entered_with _ _ = None
 

@@ -74,10 +74,10 @@ call_shown code id _ arguments need = None
 
 -- `entered` is the greatest that what the node enters needs
 unfoldable pub node_shown : Code → (ℕ → ℕ) → ℕ → ℕ → Node → Option Shown
-node_shown code needs entered id (NewArray place element count) = number_shown code count
-node_shown code needs entered id (While place condition body) = shown_if_needed code id NewInLoop (needs id)
-node_shown code needs entered id (For place first condition step body) = shown_if_needed code id NewInLoop (needs id)
-node_shown code needs entered id (Call place name object arguments) =
+node_shown code needs entered id (NewArray position element count) = number_shown code count
+node_shown code needs entered id (While position condition body) = shown_if_needed code id NewInLoop (needs id)
+node_shown code needs entered id (For position first condition step body) = shown_if_needed code id NewInLoop (needs id)
+node_shown code needs entered id (Call position name object arguments) =
     call_shown code id (binding code id) arguments entered
 node_shown code needs entered id _ = None
 

@@ -72,16 +72,16 @@ memory_targets p _ = []
 
 -- the bodies that run in the area in which the node does
 unfoldable pub targets_here : Code → ℕ → Node → List Body
-targets_here code id (New place name_place name arguments) = constructor_targets code.program (binding code id)
-targets_here code id (Call place name object arguments) = call_targets code.program (binding code id)
-targets_here code id (SuperCall place arguments) = super_targets code.program (binding code id)
-targets_here code id (Constructor place name flags parameters None body) = unwritten_super_targets code id
-targets_here code id (Class place name flags header members) = unwritten_super_targets code id
+targets_here code id (New position name_place name arguments) = constructor_targets code.program (binding code id)
+targets_here code id (Call position name object arguments) = call_targets code.program (binding code id)
+targets_here code id (SuperCall position arguments) = super_targets code.program (binding code id)
+targets_here code id (Constructor position name flags parameters None body) = unwritten_super_targets code id
+targets_here code id (Class position name flags header members) = unwritten_super_targets code id
 targets_here code id _ = []
 
 -- the bodies that run in the area that the node enters
 unfoldable pub targets_entered : Code → ℕ → Node → List Body
-targets_entered code id (Call place name object arguments) = memory_targets code.program (binding code id)
+targets_entered code id (Call position name object arguments) = memory_targets code.program (binding code id)
 targets_entered code id _ = []
 
 unfoldable pub targets : Code → ℕ → List Body

@@ -30,7 +30,7 @@ use std::alloc::Global;
 fn recursion_at(code: &Code<'_>, marks: &[bool], loops: &[bool], body: NodeId) -> Option<Shown>
     ensures { result ≡ recursion_at (code_of code.now) marks.now loops.now body }
 {
-    let vertex = code.count() + body.place();
+    let vertex = code.count() + body.number();
     if is_marked(marks, vertex) && is_marked(loops, vertex) {
         return Some(Shown {
             cause: NoBound::Recursion,
@@ -45,7 +45,7 @@ fn recursion_at(code: &Code<'_>, marks: &[bool], loops: &[bool], body: NodeId) -
 fn reached_at(marks: &[bool], shown: &[Option<Shown>], node: NodeId) -> Option<Shown>
     ensures { result ≡ reached_at marks.now shown.now node }
 {
-    if is_marked(marks, node.place()) {
+    if is_marked(marks, node.number()) {
         return told(shown, None, node);
     }
     None
@@ -147,7 +147,7 @@ pub fn answer(
 {
     code.children_first();
     let handler = handler_node(code, class);
-    let from = (code.count() + handler.place()) as u32;
+    let from = (code.count() + handler.number()) as u32;
     let marks = reached(alloc, tables.edges.as_slice(), from)?;
     let loops = tables.order.loops.as_slice();
     let shown = tables.shown.as_slice();

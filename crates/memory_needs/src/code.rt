@@ -165,7 +165,7 @@ fn binding(checked: &Checked, node: NodeId) -> Binding
     ensures { result ≡ binding (code_of checked.now.program) node }
 {
     let _program = checked.program();
-    match checked.bindings().get(node.place()) {
+    match checked.bindings().get(node.number()) {
         Some(binding) => *binding,
         None => Binding::Plain,
     }

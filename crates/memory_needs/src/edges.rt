@@ -31,7 +31,7 @@ pub fn run_parts_of(node: &Node) -> Parts<'_>
 fn note(row: &mut Vec<u32>, node: NodeId) -> Result<(), Memory>
     ensures { OnOk result (row.new.items ≡ row.old.items ++ node ∷ []) }
 {
-    row.push(node.place() as u32)?;
+    row.push(node.number() as u32)?;
     Ok(())
 }
 
@@ -87,9 +87,9 @@ fn note_body(row: &mut Vec<u32>, count: usize, node: NodeId) -> Result<(), Memor
     requires { count ≤ 2 ^ 31 }
     ensures { OnOk result (row.new.items ≡ row.old.items ++ vertex_behind count node) }
 {
-    let place = node.place();
-    if place < count {
-        row.push((count + place) as u32)?;
+    let number = node.number();
+    if number < count {
+        row.push((count + number) as u32)?;
     }
     Ok(())
 }

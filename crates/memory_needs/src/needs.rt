@@ -180,12 +180,12 @@ fn set_need(rows: &mut Vec<u64>, code: &Code<'_>, here: &[Vec<NodeId>], vertex: 
     ensures { rows.new.items ≡ slice_set rows.old.items vertex
         (min too_much (need_by (code_of code.now) rows.old.items vertex)) }
 {
-    let place = vertex as usize;
-    if place < here.len() {
-        rows[place] = next_need(
+    let index = vertex as usize;
+    if index < here.len() {
+        rows[index] = next_need(
             code,
             rows.as_slice(),
-            here[place].as_slice(),
+            here[index].as_slice(),
             NodeId::at(vertex),
         );
     }
@@ -204,8 +204,8 @@ pub fn needs(
         (solved (code_of code.now) order.now (zero_rows (code_of code.now)))) }
 {
     let mut rows = vec![in alloc; 0u64; code.count()]?;
-    for place in 0..order.len() {
-        set_need(&mut rows, code, here, order[place]);
+    for index in 0..order.len() {
+        set_need(&mut rows, code, here, order[index]);
     }
     Ok(rows)
 }

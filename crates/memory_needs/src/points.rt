@@ -28,7 +28,7 @@ pub fn is_marked(marks: &[bool], vertex: usize) -> bool
 fn is_point(code: &Code<'_>, loops: &[bool], shown: &[Option<Shown>], id: NodeId) -> bool
     ensures { result ≡ is_point (code_of code.now) loops.now shown.now id }
 {
-    is_marked(loops, code.count() + id.place()) || told(shown, None, id).is_some()
+    is_marked(loops, code.count() + id.number()) || told(shown, None, id).is_some()
 }
 
 /// Notes a number, if something may be shown there.
@@ -61,8 +61,8 @@ pub fn all_points(
         (count (code_of code.now))) }
 {
     let mut points = Vec::new(alloc);
-    for place in 0..code.count() {
-        note_point(&mut points, code, loops, shown, NodeId::at(place as u32))?;
+    for number in 0..code.count() {
+        note_point(&mut points, code, loops, shown, NodeId::at(number as u32))?;
     }
     Ok(points)
 }

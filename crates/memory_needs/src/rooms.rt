@@ -213,16 +213,16 @@ fn set_room(
     ensures { OnOk result (rows.new.items ≡ slice_set rows.old.items vertex
         (room_by (code_of code.now) rows.old.items vertex)) }
 {
-    let place = vertex as usize;
-    if place >= here.len() {
+    let index = vertex as usize;
+    if index >= here.len() {
         return Ok(());
     }
     let id = NodeId::at(vertex);
-    let runs = here[place].as_slice();
-    let Some(room) = next_room(code, rows.as_slice(), runs, entered[place].as_slice(), id) else {
+    let runs = here[index].as_slice();
+    let Some(room) = next_room(code, rows.as_slice(), runs, entered[index].as_slice(), id) else {
         return Err(Memory);
     };
-    rows[place] = room;
+    rows[index] = room;
     Ok(())
 }
 
@@ -241,8 +241,8 @@ pub fn rooms(
         ≡ solved_rooms (code_of code.now) order.now (zero_rows (code_of code.now))) }
 {
     let mut rows = vec![in alloc; 0u64; code.count()]?;
-    for place in 0..order.len() {
-        set_room(&mut rows, code, here, entered, order[place])?;
+    for index in 0..order.len() {
+        set_room(&mut rows, code, here, entered, order[index])?;
     }
     Ok(rows)
 }

@@ -155,9 +155,9 @@ pub fn all_shown(
         (count (code_of code.now))) }
 {
     let mut shown = Vec::new(alloc);
-    for place in 0..code.count() {
-        let id = NodeId::at(place as u32);
-        shown.push(shown_at(code, rows, entered[place].as_slice(), id))?;
+    for number in 0..code.count() {
+        let id = NodeId::at(number as u32);
+        shown.push(shown_at(code, rows, entered[number].as_slice(), id))?;
     }
     Ok(shown)
 }

@@ -56,7 +56,7 @@ no_number_of : (nodes : List Node) (id : ℕ) (node : Option Node) →
     (unwrap_or (option_and_then (method_of nodes id) node) no_method).builtin ≡ None
 unfolding method_of
 no_number_of nodes id None = refl
-no_number_of nodes id (Some (Method place name flags result_type parameters body)) = refl
+no_number_of nodes id (Some (Method position name flags result_type parameters body)) = refl
 no_number_of nodes id (Some _) = refl
 
 pub no_number : (nodes : List Node) (id : ℕ) → (unwrap_or (method_at nodes id) no_method).builtin ≡ None
@@ -67,7 +67,7 @@ callable_of : (nodes : List Node) (id : ℕ) (node : Option Node) →
     (option_and_then (method_of nodes id) node)
 unfolding method_of
 callable_of nodes id None = refl
-callable_of nodes id (Some (Method place name flags result_type parameters body)) = refl
+callable_of nodes id (Some (Method position name flags result_type parameters body)) = refl
 callable_of nodes id (Some _) = refl
 
 pub is_callable_where_declared : (nodes : List Node) (id : ℕ) →
@@ -79,7 +79,7 @@ open_of : (nodes : List Node) (id : ℕ) (node : Option Node) →
     (option_and_then (method_of nodes id) node)
 unfolding method_of
 open_of nodes id None = refl
-open_of nodes id (Some (Method place name flags result_type parameters body)) = refl
+open_of nodes id (Some (Method position name flags result_type parameters body)) = refl
 open_of nodes id (Some _) = refl
 
 pub is_open_where_declared : (nodes : List Node) (id : ℕ) →
@@ -91,7 +91,7 @@ node_of : (nodes : List Node) (id : ℕ) (node : Option Node) →
     ≡ (if is_some (option_and_then (method_of nodes id) node) then id else 0)
 unfolding method_of
 node_of nodes id None = refl
-node_of nodes id (Some (Method place name flags result_type parameters body)) = refl
+node_of nodes id (Some (Method position name flags result_type parameters body)) = refl
 node_of nodes id (Some _) = refl
 
 pub node_where_declared : (nodes : List Node) (id : ℕ) →

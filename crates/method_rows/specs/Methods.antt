@@ -14,7 +14,7 @@ use Rattle.method_rows.specs.declared.refs.MethodSource.TheVariants.{Framework a
 abbrev pub no_method : DeclaredMethod
 no_method =
     record {
-      declared = record { node = 0; place = nowhere; name = []; modifiers = no_modifiers; declared_type = void_type };
+      declared = record { node = 0; position = nowhere; name = []; modifiers = no_modifiers; declared_type = void_type };
       parameters = [];
       body = None;
       builtin = None;

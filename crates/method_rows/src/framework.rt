@@ -17,7 +17,7 @@ pub fn made(name: Name, is_static: bool, is_abstract: bool, declared_type: Writt
 {
     Declared {
         node: NodeId::at(0),
-        place: Pos {
+        position: Pos {
             file: 0,
             line: 0,
             col: 0,

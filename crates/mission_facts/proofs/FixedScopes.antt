@@ -64,9 +64,9 @@ both_fine : (o : Option Written) (f g : Written → Bool) → broken_value o f A
     (holds o (λ w. f w || g w) ≡ false) × (holds o g ≡ false)
 both_fine None f g e = (refl, refl)
 both_fine (Some w) f g e =
-    let parts = both_empty (broken (f w) A7 w.place) (broken (g w) A8 w.place) e in
-    let second = right (g w) A8 w.place parts.1 in
-    (ap (λ t. t || g w) (right (f w) A7 w.place parts.0) ∙ second, second)
+    let parts = both_empty (broken (f w) A7 w.position) (broken (g w) A8 w.position) e in
+    let second = right (g w) A8 w.position parts.1 in
+    (ap (λ t. t || g w) (right (f w) A7 w.position parts.0) ∙ second, second)
 
 module _ (forest : Forest) (accepted : IsAccepted forest) (whole : IsForest forest) (sorted : IsWellSorted forest.nodes)
   where

@@ -140,9 +140,9 @@ module _ (forest : Forest) (accepted : IsAccepted forest) (whole : IsForest fore
         left =
             let n = at_class_unbroken forest accepted class w.row w.declared w.stands w.is in
             ap (λ t. not t && list_any (is_left_open p class) (abstract_methods p.classes class)) (sym w.plain)
-            ∙ right (leaves_open p class w.declared) C7 w.declared.place
-            (both_empty (broken (leaves_open p class w.declared) C7 w.declared.place)
-            (flat_map (λ (m : DeclaredMethod). broken (has_wrong_body m) C7 m.declared.place) w.row.methods)
+            ∙ right (leaves_open p class w.declared) C7 w.declared.position
+            (both_empty (broken (leaves_open p class w.declared) C7 w.declared.position)
+            (flat_map (λ (m : DeclaredMethod). broken (has_wrong_body m) C7 m.declared.position) w.row.methods)
             n.left_open).0
 
         closed : is_left_open p class (framework_method m) ≡ false

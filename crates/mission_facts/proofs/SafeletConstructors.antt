@@ -41,14 +41,14 @@ module _ (forest : Forest) (accepted : IsAccepted forest) (whole : IsForest fore
     abbrev p : Declarations
     p = declarations_of forest
 
-    class_breaks : (id : ℕ) (place : Pos) (name : List ℕ) (flags header : Option ℕ) (members : List ℕ) →
-        type_breaks p (type_at_node p) id (Class place name flags header members) ≡ [] →
+    class_breaks : (id : ℕ) (position : Pos) (name : List ℕ) (flags header : Option ℕ) (members : List ℕ) →
+        type_breaks p (type_at_node p) id (Class position name flags header members) ≡ [] →
         holds (class_number p.names name) (misfits_class p) ≡ false
     unfolding type_breaks t1 t2 t3 t4 t5 t6 t7 t8 t9 t10 t11 t12 t13 t14
-    class_breaks id place name flags header members e =
-        right (holds (class_number p.names name) (misfits_class p)) T6 place
-        (both_empty (broken (holds (class_number p.names name) (misfits_class p)) T6 place)
-        (broken (holds (class_number p.names name) (lacks_form p)) T14 place) e).0
+    class_breaks id position name flags header members e =
+        right (holds (class_number p.names name) (misfits_class p)) T6 position
+        (both_empty (broken (holds (class_number p.names name) (misfits_class p)) T6 position)
+        (broken (holds (class_number p.names name) (lacks_form p)) T14 position) e).0
 
     takes_none : (class : ℕ) → IsWritten p class → is_concrete_safelet p class ≡ true →
         constructor_parameters p.classes class ≡ []
@@ -56,11 +56,11 @@ module _ (forest : Forest) (accepted : IsAccepted forest) (whole : IsForest fore
     takes_none class w safelet =
         let u = user_class_is forest whole accepted sorted class w.row w.declared w.stands w.is in
         let n = u.node in
-        let node : Node = Class n.place w.declared.name n.flags n.header w.declared.members in
+        let node : Node = Class n.position w.declared.name n.flags n.header w.declared.members in
         let name = name_denotes forest whole accepted sorted class w.row w.declared w.stands w.is in
         let fits : misfits_class p class ≡ false =
         ap (λ (o : Option ℕ). holds o (misfits_class p)) (sym name)
-        ∙ class_breaks w.declared.node n.place w.declared.name n.flags n.header w.declared.members
+        ∙ class_breaks w.declared.node n.position w.declared.name n.flags n.header w.declared.members
         (unbroken forest accepted whole sorted w.declared.node node n.is_there) in
         let both =
         or_false (calls_unwritten p class && holds (superclass_in p.classes class) (takes_arguments p))

@@ -47,12 +47,12 @@ use Rattle.mission_facts.proofs.Tests.{not_true}
 
 -- where there are safelets, one of the rows is one's
 record IsSafeletRow (all : List ClassRow) (from : ℕ) (rows : List ClassRow) : Type 0 where
-  place : ℕ
+  index : ℕ
   row : ClassRow
-  stands : slice_get rows place ≡ Some row
+  stands : slice_get rows index ≡ Some row
   written : WrittenClass
   is : row.written ≡ Some written
-  passes : is_safelet all (from + place) written ≡ true
+  passes : is_safelet all (from + index) written ≡ true
 
 safelet_row : (all : List ClassRow) (from : ℕ) (rows : List ClassRow) → (safelets_from all from rows ≡ [] → ⊥) →
     IsSafeletRow all from rows
@@ -62,9 +62,9 @@ safelet_row all from (row ∷ more) there_are = go row.written refl there_are (s
   where
     later : IsSafeletRow all (from + 1) more → IsSafeletRow all from (row ∷ more)
     later x =
-        let same : (from + 1) + x.place ≡ from + suc x.place = omega arith in
+        let same : (from + 1) + x.index ≡ from + suc x.index = omega arith in
         record {
-          place = suc x.place;
+          index = suc x.index;
           row = x.row;
           stands = x.stands;
           written = x.written;
@@ -79,7 +79,7 @@ safelet_row all from (row ∷ more) there_are = go row.written refl there_are (s
     by_test c e true t there_are ih =
         let same : from ≡ from + 0 = omega arith in
         record {
-          place = zero;
+          index = zero;
           row = row;
           stands = refl;
           written = c;
@@ -241,21 +241,21 @@ module _ (forest : Forest) (accepted : IsAccepted forest) (whole : IsForest fore
   a_safelet =
       let x = safelet_row p.written 0 p.written (none_breaks (safelets_from p.written 0 p.written)
       (one_safelet forest accepted)) in
-      let zero_first : 0 + x.place ≡ x.place = omega arith in
+      let zero_first : 0 + x.index ≡ x.index = omega arith in
       let parts =
-      and_true (not x.written.modifiers.is_abstract) (is_among safelet (all_interfaces p.written x.place))
+      and_true (not x.written.modifiers.is_abstract) (is_among safelet (all_interfaces p.written x.index))
       (ap (λ n. is_safelet p.written n x.written) (sym zero_first) ∙ x.passes) in
-      let stands : slice_get p.classes x.place ≡ Some x.row =
-      ap (λ rows. slice_get rows x.place) (counted_is_written forest accepted) ∙ x.stands in
-      let implements : is_among safelet (all_interfaces p.classes x.place) ≡ true =
-      ap (λ rows. is_among safelet (all_interfaces rows x.place)) (counted_is_written forest accepted) ∙ parts.1 in
-      let concrete : IsConcrete p x.place =
-      elim (row_is forest accepted x.place x.row stands) as (λ z. IsConcrete p x.place) [
+      let stands : slice_get p.classes x.index ≡ Some x.row =
+      ap (λ rows. slice_get rows x.index) (counted_is_written forest accepted) ∙ x.stands in
+      let implements : is_among safelet (all_interfaces p.classes x.index) ≡ true =
+      ap (λ rows. is_among safelet (all_interfaces rows x.index)) (counted_is_written forest accepted) ∙ parts.1 in
+      let concrete : IsConcrete p x.index =
+      elim (row_is forest accepted x.index x.row stands) as (λ z. IsConcrete p x.index) [
         | inl f ↦ absurd (let z : None ≡ Some x.written = sym f.unwritten ∙ x.is in cc (z))
-        | inr u ↦ user_concrete x.place u.0 x.row x.written stands u.2 x.is
+        | inr u ↦ user_concrete x.index u.0 x.row x.written stands u.2 x.is
             (not_true x.written.modifiers.is_abstract parts.0)
       ] in
-      (x.place, slice_get_within p.classes x.place x.row stands, is_the_kind x.place concrete implements)
+      (x.index, slice_get_within p.classes x.index x.row stands, is_the_kind x.index concrete implements)
 
   pub safelet_there : SafeletThere p
   unfolding safelet_class is_sub

@@ -116,10 +116,10 @@ module _ (forest : Forest) (accepted : IsAccepted forest) (whole : IsForest fore
           written = c.0;
           is = r.2;
           among = in_find (λ (d : Definition). d.class == c.0.node) d p.scopes c.2;
-          new_scope = right (is_defined_already p class d) S1 d.scope.place b1.0;
-          known_parent = right (has_unknown_parent p d) S2 d.parent.place b1.1;
-          right_class = right (is_wrong_class p class) S4 d.scope.place b3.1;
-          right_parent = right (has_wrong_parent p class d) S5 d.parent.place b4.1;
+          new_scope = right (is_defined_already p class d) S1 d.scope.position b1.0;
+          known_parent = right (has_unknown_parent p d) S2 d.parent.position b1.1;
+          right_class = right (is_wrong_class p class) S4 d.scope.position b3.1;
+          right_parent = right (has_wrong_parent p class d) S5 d.parent.position b4.1;
         }
 
     -- each definition is one of a class of the program
@@ -197,7 +197,7 @@ module _ (forest : Forest) (accepted : IsAccepted forest) (whole : IsForest fore
         let unbroken = (no_break_at_class forest accepted class row c stands is).no_scope_rule in
         let any : Bool = list_any (λ d. is_some (definition_in p d)) (superclasses p.classes class) in
         let e : lacks_scope p class c.modifiers.is_abstract ≡ false =
-        right (lacks_scope p class c.modifiers.is_abstract) S6 c.place
+        right (lacks_scope p class c.modifiers.is_abstract) S6 c.position
         (both_empty (definition_breaks p class) (s6 p class c) unbroken).1 in
         defines class (last any (sym (ap (λ t. not t && (needs_scope p class && not any)) plain
         ∙ ap (λ t. t && not any) need) ∙ e))

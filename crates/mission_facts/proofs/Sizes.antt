@@ -41,7 +41,7 @@ at_number nodes test reading each id e = go (slice_get nodes id) e
 
 a_number : (n : Node) → Right (is_number n) → (v : ℕ) × (number_literal n ≡ Some v)
 unfolding is_number number_literal
-a_number (Number place value negative) e =
+a_number (Number position value negative) e =
     (value, ap (λ t. if t then None else Some value) (plain negative (and_true (not negative) _ e).0))
   where
     plain : (t : Bool) → not t ≡ true → t ≡ false
@@ -52,12 +52,12 @@ a_number _ e = absurd (true≢false (sym e))
 a_return : (nodes : List Node) (n : Node) → Right (returns_number nodes n) →
     (v : ℕ) × (number_returned nodes n ≡ Some v)
 unfolding returns_number number_returned
-a_return nodes (Return place (Some value)) e = at_number nodes is_number number_literal a_number value e
+a_return nodes (Return position (Some value)) e = at_number nodes is_number number_literal a_number value e
 a_return nodes _ e = absurd (true≢false (sym e))
 
 a_body : (nodes : List Node) (n : Node) → Right (is_size_body nodes n) → (v : ℕ) × (size_constant nodes n ≡ Some v)
 unfolding is_size_body size_constant
-a_body nodes (Block place (statement ∷ [])) e =
+a_body nodes (Block position (statement ∷ [])) e =
     at_number nodes (returns_number nodes) (number_returned nodes) (a_return nodes) statement e
 a_body nodes _ e = absurd (true≢false (sym e))
 
@@ -66,14 +66,14 @@ module _ (forest : Forest) (accepted : IsAccepted forest) (whole : IsForest fore
     abbrev p : Declarations
     p = declarations_of forest
 
-    method_form : (id result_type body : ℕ) (place : Pos) (name : List ℕ) (flags parameters : Option ℕ) →
-        type_breaks p (type_at_node p) id (MethodNode place name flags result_type parameters (Some body)) ≡ [] →
+    method_form : (id result_type body : ℕ) (position : Pos) (name : List ℕ) (flags parameters : Option ℕ) →
+        type_breaks p (type_at_node p) id (MethodNode position name flags result_type parameters (Some body)) ≡ [] →
         misfits_long p id name result_type (Some body) ≡ false
     unfolding type_breaks t1 t2 t3 t4 t5 t6 t7 t8 t9 t10 t11 t12 t13 t14
-    method_form id result_type body place name flags parameters e =
-        right (misfits_long p id name result_type (Some body)) T14 place
-        (both_empty (broken (ends_without_return p result_type body) T10 place)
-        (broken (misfits_long p id name result_type (Some body)) T14 place) e).1
+    method_form id result_type body position name flags parameters e =
+        right (misfits_long p id name result_type (Some body)) T14 position
+        (both_empty (broken (ends_without_return p result_type body) T10 position)
+        (broken (misfits_long p id name result_type (Some body)) T14 position) e).1
 
     right_body : (id b : ℕ) (name : List ℕ) → misfits_size p id name (Some b) ≡ false →
         Right (read p.nodes (is_size_body p.nodes) b)
@@ -91,18 +91,18 @@ module _ (forest : Forest) (accepted : IsAccepted forest) (whole : IsForest fore
         method_of p.nodes id node ≡ Some m → m.declared.declared_type ≡ long_type → m.body ≡ Some b →
         Right (read p.nodes (is_size_body p.nodes) b)
     unfolding method_of is_same_type
-    size_body id b (MethodNode place name flags result_type parameters (Some body)) m stands is long e =
+    size_body id b (MethodNode position name flags result_type parameters (Some body)) m stands is long e =
         let n = no_break_at_node forest accepted id
-        (MethodNode place name flags result_type parameters (Some body)) stands in
+        (MethodNode position name flags result_type parameters (Some body)) stands in
         let written : type_at p.nodes result_type ≡ long_type =
         ap (λ (m : DeclaredMethod). m.declared.declared_type) (some_inj _ m is) ∙ long in
         let same : body ≡ b =
         some_inj body b (ap (λ (m : DeclaredMethod). m.body) (some_inj _ m is) ∙ e) in
         let size : misfits_size p id name (Some body) ≡ false =
         sym (ap (λ t. is_same_type t long_type && misfits_size p id name (Some body)) written)
-        ∙ method_form id result_type body place name flags parameters n.no_type_rule in
+        ∙ method_form id result_type body position name flags parameters n.no_type_rule in
         right_body id b name (ap (λ b. misfits_size p id name (Some b)) (sym same) ∙ size)
-    size_body id b (MethodNode place name flags result_type parameters None) m stands is long e =
+    size_body id b (MethodNode position name flags result_type parameters None) m stands is long e =
         absurd (let z : None ≡ Some b = ap (λ (m : DeclaredMethod). m.body) (some_inj _ m is) ∙ e in cc (z))
     size_body id b _ m stands is long e = absurd (cc (is))
 

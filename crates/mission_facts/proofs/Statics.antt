@@ -42,12 +42,12 @@ use Rattle.mission_sound.specs.SequencerFacts.{StaticLiteralFact}
 use Rattle.accepted_laws.proofs.MethodNodes.{not_false}
 
 -- of a field that is declared with a value T7 alone is asked
-t7_alone : (p : Declarations) (types : Types) (id : ℕ) (place : Pos) (name : List ℕ) (flags : Option ℕ)
+t7_alone : (p : Declarations) (types : Types) (id : ℕ) (position : Pos) (name : List ℕ) (flags : Option ℕ)
     (declared_type value : ℕ) (equals : Pos) →
-    type_breaks p types id (Field place name flags declared_type (Some equals) (Some value)) ≡ [] →
+    type_breaks p types id (Field position name flags declared_type (Some equals) (Some value)) ≡ [] →
     misfits_initial_value p types declared_type value ≡ false
 unfolding type_breaks t1 t2 t3 t4 t5 t6 t7 t8 t9 t10 t11 t12 t13 t14
-t7_alone p types id place name flags declared_type value equals e =
+t7_alone p types id position name flags declared_type value equals e =
     right (misfits_initial_value p types declared_type value) T7 equals
     (both_empty (broken (misfits_initial_value p types declared_type value) T7 equals) [] e).0
 
@@ -67,12 +67,12 @@ module _ (forest : Forest) (accepted : IsAccepted forest) (whole : IsForest fore
     class : ℕ
     stands : FieldAt forest accepted whole sorted class d
 
-  static_at : (place : ℕ) (d : Declared) → slice_get (static_fields p) place ≡ Some d → StaticAt d
+  static_at : (index : ℕ) (d : Declared) → slice_get (static_fields p) index ≡ Some d → StaticAt d
   unfolding static_fields declared_fields
-  static_at place d e =
+  static_at index d e =
       let h =
       in_filtered (λ (f : Declared). f.modifiers.is_static) d (declared_fields p)
-      (get_in (static_fields p) place d e) in
+      (get_in (static_fields p) index d e) in
       let q = flat_in (λ (row : ClassRow). row.fields) d p.classes h in
       let k = in_get p.classes q.0 q.1 in
       record { class = k.0; stands = row_field forest accepted whole sorted k.0 q.0 d k.1 q.2 }
@@ -80,32 +80,32 @@ module _ (forest : Forest) (accepted : IsAccepted forest) (whole : IsForest fore
   -- ---- the field at its node
 
   record FieldWithLiteral (f : Declared) (value : ℕ) : Type 0 where
-    place : Pos
+    position : Pos
     name : List ℕ
     flags : Option ℕ
     declared_type : ℕ
     equals : Pos
-    is_there : slice_get nodes f.node ≡ Some (Field place name flags declared_type (Some equals) (Some value))
+    is_there : slice_get nodes f.node ≡ Some (Field position name flags declared_type (Some equals) (Some value))
     typed : declared_type_of p f ≡ written_type p declared_type
 
   field_node : (f : Declared) (value : ℕ) (node : Node) → slice_get nodes f.node ≡ Some node →
       field_of p.nodes f.node node ≡ Some f → literal_written node ≡ Some value → has_right_operator node ≡ true →
       FieldWithLiteral f value
   unfolding field_of literal_written has_right_operator
-  field_node f value (Field place name flags declared_type (Some equals) (Some own)) there is written e =
+  field_node f value (Field position name flags declared_type (Some equals) (Some own)) there is written e =
       let same : own ≡ value = some_inj own value written in
       record {
-        place = place;
+        position = position;
         name = name;
         flags = flags;
         declared_type = declared_type;
         equals = equals;
-        is_there = there ∙ ap (λ v. Some (Field place name flags declared_type (Some equals) (Some v))) same;
+        is_there = there ∙ ap (λ v. Some (Field position name flags declared_type (Some equals) (Some v))) same;
         typed = ap (declared_type_of p) (sym (some_inj _ f is));
       }
-  field_node f value (Field place name flags declared_type None (Some own)) there is written e =
+  field_node f value (Field position name flags declared_type None (Some own)) there is written e =
       absurd (true≢false (sym e))
-  field_node f value (Field place name flags declared_type equals None) there is written e = absurd (cc (written))
+  field_node f value (Field position name flags declared_type equals None) there is written e = absurd (cc (written))
   field_node f value _ there is written e = absurd (cc (is))
 
   field_there : (f : Declared) (value : ℕ) → field_at p.nodes f.node ≡ Some f → field_literal p f ≡ Some value →
@@ -125,9 +125,9 @@ module _ (forest : Forest) (accepted : IsAccepted forest) (whole : IsForest fore
       not_false (assigns p.classes u t)
       (sym (ap (λ (o : Option Ty). holds o (λ t. holds (types value) (λ v. not (assigns p.classes v t))))
       (sym x.typed ∙ typed) ∙ ap (λ (o : Option Ty). holds o (λ v. not (assigns p.classes v t))) e)
-      ∙ t7_alone p types f.node x.place x.name x.flags x.declared_type value x.equals
+      ∙ t7_alone p types f.node x.position x.name x.flags x.declared_type value x.equals
       (unbroken forest accepted whole sorted f.node
-      (Field x.place x.name x.flags x.declared_type (Some x.equals) (Some value)) x.is_there))
+      (Field x.position x.name x.flags x.declared_type (Some x.equals) (Some value)) x.is_there))
 
   -- the scope of a field of reference type
   scoped : (class : ℕ) (d : Declared) (t : Ty) → FieldAt forest accepted whole sorted class d →
@@ -137,18 +137,18 @@ module _ (forest : Forest) (accepted : IsAccepted forest) (whole : IsForest fore
       field_has_scope forest accepted whole sorted class d.node n.0 d n.1 n.2 s.stands_in_class
       (reference_has_scope p.names d.declared_type t typed r)
 
-  pub static_literal : (place : ℕ) (d : Declared) (id : ℕ) → slice_get (static_fields p) place ≡ Some d →
+  pub static_literal : (index : ℕ) (d : Declared) (id : ℕ) → slice_get (static_fields p) index ≡ Some d →
       field_literal p d ≡ Some id → StaticLiteralFact (code_of forest) d id
   unfolding HasRightChildren kind_of_field code_of
-  static_literal place d value e written =
-      let a = static_at place d e in
+  static_literal index d value e written =
+      let a = static_at index d e in
       let s = a.stands in
       let x = field_there d value s.is_there written in
       let t = field_has_type forest accepted sorted d.node d s.is_there in
       let v = field_holds forest sorted d.node d t.0 s.is_there t.1 in
       let k = has_kind t.0 (field_scope p a.class d) v (scoped a.class d t.0 s t.1) in
       let o =
-      (sorted.each d.node (Field x.place x.name x.flags x.declared_type (Some x.equals) (Some value)) x.is_there).2
+      (sorted.each d.node (Field x.position x.name x.flags x.declared_type (Some x.equals) (Some value)) x.is_there).2
       in
       let l =
       literal_of p types value o.node t.0 o.passes

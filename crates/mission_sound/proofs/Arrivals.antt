@@ -120,8 +120,8 @@ module _ (code : Code) where
       Settled code (for_each (fired_at code fires) places s).state
   unfolding for_each
   fires_settled fires [] s settled = settled
-  fires_settled fires (place ∷ places) s settled =
-      fires_settled fires places (fired_at code fires s place).state (one (slice_get fires place))
+  fires_settled fires (index ∷ places) s settled =
+      fires_settled fires places (fired_at code fires s index).state (one (slice_get fires index))
     where
       one : (o : Option Fire) →
           Settled code (elim o as (λ z. Step) [ None ↦ silently s | Some fire ↦ fired code s fire ]).state

@@ -26,33 +26,33 @@ module _ (s : State) (new : Release) (waits : activity_in new.status ≡ None) w
       activity_of s job ≡ Some activity
   unfolding activity_of
   was_under_way TheSequencer activity e = e
-  was_under_way (ReleaseAt place) activity e = go (slice_get with_release.releases place) refl e
+  was_under_way (ReleaseAt index) activity e = go (slice_get with_release.releases index) refl e
     where
       old : (r : Release) → activity_in r.status ≡ Some activity →
-          (slice_get s.releases place ≡ Some r) ⊎ (new ≡ r) →
-          slice_get s.releases place >>= (λ r. activity_in r.status) ≡ Some activity
+          (slice_get s.releases index ≡ Some r) ⊎ (new ≡ r) →
+          slice_get s.releases index >>= (λ r. activity_in r.status) ≡ Some activity
       old r e (inl there) = ap (λ (o : Option Release). o >>= (λ r. activity_in r.status)) there ∙ e
       old r e (inr same) =
           absurd (let x : None ≡ Some activity = sym waits ∙ (ap (λ (r : Release). activity_in r.status) same ∙ e) in
           cc (x))
 
-      go : (o : Option Release) → slice_get with_release.releases place ≡ o →
+      go : (o : Option Release) → slice_get with_release.releases index ≡ o →
           o >>= (λ r. activity_in r.status) ≡ Some activity →
-          slice_get s.releases place >>= (λ r. activity_in r.status) ≡ Some activity
+          slice_get s.releases index >>= (λ r. activity_in r.status) ≡ Some activity
       go None there e = absurd (cc (e))
-      go (Some r) there e = old r e (get_either s.releases new place r there)
+      go (Some r) there e = old r e (get_either s.releases new index r there)
 
   still_under_way : (job : Job) (activity : Activity) → activity_of s job ≡ Some activity →
       activity_of with_release job ≡ Some activity
   unfolding activity_of
   still_under_way TheSequencer activity e = e
-  still_under_way (ReleaseAt place) activity e = go (slice_get s.releases place) refl e
+  still_under_way (ReleaseAt index) activity e = go (slice_get s.releases index) refl e
     where
-      go : (o : Option Release) → slice_get s.releases place ≡ o → o >>= (λ r. activity_in r.status) ≡ Some activity →
-          slice_get with_release.releases place >>= (λ r. activity_in r.status) ≡ Some activity
+      go : (o : Option Release) → slice_get s.releases index ≡ o → o >>= (λ r. activity_in r.status) ≡ Some activity →
+          slice_get with_release.releases index >>= (λ r. activity_in r.status) ≡ Some activity
       go None there e = absurd (cc (e))
       go (Some r) there e =
-          ap (λ (o : Option Release). o >>= (λ r. activity_in r.status)) (get_left s.releases (new ∷ []) place r there)
+          ap (λ (o : Option Release). o >>= (λ r. activity_in r.status)) (get_left s.releases (new ∷ []) index r there)
           ∙ e
 
   opened_before : (a : ℕ) (job : Job) → IsOpenedBy with_release a job → IsOpenedBy s a job
@@ -64,7 +64,7 @@ module _ (s : State) (new : Release) (waits : activity_in new.status ≡ None) w
       record {
         memory = record { areas = m.memory.areas; heap = m.memory.heap; statics = m.memory.statics };
         jobs = λ job activity is. m.jobs job activity (was_under_way job activity is);
-        have_frames = λ place activity is. m.have_frames place activity (was_under_way (ReleaseAt place) activity is);
+        have_frames = λ index activity is. m.have_frames index activity (was_under_way (ReleaseAt index) activity is);
         owned = λ a x there opens.
             elim (m.owned a x there opens) as
             (λ z. (is_among a (areas_of base) ≡ true) ⊎ IsPrivate code with_release a x) [

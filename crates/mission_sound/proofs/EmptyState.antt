@@ -47,10 +47,10 @@ literal_as j k u v e f h =
 literal_is : (node : Node) (j : Kind) (v : Value) → kind_of_literal node ≡ Some j → literal_value node ≡ Some v →
     IsLiteral j v
 unfolding kind_of_literal literal_value
-literal_is (NumberNode place value is_negative) j v e f = literal_as j number _ v e f (_, refl)
-literal_is (TrueNode place) j v e f = literal_as j yes (Truth true) v e f refl
-literal_is (FalseNode place) j v e f = literal_as j truth (Truth false) v e f (false, refl)
-literal_is (NullNode place) j v e f = literal_as j (reference NullTy Any) Null v e f refl
+literal_is (NumberNode position value is_negative) j v e f = literal_as j number _ v e f (_, refl)
+literal_is (TrueNode position) j v e f = literal_as j yes (Truth true) v e f refl
+literal_is (FalseNode position) j v e f = literal_as j truth (Truth false) v e f (false, refl)
+literal_is (NullNode position) j v e f = literal_as j (reference NullTy Any) Null v e f refl
 literal_is _ j v e f = absurd (cc (e))
 
 module _ (p : Declarations) (w : World) (den : Scope → Place) where
@@ -65,10 +65,10 @@ module _ (p : Declarations) (w : World) (den : Scope → Place) where
 -- ---- static fields before the run
 
 module _ (code : Code) (facts : SequencerFacts code) (w : World) (den : Scope → Place) where
-  first_has : (place : ℕ) (d : Declared) (k : Kind) → slice_get (static_fields code.program) place ≡ Some d →
+  first_has : (index : ℕ) (d : Declared) (k : Kind) → slice_get (static_fields code.program) index ≡ Some d →
       kind_of_field code.program d ≡ Some k → Has code.program w (held den k) (first_static code d)
   unfolding first_static kind_of_field
-  first_has place d k there is = go (field_literal code.program d) refl
+  first_has index d k there is = go (field_literal code.program d) refl
     where
       begins : Has code.program w (held den k) (default_value (kind_of_type d.declared_type))
       begins =
@@ -79,7 +79,7 @@ module _ (code : Code) (facts : SequencerFacts code) (w : World) (den : Scope �
           slice_get code.program.nodes id ≡ Some node → (value : Value) → literal_value node ≡ Some value →
           Has code.program w (held den k) value
       valued id e node f value g =
-          let l = facts.statics place d id there e in
+          let l = facts.statics index d id there e in
           let same : l.kind ≡ k = some_inj l.kind k (sym l.is_kind ∙ is) in
           subst (λ k. Has code.program w (held den k) value) same
           (fitting_has code.program w den l.literal l.kind value l.fit
@@ -114,19 +114,19 @@ module _ (code : Code) (facts : SequencerFacts code) (w : World) (den : Scope �
   get_mapped (x ∷ ds) zero d e = ap (λ o. Some (first_static code o)) (some_inj x d e)
   get_mapped (x ∷ ds) (suc i) d e = get_mapped ds i d e
 
-  first_fine : (place : ℕ) (k : Kind) → kind_of_static code.program place ≡ Some k →
-      (value : Value) × (slice_get (map (first_static code) (static_fields code.program)) place ≡ Some value)
+  first_fine : (index : ℕ) (k : Kind) → kind_of_static code.program index ≡ Some k →
+      (value : Value) × (slice_get (map (first_static code) (static_fields code.program)) index ≡ Some value)
       × Has code.program w (held den k) value
   unfolding kind_of_static
-  first_fine place k is = go (slice_get (static_fields code.program) place) refl is
+  first_fine index k is = go (slice_get (static_fields code.program) index) refl is
     where
-      go : (o : Option Declared) → slice_get (static_fields code.program) place ≡ o →
+      go : (o : Option Declared) → slice_get (static_fields code.program) index ≡ o →
           o >>= kind_of_field code.program ≡ Some k →
-          (value : Value) × (slice_get (map (first_static code) (static_fields code.program)) place ≡ Some value)
+          (value : Value) × (slice_get (map (first_static code) (static_fields code.program)) index ≡ Some value)
           × Has code.program w (held den k) value
       go None there e = absurd (cc (e))
       go (Some d) there e =
-          (first_static code d, get_mapped (static_fields code.program) place d there, first_has place d k there e)
+          (first_static code d, get_mapped (static_fields code.program) index d there, first_has index d k there e)
 
 -- ---- the empty state
 
@@ -140,7 +140,7 @@ empty_is_settled code plan facts =
           memory = record {
             areas = record { parents = λ a x there. absurd (cc (there)); reach = λ a n x there h. absurd (cc (there)) };
             heap = λ r o there. absurd (cc (there));
-            statics = λ place k is. statics place k is;
+            statics = λ index k is. statics index k is;
           };
           job = record { is_list = refl; frames = tt };
           none_started = refl;
@@ -161,7 +161,7 @@ empty_is_settled code plan facts =
         };
         handlers = record {
           rows = λ k row there. absurd (cc (there));
-          handled = λ place r there h. absurd (cc (there));
+          handled = λ index r there h. absurd (cc (there));
           none_started = λ h. refl;
           none_waits = λ h. refl;
         };
@@ -169,9 +169,9 @@ empty_is_settled code plan facts =
       followed = refl;
     }
   where
-    statics : (place : ℕ) (k : Kind) → kind_of_static code.program place ≡ Some k →
-        StaticFine code.program (world_of (empty_state code plan)) (empty_state code plan).statics place k
-    statics place k is =
+    statics : (index : ℕ) (k : Kind) → kind_of_static code.program index ≡ Some k →
+        StaticFine code.program (world_of (empty_state code plan)) (empty_state code plan).statics index k
+    statics index k is =
         let x = first_fine code facts (world_of (empty_state code plan))
-        (within (world_of (empty_state code plan)).areas 0) place k is in
+        (within (world_of (empty_state code plan)).areas 0) index k is in
         record { value = x.0; is = x.1; has = x.2 }

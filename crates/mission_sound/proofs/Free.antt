@@ -101,7 +101,7 @@ module _ (code : Code) (s : State) (f : Free code s) where
             };
             handlers = record {
               rows = rows;
-              handled = λ place r there h. absurd (none_left s place r none_started none_waits there h);
+              handled = λ position r there h. absurd (none_left s position r none_started none_waits there h);
               none_started = λ e. none_started;
               none_waits = λ e. none_waits;
             };
@@ -116,9 +116,9 @@ module _ (code : Code) (s : State) (f : Free code s) where
         q = f.invariant.sequencer
 
   -- a fault in its place
-  pub fails : (place : Pos) (fault : RunFault) →
-      AfterOperation code (fault_in s TheSequencer s.activity place fault).state
-  fails place fault = faults code s s.activity place fault f.invariant f.outside
+  pub fails : (position : Pos) (fault : RunFault) →
+      AfterOperation code (fault_in s TheSequencer s.activity position fault).state
+  fails position fault = faults code s s.activity position fault f.invariant f.outside
 
   -- without the memory of a mission there is no row
   pub no_rows : f.invariant.base ≡ in_immortal → (k : ℕ) (row : HandlerRow) →
@@ -129,14 +129,14 @@ module _ (code : Code) (s : State) (f : Free code s) where
 
   -- ---- an area is opened
 
-  module _ (place : Pos) (scope bytes : ℕ) (list : List ℕ) (is : s.activity.areas ≡ list) where
+  module _ (position : Pos) (scope bytes : ℕ) (list : List ℕ) (is : s.activity.areas ≡ list) where
     abbrev pub new_area : MemoryArea
     new_area = record { scope = scope; parent = innermost list; bytes = bytes; is_open = true }
 
     abbrev pub opened : State
     opened = done_with (s.areas ++ new_area ∷ []) s.objects (length s.areas ∷ list) Null
 
-    pub opens : AfterOperation code opened → Operates code (Some (area_opened s place scope bytes))
+    pub opens : AfterOperation code opened → Operates code (Some (area_opened s position scope bytes))
     unfolding area_opened opening
     opens after =
         subst (λ (list : List ℕ). Operates code (Some (if has_store_for s bytes
@@ -144,13 +144,13 @@ module _ (code : Code) (s : State) (f : Free code s) where
           activity = record s.activity { areas = length s.areas ∷ list };
           outcome = Some Null;
         })
-        else fault_in s TheSequencer s.activity place StoreFull))) (sym is) (go (has_store_for s bytes))
+        else fault_in s TheSequencer s.activity position StoreFull))) (sym is) (go (has_store_for s bytes))
       where
         go : (b : Bool) → Operates code (Some (if b
             then silently (record (with_area s scope (innermost list) bytes) {
               activity = record s.activity { areas = length s.areas ∷ list };
               outcome = Some Null;
             })
-            else fault_in s TheSequencer s.activity place StoreFull))
+            else fault_in s TheSequencer s.activity position StoreFull))
         go true = record { step = _; is = refl; after = after }
-        go false = record { step = _; is = refl; after = fails place StoreFull }
+        go false = record { step = _; is = refl; after = fails position StoreFull }

@@ -84,17 +84,17 @@ module _ (code : Code) (base : Base) where
   Outside TheSequencer s = is_exec s.phase ≡ false
   Outside (ReleaseAt n) s = Unit {0}
 
-  pub fault_handled : (s : State) (job : Job) (activity : Activity) (place : Pos) (fault : RunFault) → Outside job s →
-      Handlers s → Handlers (fault_in s job activity place fault).state
+  pub fault_handled : (s : State) (job : Job) (activity : Activity) (position : Pos) (fault : RunFault) → Outside job s →
+      Handlers s → Handlers (fault_in s job activity position fault).state
   unfolding fault_in
-  fault_handled s TheSequencer activity place fault e h =
+  fault_handled s TheSequencer activity position fault e h =
       record {
         rows = h.rows;
         handled = h.handled;
         none_started = λ x. h.none_started e;
         none_waits = λ x. h.none_waits (takes_none s e);
       }
-  fault_handled s (ReleaseAt n) activity place fault e h =
+  fault_handled s (ReleaseAt n) activity position fault e h =
       ends (closed_all s activity.frames) n (closes_all s activity.frames h)
 
   -- ---- what is asked of the mission
@@ -149,31 +149,31 @@ module _ (code : Code) (base : Base) where
   same_objects s TheSequencer a = refl
   same_objects s (ReleaseAt n) a = refl
 
-  pub registration_asked : (s : State) (job : Job) (activity : Activity) (place : Pos) (r : ℕ) (o : Object)
+  pub registration_asked : (s : State) (job : Job) (activity : Activity) (position : Pos) (r : ℕ) (o : Object)
       (after : State) → Outside job s → Handlers s → Handlers after →
       (is_init s.phase ≡ true → RowFine code.program (world_of after) base (new_row code.program r o)) →
-      Handlers (registered code s job activity place r o after).state
+      Handlers (registered code s job activity position r o after).state
   unfolding registered
-  registration_asked s job activity place r o after outside h later row = go (is_init s.phase) refl
+  registration_asked s job activity position r o after outside h later row = go (is_init s.phase) refl
     where
       event : List Event
       event = Register s.unit (length s.registry + 1) (class_name code o.class) (new_row code.program r o).priority ∷ []
 
-      added : is_init s.phase ≡ true → (b : Bool) → Handlers (if b then fault_in s job activity place TooManyHandlers
+      added : is_init s.phase ≡ true → (b : Bool) → Handlers (if b then fault_in s job activity position TooManyHandlers
           else telling (record after { registry = after.registry ++ new_row code.program r o ∷ [] }) event).state
-      added e true = fault_handled s job activity place TooManyHandlers outside h
+      added e true = fault_handled s job activity position TooManyHandlers outside h
       added e false = row_added code base after (new_row code.program r o) (row e) later
 
       known : is_init s.phase ≡ true → (b : Bool) → Handlers (if b then silently after
-          else (if not (nat_lt (length s.registry) most_handlers) then fault_in s job activity place TooManyHandlers
+          else (if not (nat_lt (length s.registry) most_handlers) then fault_in s job activity position TooManyHandlers
           else telling (record after { registry = after.registry ++ new_row code.program r o ∷ [] }) event)).state
       known e true = later
       known e false = added e (not (nat_lt (length s.registry) most_handlers))
 
       go : (b : Bool) → is_init s.phase ≡ b →
-          Handlers (if not b then fault_in s job activity place NotInitializing
+          Handlers (if not b then fault_in s job activity position NotInitializing
           else (if is_some (handler_number s.registry r) then silently after
-          else (if not (nat_lt (length s.registry) most_handlers) then fault_in s job activity place TooManyHandlers
+          else (if not (nat_lt (length s.registry) most_handlers) then fault_in s job activity position TooManyHandlers
           else telling (record after { registry = after.registry ++ new_row code.program r o ∷ [] }) event))).state
       go true e = known e (is_some (handler_number s.registry r))
-      go false e = fault_handled s job activity place NotInitializing outside h
+      go false e = fault_handled s job activity position NotInitializing outside h

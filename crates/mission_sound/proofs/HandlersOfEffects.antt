@@ -29,18 +29,18 @@ pub record HandlersIf (code : Code) (base : Base) (o : Option Step) : Type 0 whe
 
 module _ (code : Code) (base : Base) (s : State) (job : Job) (activity : Activity)
     (acts : activity_of s job ≡ Some activity) (outside : Outside code base job s) (h : HandlersFine code s base)
-    (below : List Frame) (place : Pos) where
+    (below : List Frame) (position : Pos) where
   abbrev Handlers : State → Type 0
   Handlers t = HandlersFine code t base
 
   abbrev Kept : Effect → Type 0
-  Kept e = HandlersIf code base (applied code s job activity below place e)
+  Kept e = HandlersIf code base (applied code s job activity below position e)
 
   some_if : (step : Step) → Handlers step.state → HandlersIf code base (Some step)
   some_if step k = record { is = λ q e. subst (λ (x : Step). Handlers x.state) (some_inj step q e) k }
 
-  fault : (f : RunFault) → Handlers (fault_in s job activity place f).state
-  fault f = fault_handled code base s job activity place f outside h
+  fault : (f : RunFault) → Handlers (fault_in s job activity position f).state
+  fault f = fault_handled code base s job activity position f outside h
 
   -- the job goes on in a state with other memory
   moves : (t : State) → t.releases ≡ s.releases → t.activity ≡ s.activity → Handlers t → (a : Activity) →
@@ -62,7 +62,7 @@ module _ (code : Code) (base : Base) (s : State) (job : Job) (activity : Activit
       go : (b : Bool) → HandlersIf code base (Some (if b
           then silently
           (with_frame made job activity (record f { operands = At (length s.objects) ∷ f.operands }) below)
-          else fault_in s job activity place MemoryFull))
+          else fault_in s job activity position MemoryFull))
       go true =
           some_if _ (moves made refl refl (handlers_stay code base s made
           (new_is_kept (world_of s).areas s.objects (new_object class f.area slots)) h) _)
@@ -93,7 +93,7 @@ module _ (code : Code) (base : Base) (s : State) (job : Job) (activity : Activit
           then Some
           (silently
           (with_frame (record s { objects = changed (with_ceiling ceiling) r s.objects }) job activity f below))
-          else Some (fault_in s job activity place NotInitializing))
+          else Some (fault_in s job activity position NotInitializing))
       go true =
           some_if _ (moves (record s { objects = changed (with_ceiling ceiling) r s.objects }) refl refl
           (changes (with_ceiling ceiling) (λ o. refl) (λ o. refl) r) _)
@@ -113,7 +113,7 @@ module _ (code : Code) (base : Base) (s : State) (job : Job) (activity : Activit
   calls f g = go (is_full (f ∷ below)) (ceiling_entered code s g)
     where
       entered : (ceiling : ℕ) (b : Bool) (events : List Event) → HandlersIf code base (Some (if b
-          then fault_in s job activity place CeilingViolation
+          then fault_in s job activity position CeilingViolation
           else telling
           (with_activity s job (record activity {
             frames = record g { saved = Some activity.priority } ∷ (f ∷ below);
@@ -122,11 +122,11 @@ module _ (code : Code) (base : Base) (s : State) (job : Job) (activity : Activit
       entered ceiling true events = some_if _ (fault CeilingViolation)
       entered ceiling false events = some_if _ (here _)
 
-      go : (b : Bool) (o : Option ℕ) → HandlersIf code base (Some (if b then fault_in s job activity place DepthFull
+      go : (b : Bool) (o : Option ℕ) → HandlersIf code base (Some (if b then fault_in s job activity position DepthFull
           else (elim o as (λ z. Step) [
             | None ↦ silently (with_activity s job (record activity { frames = g ∷ (f ∷ below) }))
             | Some ceiling ↦
-                if nat_lt ceiling activity.priority then fault_in s job activity place CeilingViolation
+                if nat_lt ceiling activity.priority then fault_in s job activity position CeilingViolation
                 else telling
                 (with_activity s job (record activity {
                   frames = record g { saved = Some activity.priority } ∷ (f ∷ below);
@@ -146,12 +146,12 @@ module _ (code : Code) (base : Base) (s : State) (job : Job) (activity : Activit
       opened : State
       opened = with_area s scope (Some g.area) bytes
 
-      go : (a b c : Bool) → HandlersIf code base (Some (if a then fault_in s job activity place ScopedCycle
-          else (if b then fault_in s job activity place DepthFull
+      go : (a b c : Bool) → HandlersIf code base (Some (if a then fault_in s job activity position ScopedCycle
+          else (if b then fault_in s job activity position DepthFull
           else (if c then silently (with_activity opened job (record activity {
             frames = record g { area = length s.areas; opened = Some (length s.areas) } ∷ (f ∷ below);
             areas = length s.areas ∷ activity.areas;
-          })) else fault_in s job activity place StoreFull))))
+          })) else fault_in s job activity position StoreFull))))
       go true b c = some_if _ (fault ScopedCycle)
       go false true c = some_if _ (fault DepthFull)
       go false false true =
@@ -207,10 +207,10 @@ module _ (code : Code) (base : Base) (s : State) (job : Job) (activity : Activit
       after = with_frame s job activity f below
 
       go : (o : Option Object) → object_at s r ≡ o → HandlersIf code base
-          (option_map (λ (o : Object). registered code s job activity place r o after) o)
+          (option_map (λ (o : Object). registered code s job activity position r o after) o)
       go None there = record { is = λ q e. absurd (cc (e)) }
       go (Some o) there =
-          some_if _ (registration_asked code base s job activity place r o after outside h (here _)
+          some_if _ (registration_asked code base s job activity position r o after outside h (here _)
           (λ e. row_kept code.program (world_of s) (world_of after)
           (objects_same code base s after (same_objects code base s job (record activity { frames = f ∷ below }))) base
           (new_row code.program r o) (row o there e)))

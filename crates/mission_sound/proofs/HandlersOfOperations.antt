@@ -55,7 +55,7 @@ handlers_of_operation code base rows s job activity acts outside h registers = f
 
 -- ---- START
 
-module _ (code : Code) (base : Base) (s : State) (place : ℕ) (r : Release) (there : slice_get s.releases place ≡ Some r)
+module _ (code : Code) (base : Base) (s : State) (index : ℕ) (r : Release) (there : slice_get s.releases index ≡ Some r)
     (waits : r.status ≡ Waits) (exec : is_exec s.phase ≡ true) (h : HandlersFine code s base) where
   bind_if : {A : Type 0} (o : Option A) (next : A → Option Step) → ((a : A) → HandlersIf code base (next a)) →
       HandlersIf code base (o >>= next)
@@ -67,17 +67,17 @@ module _ (code : Code) (base : Base) (s : State) (place : ℕ) (r : Release) (th
   waits_live = ap is_live waits
 
   starts : (t : State) → t.releases ≡ s.releases → is_exec t.phase ≡ true → HandlersFine code t base → (a : Activity) →
-      HandlersFine code (with_activity t (ReleaseAt place) a) base
+      HandlersFine code (with_activity t (ReleaseAt index) a) base
   unfolding with_activity is_waiting
   starts t e x k a =
-      status_changes code base t place (Started a) refl
-      (λ q found alive. (let same : r ≡ q = some_inj r q (sym there ∙ (sym (ap (λ rs. slice_get rs place) e) ∙ found))
+      status_changes code base t index (Started a) refl
+      (λ q found alive. (let same : r ≡ q = some_inj r q (sym there ∙ (sym (ap (λ rs. slice_get rs index) e) ∙ found))
       in
       subst (λ (q : Release). is_live q.status ≡ true) same waits_live))
       (λ f. absurd (true≢false (sym x ∙ f))) k
 
   started_if : (row : HandlerRow) (scope : ℕ) (body : Body) →
-      HandlersIf code base (Some (started_with code s place row scope body))
+      HandlersIf code base (Some (started_with code s index row scope body))
   unfolding started_with opening
   started_if row scope body = go (has_store_for s row.bytes)
     where
@@ -100,15 +100,15 @@ module _ (code : Code) (base : Base) (s : State) (place : ℕ) (r : Release) (th
       some_if : (step : Step) → HandlersFine code step.state base → HandlersIf code base (Some step)
       some_if step k = record { is = λ q e. subst (λ (x : Step). HandlersFine code x.state base) (some_inj step q e) k }
 
-      go : (b : Bool) → HandlersIf code base (Some (if b then silently (with_activity opened (ReleaseAt place) activity)
-          else fault_in s (ReleaseAt place) no_activity at StoreFull))
+      go : (b : Bool) → HandlersIf code base (Some (if b then silently (with_activity opened (ReleaseAt index) activity)
+          else fault_in s (ReleaseAt index) no_activity at StoreFull))
       go true =
           some_if _
           (starts opened refl exec (handlers_stay code base s opened (objects_same code base s opened refl) h)
           activity)
-      go false = some_if _ (fault_handled code base s (ReleaseAt place) no_activity at StoreFull tt h)
+      go false = some_if _ (fault_handled code base s (ReleaseAt index) no_activity at StoreFull tt h)
 
-  pub handlers_of_start : HandlersIf code base (start_op code s place r)
+  pub handlers_of_start : HandlersIf code base (start_op code s index r)
   unfolding start_op
   handlers_of_start =
       bind_if (handler_row s.registry r.handler) _ (λ row. bind_if (defined_by_chain code.program row.class) _ (λ scope.
@@ -128,8 +128,8 @@ operation_handled code base rows s job activity step acts outside h registers e 
     is_outside TheSequencer k = k refl
     is_outside (ReleaseAt n) k = tt
 
-pub start_handled : (code : Code) (base : Base) (s : State) (place : ℕ) (r : Release) (step : Step) →
-    slice_get s.releases place ≡ Some r → r.status ≡ Waits → is_exec s.phase ≡ true → HandlersFine code s base →
-    start_op code s place r ≡ Some step → HandlersFine code step.state base
-start_handled code base s place r step there waits exec h e =
-    (handlers_of_start code base s place r there waits exec h).is step e
+pub start_handled : (code : Code) (base : Base) (s : State) (index : ℕ) (r : Release) (step : Step) →
+    slice_get s.releases index ≡ Some r → r.status ≡ Waits → is_exec s.phase ≡ true → HandlersFine code s base →
+    start_op code s index r ≡ Some step → HandlersFine code step.state base
+start_handled code base s index r step there waits exec h e =
+    (handlers_of_start code base s index r there waits exec h).is step e

@@ -34,21 +34,21 @@ none_passes test (y ∷ xs) (suc i) x e there =
 
 -- ---- without a started release
 
-pub not_under_way : (s : State) → has_started s ≡ false → (place : ℕ) (activity : Activity) →
-    activity_of s (ReleaseAt place) ≡ Some activity → ⊥
+pub not_under_way : (s : State) → has_started s ≡ false → (index : ℕ) (activity : Activity) →
+    activity_of s (ReleaseAt index) ≡ Some activity → ⊥
 unfolding activity_of activity_in is_started
-not_under_way s none place activity e = go (slice_get s.releases place) refl e
+not_under_way s none index activity e = go (slice_get s.releases index) refl e
   where
-    by_status : (r : Release) → slice_get s.releases place ≡ Some r → (status : ReleaseStatus) → r.status ≡ status →
+    by_status : (r : Release) → slice_get s.releases index ≡ Some r → (status : ReleaseStatus) → r.status ≡ status →
         activity_in status ≡ Some activity → ⊥
     by_status r there Waits is e = cc (e)
     by_status r there (Started a) is e =
         true≢false (sym (ap is_started is)
-        ∙ none_passes (λ (r : Release). is_started r.status) s.releases place r none there)
+        ∙ none_passes (λ (r : Release). is_started r.status) s.releases index r none there)
     by_status r there Ended is e = cc (e)
     by_status r there Dropped is e = cc (e)
 
-    go : (o : Option Release) → slice_get s.releases place ≡ o → o >>= (λ r. activity_in r.status) ≡ Some activity → ⊥
+    go : (o : Option Release) → slice_get s.releases index ≡ o → o >>= (λ r. activity_in r.status) ≡ Some activity → ⊥
     go None there e = cc (e)
     go (Some r) there e = by_status r there r.status refl e
 
@@ -64,7 +64,7 @@ nobody_opened s none opened a TheSequencer o =
     true≢false (sym o.on_list
     ∙ (ap (λ (x : Activity). is_among a (list_of [] x.frames)) (sym (sequencer_activity s o.activity o.is))
     ∙ ap (is_among a) opened))
-nobody_opened s none opened a (ReleaseAt place) o = not_under_way s none place o.activity o.is
+nobody_opened s none opened a (ReleaseAt index) o = not_under_way s none index o.activity o.is
 
 -- no release is started, and the frames of the sequencer have opened nothing
 pub record Quiet (code : Code) (s : State) (base : Base) : Type 0 where
@@ -82,7 +82,7 @@ quiet_is_fine code s base q =
     record {
       memory = q.memory;
       jobs = jobs;
-      have_frames = λ place activity is. absurd (not_under_way s q.none_started place activity is);
+      have_frames = λ index activity is. absurd (not_under_way s q.none_started index activity is);
       owned = λ a x there opens. inl (q.only_base a x there opens);
       apart = λ a job other h k. absurd (nobody_opened s q.none_started q.none_opened a job h);
       nested = q.nested;
@@ -92,7 +92,7 @@ quiet_is_fine code s base q =
         JobFine code (world_of s) (areas_of base) activity
     jobs TheSequencer activity is =
         subst (JobFine code (world_of s) (areas_of base)) (sequencer_activity s activity is) q.job
-    jobs (ReleaseAt place) activity is = absurd (not_under_way s q.none_started place activity is)
+    jobs (ReleaseAt index) activity is = absurd (not_under_way s q.none_started index activity is)
 
 pub sequencer_fine : (code : Code) (s : State) (base : Base) → MemoriesFine code s base →
     JobFine code (world_of s) (areas_of base) s.activity
@@ -142,7 +142,7 @@ module _ (s t : State) where
       record {
         memory = record { areas = m.memory.areas; heap = m.memory.heap; statics = m.memory.statics };
         jobs = λ job activity is. m.jobs job activity (sym (same_job job) ∙ is);
-        have_frames = λ place activity is. m.have_frames place activity (sym (same_job (ReleaseAt place)) ∙ is);
+        have_frames = λ index activity is. m.have_frames index activity (sym (same_job (ReleaseAt index)) ∙ is);
         owned = λ a x there opens.
             elim (m.owned a x there opens) as (λ z. (is_among a (areas_of base) ≡ true) ⊎ IsPrivate code gone_on a x) [
               | inl on ↦ inl on

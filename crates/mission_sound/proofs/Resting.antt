@@ -29,13 +29,13 @@ pub takes_none : (s : State) → is_exec s.phase ≡ false → takes_releases s 
 takes_none s e = ap (λ (b : Bool). b && not s.is_end_asked) e
 
 -- no release waits or is started
-pub none_left : (s : State) (place : ℕ) (r : Release) → has_started s ≡ false → has_waiting s ≡ false →
-    slice_get s.releases place ≡ Some r → (is_waiting r.status || is_started r.status) ≡ true → ⊥
-none_left s place r started waiting there h =
+pub none_left : (s : State) (index : ℕ) (r : Release) → has_started s ≡ false → has_waiting s ≡ false →
+    slice_get s.releases index ≡ Some r → (is_waiting r.status || is_started r.status) ≡ true → ⊥
+none_left s index r started waiting there h =
     true≢false (sym h
     ∙ (ap (λ (b : Bool). b || is_started r.status)
-    (none_passes (λ (r : Release). is_waiting r.status) s.releases place r waiting there)
-    ∙ none_passes (λ (r : Release). is_started r.status) s.releases place r started there))
+    (none_passes (λ (r : Release). is_waiting r.status) s.releases index r waiting there)
+    ∙ none_passes (λ (r : Release). is_started r.status) s.releases index r started there))
 
 -- the sequencer's base stands as it stood
 pub base_stays : (code : Code) (s t : State) (base : Base) → BaseFine code s base →
@@ -118,8 +118,8 @@ halts code s i e =
       };
     }
 
-pub faults : (code : Code) (s : State) (activity : Activity) (place : Pos) (fault : RunFault) → Invariant code s →
-    is_exec s.phase ≡ false → AfterOperation code (fault_in s TheSequencer activity place fault).state
+pub faults : (code : Code) (s : State) (activity : Activity) (position : Pos) (fault : RunFault) → Invariant code s →
+    is_exec s.phase ≡ false → AfterOperation code (fault_in s TheSequencer activity position fault).state
 unfolding fault_in
-faults code s activity place fault i e =
+faults code s activity position fault i e =
     record { invariant = halts code s i e; done = λ value x. absurd (cc (x)) }

@@ -62,7 +62,7 @@ pub record MemoriesFine (code : Code) (s : State) (base : Base) : Type 0 where
   -- the list of each job is the sequencer's without frames, behind the areas that the job's frames opened
   pub jobs : (job : Job) (activity : Activity) → activity_of s job ≡ Some activity →
       JobFine code (world_of s) (areas_of base) activity
-  pub have_frames : (place : ℕ) (activity : Activity) → activity_of s (ReleaseAt place) ≡ Some activity →
+  pub have_frames : (index : ℕ) (activity : Activity) → activity_of s (ReleaseAt index) ≡ Some activity →
       HasFrame activity
   -- each open area is immortal memory, the mission's memory, or a private memory, of one job
   pub owned : (a : ℕ) (x : MemoryArea) → area_at s a ≡ Some x → x.is_open ≡ true →
@@ -167,7 +167,7 @@ pub record HandlersFine (code : Code) (s : State) (base : Base) : Type 0 where
   pub rows : (k : ℕ) (row : HandlerRow) → slice_get s.registry k ≡ Some row →
       RowFine code.program (world_of s) base row
   -- a release that waits or is started has its handler in the registry
-  pub handled : (place : ℕ) (r : Release) → slice_get s.releases place ≡ Some r →
+  pub handled : (index : ℕ) (r : Release) → slice_get s.releases index ≡ Some r →
       (is_waiting r.status || is_started r.status) ≡ true →
       (row : HandlerRow) × (handler_row s.registry r.handler ≡ Some row)
   -- outside execution none is started; outside it, and once an end was asked, none waits

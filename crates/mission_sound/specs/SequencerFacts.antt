@@ -137,5 +137,5 @@ pub record SequencerFacts (code : Code) : Type 0 where
   pub handlers_are_classes : (class : ℕ) → is_handler code.program class ≡ true → class < length code.program.classes
   pub runnables : (class scope : ℕ) → is_sub code.program.classes class runnable ≡ true →
       defined_by_chain code.program class ≡ Some scope → is_mission code.program (definer scope) ≡ false
-  pub statics : (place : ℕ) (d : Declared) (id : ℕ) → slice_get (static_fields code.program) place ≡ Some d →
+  pub statics : (index : ℕ) (d : Declared) (id : ℕ) → slice_get (static_fields code.program) index ≡ Some d →
       field_literal code.program d ≡ Some id → StaticLiteralFact code d id

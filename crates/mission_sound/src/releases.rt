@@ -18,7 +18,7 @@ pub fn operations_leave_handlers()
         (step : Step) → activity_of s job ≡ Some activity → (job ≡ TheSequencer → is_exec s.phase ≡ false) →
         HandlersFine code s base → NextRegistersFine code base rows s activity →
         frame_op code rows s job activity ≡ Some step → HandlersFine code step.state base }
-    ensures start { (code : Code) (base : Base) (s : State) (place : ℕ) (r : Release) (step : Step) →
-        slice_get s.releases place ≡ Some r → r.status ≡ Waits → is_exec s.phase ≡ true → HandlersFine code s base →
-        start_op code s place r ≡ Some step → HandlersFine code step.state base }
+    ensures start { (code : Code) (base : Base) (s : State) (index : ℕ) (r : Release) (step : Step) →
+        slice_get s.releases index ≡ Some r → r.status ≡ Waits → is_exec s.phase ≡ true → HandlersFine code s base →
+        start_op code s index r ≡ Some step → HandlersFine code step.state base }
 {}

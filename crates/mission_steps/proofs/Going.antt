@@ -48,7 +48,7 @@ module _ (code : Listing) (was : RunState) (acting : Acting) (activity : StoredA
     (st : RunState) (before after : List Event) where
   pub effect_after : (next : State → Step) →
       ((f : Frame) (below : List Frame) →
-      applied (code_of code.program) (state_of code was) (job_seen acting.job) (activity_seen code activity) below acting.place
+      applied (code_of code.program) (state_of code was) (job_seen acting.job) (activity_seen code activity) below acting.position
       (effect f)
       ≡ Some (next (with_frame (state_of code was) (job_seen acting.job) (activity_seen code activity) f below))) →
       IsStep code (next (with_activity (state_of code was) (job_seen acting.job) (activity_seen code activity)))
@@ -63,7 +63,7 @@ module _ (code : Listing) (was : RunState) (acting : Acting) (activity : StoredA
 
   pub no_effect :
       ((f : Frame) (below : List Frame) →
-      applied (code_of code.program) (state_of code was) (job_seen acting.job) (activity_seen code activity) below acting.place
+      applied (code_of code.program) (state_of code was) (job_seen acting.job) (activity_seen code activity) below acting.position
       (effect f) ≡ None) → IsApplied code was acting activity effect false st before after
   no_effect none =
       record { tried = λ f below e. no_step code st before after _ (none (frame_of code f) (frames_of code below)) }

@@ -28,19 +28,19 @@ use Rattle.mission_steps.proofs.Going.{quietly}
 
 -- ---- the state in which an area is open
 
-module _ (s : State) (job : Job) (activity : Activity) (place : Pos) (scope : ℕ) (parent : Option ℕ) (bytes : ℕ) where
+module _ (s : State) (job : Job) (activity : Activity) (position : Pos) (scope : ℕ) (parent : Option ℕ) (bytes : ℕ) where
   opened_there : (next : State → ℕ → Step) → has_store_for s bytes ≡ true →
-      opening s job activity place scope parent bytes next ≡ next (with_area s scope parent bytes) (length s.areas)
+      opening s job activity position scope parent bytes next ≡ next (with_area s scope parent bytes) (length s.areas)
   unfolding opening
   opened_there next e = rw e refl
 
   opened_nowhere : (next : State → ℕ → Step) → has_store_for s bytes ≡ false →
-      opening s job activity place scope parent bytes next ≡ fault_in s job activity place StoreFull
+      opening s job activity position scope parent bytes next ≡ fault_in s job activity position StoreFull
   unfolding opening
   opened_nowhere next e = rw e refl
 
   with_area_opened : (n : ℕ) (after : State) →
-      GoesOn s (opening s job activity place scope parent bytes) (fault_in s job activity place StoreFull)
+      GoesOn s (opening s job activity position scope parent bytes) (fault_in s job activity position StoreFull)
       (Some n) after →
       after ≡ with_area s scope parent bytes
   with_area_opened n after h = by_room (has_store_for s bytes) refl
@@ -60,36 +60,36 @@ module _ (s : State) (job : Job) (activity : Activity) (place : Pos) (scope : �
           let none : [] ≡ Halted 0 ∷ [] = ap (λ (x : Step). x.events) same in cc)
 
   pub activity_kept : (n : ℕ) (after : State) →
-      GoesOn s (opening s job activity place scope parent bytes) (fault_in s job activity place StoreFull)
+      GoesOn s (opening s job activity position scope parent bytes) (fault_in s job activity position StoreFull)
       (Some n) after →
       after.activity ≡ s.activity
   activity_kept n after h = ap (λ (t : State). t.activity) (with_area_opened n after h)
 
 -- ---- the sequencer's own areas
 
-module _ (code : Listing) (was : RunState) (place : Pos) (scope bytes : ℕ) where
+module _ (code : Listing) (was : RunState) (position : Pos) (scope bytes : ℕ) where
   abbrev s : State
   s = state_of code was
 
   abbrev opens : (State → ℕ → Step) → Step
-  opens next = opening s TheSequencer s.activity place scope (innermost s.activity.areas) bytes next
+  opens next = opening s TheSequencer s.activity position scope (innermost s.activity.areas) bytes next
 
   abbrev pub IsOpened : Option ℕ → State → Type 0
-  IsOpened found after = GoesOn s opens (fault_in s TheSequencer s.activity place StoreFull) found after
+  IsOpened found after = GoesOn s opens (fault_in s TheSequencer s.activity position StoreFull) found after
 
   pub is_opened : (parent found : Option ℕ) (o : Option ℕ) (after : State) →
       parent ≡ innermost was.activity.areas → found ≡ o →
-      GoesOn s (opening s TheSequencer s.activity place scope parent bytes)
-      (fault_in s TheSequencer s.activity place StoreFull) found after → IsOpened o after
+      GoesOn s (opening s TheSequencer s.activity position scope parent bytes)
+      (fault_in s TheSequencer s.activity position StoreFull) found after → IsOpened o after
   unfolding state_of
   is_opened parent found o after e f h =
       subst (λ (x : Option ℕ). IsOpened x after) f
-      (subst (λ (p : Option ℕ). GoesOn s (opening s TheSequencer s.activity place scope p bytes)
-      (fault_in s TheSequencer s.activity place StoreFull) found after) e h)
+      (subst (λ (p : Option ℕ). GoesOn s (opening s TheSequencer s.activity position scope p bytes)
+      (fault_in s TheSequencer s.activity position StoreFull) found after) e h)
 
   pub opened_inside : (middle : RunState) (areas : List ℕ) (n : ℕ) (told : List Event) →
       IsOpened (Some n) (state_of code middle) → areas ≡ n ∷ middle.activity.areas →
-      IsStep code (area_opened s place scope bytes)
+      IsStep code (area_opened s position scope bytes)
       (record middle { activity = record middle.activity { areas = areas }; outcome = Some Null }) told told
   unfolding state_of area_opened
   opened_inside middle areas n told opened pushed =
@@ -98,68 +98,68 @@ module _ (code : Listing) (was : RunState) (place : Pos) (scope bytes : ℕ) whe
       in
       let st : RunState =
       record middle { activity = record middle.activity { areas = areas }; outcome = Some Null } in
-      let there : area_opened s place scope bytes ≡ silently (after s.activity) = opened.there _ n refl in
-      same_step code st told told (silently (after s.activity)) (area_opened s place scope bytes) there
+      let there : area_opened s position scope bytes ≡ silently (after s.activity) = opened.there _ n refl in
+      same_step code st told told (silently (after s.activity)) (area_opened s position scope bytes) there
       (quietly code st told (after s.activity)
       (ap (λ (xs : List ℕ).
       (let x : State = record t { activity = record t.activity { areas = xs }; outcome = Some Null } in x))
       pushed
       ∙ ap after
-      (activity_kept s TheSequencer s.activity place scope (innermost s.activity.areas) bytes n t opened)))
+      (activity_kept s TheSequencer s.activity position scope (innermost s.activity.areas) bytes n t opened)))
 
   pub not_opened : (middle st : RunState) (before after : List Event) → IsOpened None (state_of code middle) →
-      IsStep code (fault_in (state_of code middle) TheSequencer s.activity place StoreFull) st before after →
-      IsStep code (area_opened s place scope bytes) st before after
+      IsStep code (fault_in (state_of code middle) TheSequencer s.activity position StoreFull) st before after →
+      IsStep code (area_opened s position scope bytes) st before after
   unfolding area_opened
   not_opened middle st before after opened h =
-      same_step code st before after _ (area_opened s place scope bytes)
+      same_step code st before after _ (area_opened s position scope bytes)
       (opened.missing _ refl
-      ∙ ap (λ (t : State). fault_in t TheSequencer s.activity place StoreFull) (sym (opened.same refl))) h
+      ∙ ap (λ (t : State). fault_in t TheSequencer s.activity position StoreFull) (sym (opened.same refl))) h
 
 -- ---- the safelet
 
-module _ (code : Listing) (was : RunState) (place : Pos) (class area : ℕ) (slots : List Value) where
+module _ (code : Listing) (was : RunState) (position : Pos) (class area : ℕ) (slots : List Value) where
   abbrev t : State
   t = state_of code was
 
   abbrev pub IsMade : Option ℕ → State → Type 0
   IsMade found after =
-      GoesOn t (allocating t TheSequencer t.activity place class area slots)
-      (fault_in t TheSequencer t.activity place MemoryFull) found after
+      GoesOn t (allocating t TheSequencer t.activity position class area slots)
+      (fault_in t TheSequencer t.activity position MemoryFull) found after
 
   abbrev makes : List Value → Step
   makes values =
-      allocating t TheSequencer t.activity place class area values
+      allocating t TheSequencer t.activity position class area values
       (λ u r. silently (let x : State = record u { outcome = Some (At r) } in x))
 
   pub is_made : (other : ℕ) (found o : Option ℕ) (after : State) → other ≡ class → found ≡ o →
-      GoesOn t (allocating t TheSequencer t.activity place other area slots)
-      (fault_in t TheSequencer t.activity place MemoryFull) found after → IsMade o after
+      GoesOn t (allocating t TheSequencer t.activity position other area slots)
+      (fault_in t TheSequencer t.activity position MemoryFull) found after → IsMade o after
   is_made other found o after e f h =
       subst (λ (x : Option ℕ). IsMade x after) f
-      (subst (λ (c : ℕ). GoesOn t (allocating t TheSequencer t.activity place c area slots)
-      (fault_in t TheSequencer t.activity place MemoryFull) found after) e h)
+      (subst (λ (c : ℕ). GoesOn t (allocating t TheSequencer t.activity position c area slots)
+      (fault_in t TheSequencer t.activity position MemoryFull) found after) e h)
 
   pub made_there : (middle : RunState) (n : ℕ) (told : List Event) → new_slots (code_of code.program).program class ≡ slots →
       IsMade (Some n) (state_of code middle) →
-      IsStep code (safelet_made (code_of code.program) t place class area) (record middle { outcome = Some (At n) }) told told
+      IsStep code (safelet_made (code_of code.program) t position class area) (record middle { outcome = Some (At n) }) told told
   unfolding state_of safelet_made
   made_there middle n told same made =
       let st : RunState = record middle { outcome = Some (At n) } in
       let after : State = state_of code st in
-      same_step code st told told (silently after) (safelet_made (code_of code.program) t place class area)
+      same_step code st told told (silently after) (safelet_made (code_of code.program) t position class area)
       (ap makes same ∙ made.there _ n refl)
       (quietly code st told after refl)
 
   pub not_made : (middle st : RunState) (before after : List Event) → new_slots (code_of code.program).program class ≡ slots →
       IsMade None (state_of code middle) →
-      IsStep code (fault_in (state_of code middle) TheSequencer t.activity place MemoryFull) st before after →
-      IsStep code (safelet_made (code_of code.program) t place class area) st before after
+      IsStep code (fault_in (state_of code middle) TheSequencer t.activity position MemoryFull) st before after →
+      IsStep code (safelet_made (code_of code.program) t position class area) st before after
   unfolding safelet_made
   not_made middle st before after same made h =
-      same_step code st before after _ (safelet_made (code_of code.program) t place class area)
+      same_step code st before after _ (safelet_made (code_of code.program) t position class area)
       (ap makes same ∙ (made.missing _ refl
-      ∙ ap (λ (u : State). fault_in u TheSequencer t.activity place MemoryFull) (sym (made.same refl)))) h
+      ∙ ap (λ (u : State). fault_in u TheSequencer t.activity position MemoryFull) (sym (made.same refl)))) h
 
 -- ---- the private memory of a release
 

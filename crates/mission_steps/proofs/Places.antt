@@ -5,14 +5,14 @@ use Rattle.accepted_laws.proofs.Fields.{position-cons}
 
 module _ {A : Type 0} (test : A → Bool) (all : List A) where
   -- the test holds of none of the elements before the rest
-  pub record Passed (rest : List A) (place : ℕ) : Type 0 where
-    pub same : position test all ≡ option_map (λ k. place + k) (position test rest)
-    pub count : place + length rest ≡ length all
+  pub record Passed (rest : List A) (index : ℕ) : Type 0 where
+    pub same : position test all ≡ option_map (λ k. index + k) (position test rest)
+    pub count : index + length rest ≡ length all
 
-  more_behind : (place : ℕ) (o : Option ℕ) →
-      option_map (λ k. place + k) (option_map (λ k. 1 + k) o) ≡ option_map (λ k. place + 1 + k) o
-  more_behind place None = refl
-  more_behind place (Some k) = ap (λ (n : ℕ). Some n) (omega arith)
+  more_behind : (index : ℕ) (o : Option ℕ) →
+      option_map (λ k. index + k) (option_map (λ k. 1 + k) o) ≡ option_map (λ k. index + 1 + k) o
+  more_behind index None = refl
+  more_behind index (Some k) = ap (λ (n : ℕ). Some n) (omega arith)
 
   none_before : (o : Option ℕ) → o ≡ option_map (λ k. 0 + k) o
   none_before None = refl
@@ -24,30 +24,30 @@ module _ {A : Type 0} (test : A → Bool) (all : List A) where
   abbrev tested : Bool → List A → Option ℕ
   tested holds rest = if holds then Some 0 else option_map (λ k. 1 + k) (position test rest)
 
-  pub passed_more : (x : A) (rest : List A) (place : ℕ) → test x ≡ false → Passed (x ∷ rest) place →
-      Passed rest (place + 1)
-  passed_more x rest place e h = record {
-    same = h.same ∙ (ap (option_map (λ k. place + k)) (position-cons test x rest ∙ ap (λ (b : Bool). tested b rest) e)
-        ∙ more_behind place (position test rest));
+  pub passed_more : (x : A) (rest : List A) (index : ℕ) → test x ≡ false → Passed (x ∷ rest) index →
+      Passed rest (index + 1)
+  passed_more x rest index e h = record {
+    same = h.same ∙ (ap (option_map (λ k. index + k)) (position-cons test x rest ∙ ap (λ (b : Bool). tested b rest) e)
+        ∙ more_behind index (position test rest));
     count = omega (arith, h.count);
   }
 
   -- the rest behind the first element
-  pub passed_on : (x : A) (rest : List A) (place : ℕ) → 1 ≤ length rest → x ≡ get_or rest 0 x → test x ≡ false →
-      Passed rest place → Passed (take (length rest - 1) (drop 1 rest)) (place + 1)
-  passed_on x [] place n first e h = absurd (omega (arith, n))
-  passed_on x (y ∷ ys) place n first e h =
+  pub passed_on : (x : A) (rest : List A) (index : ℕ) → 1 ≤ length rest → x ≡ get_or rest 0 x → test x ≡ false →
+      Passed rest index → Passed (take (length rest - 1) (drop 1 rest)) (index + 1)
+  passed_on x [] index n first e h = absurd (omega (arith, n))
+  passed_on x (y ∷ ys) index n first e h =
       let all_behind : length (y ∷ ys) - 1 ≡ length ys = omega arith in
       let others : take (length (y ∷ ys) - 1) ys ≡ ys =
       ap (λ (k : ℕ). take k ys) all_behind ∙ take_all (length ys) ys (omega arith) in
-      subst (λ (zs : List A). Passed zs (place + 1)) (sym others)
-      (passed_more y ys place (ap test (sym first) ∙ e) h)
+      subst (λ (zs : List A). Passed zs (index + 1)) (sym others)
+      (passed_more y ys index (ap test (sym first) ∙ e) h)
 
-  pub found_first : (x : A) (rest : List A) (place : ℕ) → test x ≡ true → Passed (x ∷ rest) place →
-      Some place ≡ position test all
-  found_first x rest place e h =
-      sym (h.same ∙ (ap (option_map (λ k. place + k)) (position-cons test x rest ∙ ap (λ (b : Bool). tested b rest) e)
+  pub found_first : (x : A) (rest : List A) (index : ℕ) → test x ≡ true → Passed (x ∷ rest) index →
+      Some index ≡ position test all
+  found_first x rest index e h =
+      sym (h.same ∙ (ap (option_map (λ k. index + k)) (position-cons test x rest ∙ ap (λ (b : Bool). tested b rest) e)
       ∙ ap (λ (n : ℕ). Some n) (omega arith)))
 
-  pub found_nowhere : (place : ℕ) → Passed [] place → None ≡ position test all
-  found_nowhere place h = sym h.same
+  pub found_nowhere : (index : ℕ) → Passed [] index → None ≡ position test all
+  found_nowhere index h = sym h.same

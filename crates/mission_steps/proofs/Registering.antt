@@ -18,27 +18,27 @@ use Rattle.run_state.specs.Seen.{state_of}
 use Rattle.run_state.specs.Steps.{IsStep}
 use Rattle.mission_steps.specs.Asked.{newly_registered}
 
-module _ (code : Listing) (s : State) (job : Job) (activity : Activity) (place : Pos) (r : ℕ) (o : Object)
+module _ (code : Listing) (s : State) (job : Job) (activity : Activity) (position : Pos) (r : ℕ) (o : Object)
     (after : State) where
   pub registered_too_late : is_init s.phase ≡ false →
-      registered (code_of code.program) s job activity place r o after ≡ fault_in s job activity place NotInitializing
+      registered (code_of code.program) s job activity position r o after ≡ fault_in s job activity position NotInitializing
   unfolding registered
   registered_too_late e = rw e refl
 
   pub registered_already : is_init s.phase ≡ true → is_some (handler_number s.registry r) ≡ true →
-      registered (code_of code.program) s job activity place r o after ≡ silently after
+      registered (code_of code.program) s job activity position r o after ≡ silently after
   unfolding registered
   registered_already e f = rw (e, f) refl
 
   pub registered_too_many : is_init s.phase ≡ true → is_some (handler_number s.registry r) ≡ false →
       nat_lt (length s.registry) most_handlers ≡ false →
-      registered (code_of code.program) s job activity place r o after ≡ fault_in s job activity place TooManyHandlers
+      registered (code_of code.program) s job activity position r o after ≡ fault_in s job activity position TooManyHandlers
   unfolding registered
   registered_too_many e f g = rw (e, f, g) refl
 
   pub registered_newly : is_init s.phase ≡ true → is_some (handler_number s.registry r) ≡ false →
       nat_lt (length s.registry) most_handlers ≡ true →
-      registered (code_of code.program) s job activity place r o after ≡ newly_registered (code_of code.program) s (new_row (code_of code.program).program r o) after
+      registered (code_of code.program) s job activity position r o after ≡ newly_registered (code_of code.program) s (new_row (code_of code.program).program r o) after
   unfolding registered newly_registered
   registered_newly e f g = rw (e, f, g) refl
 

@@ -48,8 +48,8 @@ fn lack_sequencer(
         (seq_applied (code_of code.now.program) (state_of code.now state.old) (LacksSequencer safelet)) state.new
         told.old.items told.new.items) }
 {
-    let place = place_of_object(code, state, safelet);
-    halted(state, place, RunFault::NullPointer, told)?;
+    let index = place_of_object(code, state, safelet);
+    halted(state, index, RunFault::NullPointer, told)?;
     Ok(())
 }
 

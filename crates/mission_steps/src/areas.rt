@@ -23,7 +23,7 @@ use std::alloc::Global;
 /// An area is opened inside the innermost one of the sequencer's. The sequencer has it from now on.
 pub(crate) fn open_inside(
     state: &mut RunState,
-    place: Pos,
+    position: Pos,
     scope: ScopeId,
     bytes: u32,
     told: &mut Vec<Event>,
@@ -32,7 +32,7 @@ pub(crate) fn open_inside(
     requires few { open_count state.old.memory < 1794 }
     ensures { (code : Listing) →
         IfOk result
-        (λ _. IsStep code (area_opened (state_of code state.old) place scope bytes) state.new told.old.items
+        (λ _. IsStep code (area_opened (state_of code state.old) position scope bytes) state.new told.old.items
         told.new.items) }
 {
     let parent = state.activity.areas.innermost();
@@ -50,7 +50,7 @@ pub(crate) fn open_inside(
             Ok(())
         }
         None => {
-            halted(state, place, RunFault::StoreFull, told)?;
+            halted(state, position, RunFault::StoreFull, told)?;
             Ok(())
         }
     }

@@ -11,10 +11,10 @@ use scj_base::{ClassId, Memory, Ref};
 use scj_model::{HandlerKind, HandlerRow};
 
 /// The number of the handler at a place of the registry: the numbers begin with 1.
-fn number_at(place: Option<usize>) -> Result<Option<u8>, Memory>
-    ensures { IfOk result (λ number. number ≡ option_map (λ k. k + 1) place) }
+fn number_at(index: Option<usize>) -> Result<Option<u8>, Memory>
+    ensures { IfOk result (λ number. number ≡ option_map (λ k. k + 1) index) }
 {
-    match place {
+    match index {
         Some(k) => {
             if k < 255 {
                 Ok(Some(k as u8 + 1))
@@ -38,12 +38,12 @@ fn place_of(registry: &[HandlerRow], at: Ref) -> Option<usize>
     ensures { result ≡ position (λ (row : Row). row.at == at) registry.now }
 {
     let mut rest = registry;
-    let mut place: usize = 0;
+    let mut index: usize = 0;
     while let [row, others @ ..] = rest {
         if is_at(row, at) {
-            return Some(place);
+            return Some(index);
         }
-        place += 1;
+        index += 1;
         rest = others;
     }
     None
@@ -72,12 +72,12 @@ fn place_of_aperiodic(registry: &[HandlerRow], class: ClassId) -> Option<usize>
     ensures { result ≡ position (λ (row : Row). is_aperiodic row.kind && (row.class == class)) registry.now }
 {
     let mut rest = registry;
-    let mut place: usize = 0;
+    let mut index: usize = 0;
     while let [row, others @ ..] = rest {
         if is_aperiodic_of(row, class) {
-            return Some(place);
+            return Some(index);
         }
-        place += 1;
+        index += 1;
         rest = others;
     }
     None

@@ -114,7 +114,7 @@ fn register(
         IfOk result
         (λ _. IsStep code.now
         (registered (code_of code.now.program) (state_of code.now state.old) (job_seen acting.job)
-        (activity_seen code.now activity) acting.place r o
+        (activity_seen code.now activity) acting.position r o
         (with_activity (state_of code.now state.old) (job_seen acting.job)
         (activity_seen code.now activity))) state.new told.old.items told.new.items) }
 {

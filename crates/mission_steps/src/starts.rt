@@ -30,7 +30,7 @@ use std::alloc::Global;
 /// A release that is to be started: its place, its handler's row, and what is run in a memory of which scope.
 #[derive(Clone, Copy, Debug)]
 struct Start {
-    place: usize,
+    index: usize,
     row: HandlerRow,
     scope: ScopeId,
     body: Body,
@@ -96,7 +96,7 @@ fn started_with(
     requires few { open_count state.old.memory < 1794 }
     ensures { IfOk result
         (λ _. IsStep code.now
-        (started_with (code_of code.now.program) (state_of code.now state.old) start.now.place start.now.row
+        (started_with (code_of code.now.program) (state_of code.now state.old) start.now.index start.now.row
         start.now.scope
         start.now.body) state.new told.old.items told.new.items) }
 {
@@ -112,13 +112,13 @@ fn started_with(
     ) {
         Some(area) => {
             let activity = begun(alloc, code, areas, start, area)?;
-            put_back(state, Job::Release(start.place), activity)?;
+            put_back(state, Job::Release(start.index), activity)?;
             Ok(())
         }
         None => {
             let acting = Acting {
-                job: Job::Release(start.place),
-                place: class_place(code, start.row.class),
+                job: Job::Release(start.index),
+                position: class_place(code, start.row.class),
             };
             fault_in(
                 state,
@@ -137,7 +137,7 @@ pub fn start_op(
     alloc: Global,
     code: &OpList<'_>,
     state: &mut RunState,
-    place: usize,
+    index: usize,
     handler: u8,
     told: &mut Vec<Event>,
 ) -> Result<bool, Memory>
@@ -147,7 +147,7 @@ pub fn start_op(
     ensures { (r : ReleaseOfRun) → r.handler ≡ handler →
         IfOk result
         (λ answer. IsTry code.now
-        (start_op (code_of code.now.program) (state_of code.now state.old) place r) answer state.new told.old.items
+        (start_op (code_of code.now.program) (state_of code.now state.old) index r) answer state.new told.old.items
         told.new.items) }
 {
     let Some(row) = handler_row(state.registry.as_slice(), handler) else {
@@ -160,7 +160,7 @@ pub fn start_op(
         return Ok(false);
     };
     let start = Start {
-        place,
+        index,
         row,
         scope,
         body,

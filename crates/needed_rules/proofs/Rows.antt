@@ -28,7 +28,7 @@ e1_new_breaks = record { classes = refl; types = refl; scopes = refl; uses = ref
 
 e1_new_dangles : Dangles e1_new 28
 unfolding computing_machine live references_of_frame reference_in started_activities
-e1_new_dangles = record { place = 0; r = 3; is_live = refl; is_gone = refl }
+e1_new_dangles = record { index = 0; r = 3; is_live = refl; is_gone = refl }
 
 pub e1_new_is_needed : IsNeeded E1
 e1_new_is_needed =
@@ -36,7 +36,7 @@ e1_new_is_needed =
       text = e1_new_text;
       program = e1_new;
       reads = e1_new_reads;
-      place = at 12 42;
+      position = at 12 42;
       breaks = e1_new_breaks;
       is_unsafe = dangles e1_new 28 e1_new_dangles;
     }
@@ -47,7 +47,7 @@ e2_call_breaks = record { classes = refl; types = refl; scopes = refl; uses = re
 
 e2_call_dangles : Dangles e2_call 31
 unfolding computing_machine live references_of_frame reference_in started_activities
-e2_call_dangles = record { place = 0; r = 3; is_live = refl; is_gone = refl }
+e2_call_dangles = record { index = 0; r = 3; is_live = refl; is_gone = refl }
 
 pub e2_call_is_needed : IsNeeded E2
 e2_call_is_needed =
@@ -55,7 +55,7 @@ e2_call_is_needed =
       text = e2_call_text;
       program = e2_call;
       reads = e2_call_reads;
-      place = at 12 30;
+      position = at 12 30;
       breaks = e2_call_breaks;
       is_unsafe = dangles e2_call 31 e2_call_dangles;
     }
@@ -66,7 +66,7 @@ e3_argument_breaks = record { classes = refl; types = refl; scopes = refl; uses 
 
 e3_argument_dangles : Dangles e3_argument 31
 unfolding computing_machine live references_of_frame reference_in started_activities
-e3_argument_dangles = record { place = 0; r = 3; is_live = refl; is_gone = refl }
+e3_argument_dangles = record { index = 0; r = 3; is_live = refl; is_gone = refl }
 
 pub e3_argument_is_needed : IsNeeded E3
 e3_argument_is_needed =
@@ -74,7 +74,7 @@ e3_argument_is_needed =
       text = e3_argument_text;
       program = e3_argument;
       reads = e3_argument_reads;
-      place = at 12 40;
+      position = at 12 40;
       breaks = e3_argument_breaks;
       is_unsafe = dangles e3_argument 31 e3_argument_dangles;
     }
@@ -85,7 +85,7 @@ e4_assign_breaks = record { classes = refl; types = refl; scopes = refl; uses = 
 
 e4_assign_dangles : Dangles e4_assign 30
 unfolding computing_machine live references_of_frame reference_in started_activities
-e4_assign_dangles = record { place = 0; r = 3; is_live = refl; is_gone = refl }
+e4_assign_dangles = record { index = 0; r = 3; is_live = refl; is_gone = refl }
 
 pub e4_assign_is_needed : IsNeeded E4
 e4_assign_is_needed =
@@ -93,7 +93,7 @@ e4_assign_is_needed =
       text = e4_assign_text;
       program = e4_assign;
       reads = e4_assign_reads;
-      place = at 12 56;
+      position = at 12 56;
       breaks = e4_assign_breaks;
       is_unsafe = dangles e4_assign 30 e4_assign_dangles;
     }
@@ -104,7 +104,7 @@ e5_store_breaks = record { classes = refl; types = refl; scopes = refl; uses = r
 
 e5_store_dangles : Dangles e5_store 28
 unfolding computing_machine live references_of_frame reference_in started_activities
-e5_store_dangles = record { place = 0; r = 3; is_live = refl; is_gone = refl }
+e5_store_dangles = record { index = 0; r = 3; is_live = refl; is_gone = refl }
 
 pub e5_store_is_needed : IsNeeded E5
 e5_store_is_needed =
@@ -112,7 +112,7 @@ e5_store_is_needed =
       text = e5_store_text;
       program = e5_store;
       reads = e5_store_reads;
-      place = at 12 40;
+      position = at 12 40;
       breaks = e5_store_breaks;
       is_unsafe = dangles e5_store 28 e5_store_dangles;
     }
@@ -123,7 +123,7 @@ e6_return_breaks = record { classes = refl; types = refl; scopes = refl; uses = 
 
 e6_return_dangles : Dangles e6_return 31
 unfolding computing_machine live references_of_frame reference_in started_activities
-e6_return_dangles = record { place = 0; r = 3; is_live = refl; is_gone = refl }
+e6_return_dangles = record { index = 0; r = 3; is_live = refl; is_gone = refl }
 
 pub e6_return_is_needed : IsNeeded E6
 e6_return_is_needed =
@@ -131,7 +131,7 @@ e6_return_is_needed =
       text = e6_return_text;
       program = e6_return;
       reads = e6_return_reads;
-      place = at 13 49;
+      position = at 13 49;
       breaks = e6_return_breaks;
       is_unsafe = dangles e6_return 31 e6_return_dangles;
     }
@@ -150,7 +150,7 @@ e7_enter_is_needed =
       text = e7_enter_text;
       program = e7_enter;
       reads = e7_enter_reads;
-      place = at 12 44;
+      position = at 12 44;
       breaks = e7_enter_breaks;
       is_unsafe = is_stuck e7_enter 26 e7_enter_is_stuck;
     }
@@ -161,7 +161,7 @@ e8_execute_breaks = record { classes = refl; types = refl; scopes = refl; uses =
 
 e8_execute_dangles : Dangles e8_execute 45
 unfolding computing_machine live references_of_frame reference_in started_activities
-e8_execute_dangles = record { place = 2; r = 4; is_live = refl; is_gone = refl }
+e8_execute_dangles = record { index = 2; r = 4; is_live = refl; is_gone = refl }
 
 pub e8_execute_is_needed : IsNeeded E8
 e8_execute_is_needed =
@@ -169,7 +169,7 @@ e8_execute_is_needed =
       text = e8_execute_text;
       program = e8_execute;
       reads = e8_execute_reads;
-      place = at 12 44;
+      position = at 12 44;
       breaks = e8_execute_breaks;
       is_unsafe = dangles e8_execute 45 e8_execute_dangles;
     }
@@ -180,7 +180,7 @@ e10_array_breaks = record { classes = refl; types = refl; scopes = refl; uses = 
 
 e10_array_dangles : Dangles e10_array 47
 unfolding computing_machine live references_of_frame reference_in started_activities
-e10_array_dangles = record { place = 5; r = 5; is_live = refl; is_gone = refl }
+e10_array_dangles = record { index = 5; r = 5; is_live = refl; is_gone = refl }
 
 pub e10_array_is_needed : IsNeeded E10
 e10_array_is_needed =
@@ -188,7 +188,7 @@ e10_array_is_needed =
       text = e10_array_text;
       program = e10_array;
       reads = e10_array_reads;
-      place = at 12 36;
+      position = at 12 36;
       breaks = e10_array_breaks;
       is_unsafe = dangles e10_array 47 e10_array_dangles;
     }

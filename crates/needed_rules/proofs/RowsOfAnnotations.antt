@@ -24,7 +24,7 @@ a2_class_breaks = record { classes = refl; types = refl; scopes = refl; uses = r
 
 a2_class_dangles : Dangles a2_class 34
 unfolding computing_machine live references_of_frame reference_in started_activities
-a2_class_dangles = record { place = 0; r = 3; is_live = refl; is_gone = refl }
+a2_class_dangles = record { index = 0; r = 3; is_live = refl; is_gone = refl }
 
 pub a2_class_is_needed : IsNeeded A2
 a2_class_is_needed =
@@ -32,7 +32,7 @@ a2_class_is_needed =
       text = a2_class_text;
       program = a2_class;
       reads = a2_class_reads;
-      place = at 15 8;
+      position = at 15 8;
       breaks = a2_class_breaks;
       is_unsafe = dangles a2_class 34 a2_class_dangles;
     }
@@ -43,7 +43,7 @@ a3_field_breaks = record { classes = refl; types = refl; scopes = refl; uses = r
 
 a3_field_dangles : Dangles a3_field 47
 unfolding computing_machine live references_of_frame reference_in started_activities
-a3_field_dangles = record { place = 5; r = 5; is_live = refl; is_gone = refl }
+a3_field_dangles = record { index = 5; r = 5; is_live = refl; is_gone = refl }
 
 pub a3_field_is_needed : IsNeeded A3
 a3_field_is_needed =
@@ -51,7 +51,7 @@ a3_field_is_needed =
       text = a3_field_text;
       program = a3_field;
       reads = a3_field_reads;
-      place = at 14 28;
+      position = at 14 28;
       breaks = a3_field_breaks;
       is_unsafe = dangles a3_field 47 a3_field_dangles;
     }
@@ -62,7 +62,7 @@ a4_field_breaks = record { classes = refl; types = refl; scopes = refl; uses = r
 
 a4_field_dangles : Dangles a4_field 47
 unfolding computing_machine live references_of_frame reference_in started_activities
-a4_field_dangles = record { place = 5; r = 5; is_live = refl; is_gone = refl }
+a4_field_dangles = record { index = 5; r = 5; is_live = refl; is_gone = refl }
 
 pub a4_field_is_needed : IsNeeded A4
 a4_field_is_needed =
@@ -70,7 +70,7 @@ a4_field_is_needed =
       text = a4_field_text;
       program = a4_field;
       reads = a4_field_reads;
-      place = at 14 16;
+      position = at 14 16;
       breaks = a4_field_breaks;
       is_unsafe = dangles a4_field 47 a4_field_dangles;
     }
@@ -81,7 +81,7 @@ a5_static_breaks = record { classes = refl; types = refl; scopes = refl; uses = 
 
 a5_static_dangles : Dangles a5_static 28
 unfolding computing_machine live references_of_frame reference_in started_activities
-a5_static_dangles = record { place = 0; r = 3; is_live = refl; is_gone = refl }
+a5_static_dangles = record { index = 0; r = 3; is_live = refl; is_gone = refl }
 
 pub a5_static_is_needed : IsNeeded A5
 a5_static_is_needed =
@@ -89,7 +89,7 @@ a5_static_is_needed =
       text = a5_static_text;
       program = a5_static;
       reads = a5_static_reads;
-      place = at 15 26;
+      position = at 15 26;
       breaks = a5_static_breaks;
       is_unsafe = dangles a5_static 28 a5_static_dangles;
     }
@@ -100,7 +100,7 @@ a6_override_breaks = record { classes = refl; types = refl; scopes = refl; uses 
 
 a6_override_dangles : Dangles a6_override 39
 unfolding computing_machine live references_of_frame reference_in started_activities
-a6_override_dangles = record { place = 0; r = 4; is_live = refl; is_gone = refl }
+a6_override_dangles = record { index = 0; r = 4; is_live = refl; is_gone = refl }
 
 pub a6_override_is_needed : IsNeeded A6
 a6_override_is_needed =
@@ -108,7 +108,7 @@ a6_override_is_needed =
       text = a6_override_text;
       program = a6_override;
       reads = a6_override_reads;
-      place = at 15 31;
+      position = at 15 31;
       breaks = a6_override_breaks;
       is_unsafe = dangles a6_override 39 a6_override_dangles;
     }

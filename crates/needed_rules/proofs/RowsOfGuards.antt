@@ -22,7 +22,7 @@ e5_unguarded_breaks = record { classes = refl; types = refl; scopes = refl; uses
 
 e5_unguarded_dangles : Dangles e5_unguarded 51
 unfolding computing_machine live references_of_frame reference_in started_activities
-e5_unguarded_dangles = record { place = 5; r = 5; is_live = refl; is_gone = refl }
+e5_unguarded_dangles = record { index = 5; r = 5; is_live = refl; is_gone = refl }
 
 abbrev e5_unguarded_is_needed : IsNeeded E5
 e5_unguarded_is_needed =
@@ -30,7 +30,7 @@ e5_unguarded_is_needed =
       text = e5_unguarded_text;
       program = e5_unguarded;
       reads = e5_unguarded_reads;
-      place = at 16 76;
+      position = at 16 76;
       breaks = e5_unguarded_breaks;
       is_unsafe = dangles e5_unguarded 51 e5_unguarded_dangles;
     }
@@ -55,7 +55,7 @@ e5_undone_breaks = record { classes = refl; types = refl; scopes = refl; uses = 
 
 e5_undone_dangles : Dangles e5_undone 59
 unfolding computing_machine live references_of_frame reference_in started_activities
-e5_undone_dangles = record { place = 5; r = 5; is_live = refl; is_gone = refl }
+e5_undone_dangles = record { index = 5; r = 5; is_live = refl; is_gone = refl }
 
 abbrev e5_undone_is_needed : IsNeeded E5
 e5_undone_is_needed =
@@ -63,7 +63,7 @@ e5_undone_is_needed =
       text = e5_undone_text;
       program = e5_undone;
       reads = e5_undone_reads;
-      place = at 17 58;
+      position = at 17 58;
       breaks = e5_undone_breaks;
       is_unsafe = dangles e5_undone 59 e5_undone_dangles;
     }

@@ -23,9 +23,9 @@ state_of program units = (run (code_of program) plan by_priority units).state
 
 -- after so many units a reference that can be used leads into a closed area
 pub record Dangles (program : Forest) (units : ℕ) : Type 0 where
-  pub place : ℕ
+  pub index : ℕ
   pub r : ℕ
-  pub is_live : slice_get (live (state_of program units)) place ≡ Some r
+  pub is_live : slice_get (live (state_of program units)) index ≡ Some r
   pub is_gone : is_of_open_area (state_of program units) r ≡ false
 
 pub record IsStuck (program : Forest) (units : ℕ) : Type 0 where
@@ -43,7 +43,7 @@ none_dangles program units safe =
 
 pub dangles : (program : Forest) (units : ℕ) → Dangles program units → IsSafeInAnyOrder (code_of program) → ⊥
 dangles program units d safe =
-    absurd (cc (d.is_gone, (none_dangles program units safe).are_open d.r (contains_at (live (state_of program units)) d.place d.r d.is_live)))
+    absurd (cc (d.is_gone, (none_dangles program units safe).are_open d.r (contains_at (live (state_of program units)) d.index d.r d.is_live)))
 
 pub is_stuck : (program : Forest) (units : ℕ) → IsStuck program units → IsSafeInAnyOrder (code_of program) → ⊥
 is_stuck program units d safe = absurd (cc (d.is, safe_run (code_of program) plan safe units))

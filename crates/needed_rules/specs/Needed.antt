@@ -21,19 +21,19 @@ use Rattle.scj_model.specs.Code.{code_of}
 use Rattle.scj_model.specs.Safety.{IsSafeInAnyOrder}
 
 -- this is all that is broken: one rule, at one place
-pub record BreaksOnly (program : Forest) (rule : Rule) (place : Pos) : Type 0 where
+pub record BreaksOnly (program : Forest) (rule : Rule) (position : Pos) : Type 0 where
   pub classes : class_phase (declarations_of program) ≡ []
   pub types : type_phase (declarations_of program) ≡ []
   pub scopes : scope_phase (declarations_of program) ≡ []
-  pub uses : use_phase (declarations_of program) ≡ record { pos = place; rule = rule } ∷ []
+  pub uses : use_phase (declarations_of program) ≡ record { pos = position; rule = rule } ∷ []
 
 -- the program is that of a text, in which no body is too deep
 pub record IsNeeded (rule : Rule) : Type 0 where
   pub text : List ℕ
   pub program : Forest
   pub reads : Reads (text ∷ []) program
-  pub place : Pos
-  pub breaks : BreaksOnly program rule place
+  pub position : Pos
+  pub breaks : BreaksOnly program rule position
   pub is_unsafe : IsSafeInAnyOrder (code_of program) → ⊥
 
 -- the static scope of a node
@@ -49,7 +49,7 @@ pub record IsUnsafeUnguarded : Type 0 where
   pub store : ℕ
   pub target : ℕ
   pub value : ℕ
-  pub is_store : slice_get (declarations_of needed.program).nodes store ≡ Some (Assign needed.place target value)
+  pub is_store : slice_get (declarations_of needed.program).nodes store ≡ Some (Assign needed.position target value)
   pub is_lost : scope_at needed.program target ≡ Some Lost
   pub is_unknown : scope_at needed.program value ≡ Some Unknown
   pub stands_alone : ifs_around (declarations_of needed.program).nodes store ≡ []
@@ -59,7 +59,7 @@ pub record IsUnsafeUnguarded : Type 0 where
 pub record IsUnsafeWhereUndone : Type 0 where
   pub needed : IsNeeded E5
   pub store : ℕ
-  pub is_at : place_at (declarations_of needed.program).nodes store ≡ needed.place
+  pub is_at : place_at (declarations_of needed.program).nodes store ≡ needed.position
   pub number : ℕ
   pub stands : is_among number (ifs_around (declarations_of needed.program).nodes store) ≡ true
   pub guard : Guard

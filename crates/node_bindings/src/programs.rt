@@ -28,8 +28,8 @@ pub fn bindings_of(
 {
     let program = facts.program();
     let mut bindings = Bindings::with_capacity(alloc, program.len())?;
-    for place in 0..program.len() {
-        let id = NodeId::at(place as u32);
+    for number in 0..program.len() {
+        let id = NodeId::at(number as u32);
         let b = binding_at(facts, numbers, types, id)?;
         bindings.add(b)?;
     }

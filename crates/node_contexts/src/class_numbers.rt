@@ -22,11 +22,11 @@ fn put(numbers: &mut Vec<Option<ClassId>>, node: NodeId, class: ClassId) -> Resu
     ensures within { OnOk result (node < length numbers.old.items) }
     ensures new { OnOk result (numbers.new.items ≡ set numbers.old.items node (Some class)) }
 {
-    let place = node.place();
-    if place >= numbers.len() {
+    let number = node.number();
+    if number >= numbers.len() {
         return Err(Memory);
     }
-    numbers[place] = Some(class);
+    numbers[number] = Some(class);
     Ok(())
 }
 

@@ -43,12 +43,12 @@ impl Contexts {
     {
         let numbers = class_numbers(alloc, program)?;
         let mut rows = outermost(alloc, program.len())?;
-        let mut place = program.len();
-        while place > 0 {
-            place -= 1;
-            let parent = NodeId::at(place as u32);
+        let mut index = program.len();
+        while index > 0 {
+            index -= 1;
+            let parent = NodeId::at(index as u32);
             let node = program.node(parent);
-            spread_children(program, numbers[place], parent, node, &mut rows)?;
+            spread_children(program, numbers[index], parent, node, &mut rows)?;
         }
         Ok(Contexts { rows })
     }

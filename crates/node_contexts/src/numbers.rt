@@ -47,15 +47,15 @@ fn count_one(counts: &mut Vec<u32>, member: NodeId) -> Result<u32, Memory>
     ensures counts { OnOk result
         (counts.new.items ≡ set counts.old.items member (lookup 0 counts.old.items member + 1)) }
 {
-    let place = member.place();
-    if place >= counts.len() {
+    let index = member.number();
+    if index >= counts.len() {
         return Err(Memory);
     }
-    let number = counts[place];
+    let number = counts[index];
     if number == u32::MAX {
         return Err(Memory);
     }
-    counts[place] = number + 1;
+    counts[index] = number + 1;
     Ok(number)
 }
 
@@ -95,9 +95,9 @@ pub fn count_variables(
 {
     let mut numbers = zeros(alloc, program.len())?;
     let mut counts = none_counted(alloc, program)?;
-    for place in 0..program.len() {
-        let number = count(program, contexts, &mut counts, NodeId::at(place as u32))?;
-        numbers[place] = number;
+    for index in 0..program.len() {
+        let number = count(program, contexts, &mut counts, NodeId::at(index as u32))?;
+        numbers[index] = number;
     }
     Ok((numbers, counts))
 }

@@ -69,7 +69,7 @@ fn raised(number: u32) -> Result<u32, Memory>
 pub fn kept_node(node: NodeId) -> Result<u32, Memory>
     ensures { IfOk result (λ kept. told kept ≡ Some node) }
 {
-    raised(node.place() as u32)
+    raised(node.number() as u32)
 }
 
 /// The node that is kept, if one is.

@@ -109,11 +109,11 @@ fn put(
         AreSpread program.now parent node family.now (child ∷ rest) (told known) rows.old.items →
         AreSpread program.now parent node family.now rest (told next) rows.new.items) }
 {
-    let place = child.place();
-    if place >= rows.len() {
+    let number = child.number();
+    if number >= rows.len() {
         return Err(Memory);
     }
-    rows[place] = row_of(family, known, child);
+    rows[number] = row_of(family, known, child);
     let next = last_behind(program, family, known, child)?;
     Ok(next)
 }

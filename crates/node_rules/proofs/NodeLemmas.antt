@@ -29,7 +29,7 @@ asked : (p : Declarations) (id : ℕ) (o : Option Node) →
     (if is_asked_kind (option_map kind_of o) then found else []) ≡ found
 unfolding node_breaks c9 c11 parameter_limit is_asked_kind kind_of
 asked p id None = refl
-asked p id (Some (Class place name flags header members)) = refl
+asked p id (Some (Class position name flags header members)) = refl
 asked p id (Some _) = refl
 
 asked_variable : (kind : Option NodeKind) →
@@ -62,8 +62,8 @@ module _ (forest : Forest) (id : ℕ) (h : is_asked_kind (option_map kind_of (sl
 limits_split : (p : Declarations) (id : ℕ) (node : Node) → slice_get p.nodes id ≡ Some node →
     node_limits p id node ≡ (if is_callable p.nodes id then k2 p id else []) ++ parameter_limit p node
 unfolding node_limits parameter_limit method_of constructor_of
-limits_split p id (Method place name flags result_type parameters body) e = rw e refl
-limits_split p id (Constructor place name flags parameters super_call body) e = rw e refl
+limits_split p id (Method position name flags result_type parameters body) e = rw e refl
+limits_split p id (Constructor position name flags parameters super_call body) e = rw e refl
 limits_split p id _ e = rw e refl
 
 -- the rules at a node, with the limit on variables behind the others

@@ -18,8 +18,8 @@ use Rattle.node_contexts.specs.Numbers.{owner_of, number_before}
 
 -- K3 at a node
 unfoldable pub parameter_limit : Declarations → Node → List Found
-parameter_limit p (method_node place name flags result_type parameters body) = k3 p parameters
-parameter_limit p (constructor_node place name flags parameters super_call body) = k3 p parameters
+parameter_limit p (method_node position name flags result_type parameters body) = k3 p parameters
+parameter_limit p (constructor_node position name flags parameters super_call body) = k3 p parameters
 parameter_limit p _ = []
 
 -- what is found at a node, if there is one, but for the limit on variables
@@ -32,7 +32,7 @@ is_late p id number = holds (owner_of p id) (is_callable p.nodes) && nat_le most
 
 -- K2 at the variable that a node declares
 abbrev pub broken_at_variable : List Node → ℕ → List Found
-broken_at_variable nodes id = found_at (option_map naming (variable_at nodes id)) (λ w. broken true K2 w.place)
+broken_at_variable nodes id = found_at (option_map naming (variable_at nodes id)) (λ w. broken true K2 w.position)
 
 -- the same, where it comes late
 abbrev pub too_late : Declarations → ℕ → ℕ → List Found

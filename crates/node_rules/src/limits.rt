@@ -29,7 +29,7 @@ pub fn note_k3(
                 allowed -= 1;
             } else {
                 found.push(Found {
-                    pos: written.place,
+                    pos: written.position,
                     rule: Rule::K3,
                 })?;
             }
@@ -73,7 +73,7 @@ pub fn note_late(
         return Ok(());
     }
     match variable_written(program, id) {
-        Some(variable) => report_if(found, true, Rule::K2, variable.place),
+        Some(variable) => report_if(found, true, Rule::K2, variable.position),
         None => Ok(()),
     }
 }

@@ -58,22 +58,22 @@ fn note_asked(
         return Ok(());
     };
     match node {
-        Node::Class { place, flags, .. } => {
+        Node::Class { position, flags, .. } => {
             let is_wrong = flags.is_some() && is_misplaced_on_class(&modifiers_at(program, *flags));
-            report_if(found, is_wrong, Rule::C11, *place)
+            report_if(found, is_wrong, Rule::C11, *position)
         }
         Node::Field {
-            place,
+            position,
             flags,
             declared_type,
             ..
         } => {
             note_type(found, classes, *declared_type)?;
             let is_wrong = flags.is_some() && is_misplaced_on_field(&modifiers_at(program, *flags));
-            report_if(found, is_wrong, Rule::C11, *place)
+            report_if(found, is_wrong, Rule::C11, *position)
         }
         Node::Method {
-            place,
+            position,
             name,
             flags,
             result_type,
@@ -82,34 +82,34 @@ fn note_asked(
         } => {
             note_type(found, classes, *result_type)?;
             let is_wrong = is_misplaced_on_method(classes, contexts, id, name.get(), *flags);
-            report_if(found, is_wrong, Rule::C11, *place)?;
+            report_if(found, is_wrong, Rule::C11, *position)?;
             note_k3(found, program, *parameters)
         }
         Node::Constructor {
-            place,
+            position,
             name,
             flags,
             parameters,
             ..
         } => {
             let is_wrong = is_misplaced_on_constructor(classes, contexts, id, name.get(), *flags);
-            report_if(found, is_wrong, Rule::C11, *place)?;
+            report_if(found, is_wrong, Rule::C11, *position)?;
             note_k3(found, program, *parameters)
         }
         Node::Parameter {
-            place,
+            position,
             flags,
             declared_type,
             ..
         }
         | Node::Local {
-            place,
+            position,
             flags,
             declared_type,
             ..
         }
         | Node::LocalWithValue {
-            name_place: place,
+            name_place: position,
             flags,
             declared_type,
             ..
@@ -117,11 +117,11 @@ fn note_asked(
             note_type(found, classes, *declared_type)?;
             let is_wrong = flags.is_some()
                 && is_misplaced_on_variable(&modifiers_at(program, *flags));
-            report_if(found, is_wrong, Rule::C11, *place)
+            report_if(found, is_wrong, Rule::C11, *position)
         }
-        Node::TypeArgument { place, name } => {
+        Node::TypeArgument { position, name } => {
             let is_wrong = names_no_mission(classes, name.get());
-            report_if(found, is_wrong, Rule::C9, *place)
+            report_if(found, is_wrong, Rule::C9, *position)
         }
         Node::New {
             name_place,
@@ -172,8 +172,8 @@ pub fn note_nodes(
     ensures { OnOk result (FindSame found.new.items (found.old.items ++ nodes_broken (declarations_of classes.now))) }
 {
     let program = classes.program();
-    for place in 0..program.len() {
-        let id = NodeId::at(place as u32);
+    for number in 0..program.len() {
+        let id = NodeId::at(number as u32);
         if !is_asked_kind(&program.kind(id)) {
             continue;
         }

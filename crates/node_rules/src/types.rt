@@ -59,8 +59,8 @@ pub fn note_type(found: &mut Vec<Found>, classes: &ClassTable, id: NodeId) -> Re
         ++ at_node (declarations_of classes.now) (c9_type (declarations_of classes.now)) id) }
 {
     match classes.program().get(id) {
-        Some(Node::ClassType { place, name, .. }) => {
-            report_if(found, names_no_type(classes, name.get()), Rule::C9, *place)
+        Some(Node::ClassType { position, name, .. }) => {
+            report_if(found, names_no_type(classes, name.get()), Rule::C9, *position)
         }
         _ => Ok(()),
     }
@@ -73,8 +73,8 @@ pub fn note_element(found: &mut Vec<Found>, classes: &ClassTable, id: NodeId) ->
         ++ at_node (declarations_of classes.now) (c9_element (declarations_of classes.now)) id) }
 {
     match classes.program().get(id) {
-        Some(Node::ClassType { place, name, .. }) => {
-            report_if(found, names_no_class(classes, name.get()), Rule::C9, *place)
+        Some(Node::ClassType { position, name, .. }) => {
+            report_if(found, names_no_class(classes, name.get()), Rule::C9, *position)
         }
         _ => Ok(()),
     }

@@ -14,7 +14,7 @@ variable_kind nodes id = go (slice_get nodes id)
     go : (o : Option Node) → is_some (option_and_then (variable_of nodes id) o) ≡ is_variable_kind
         (option_map kind_of o)
     go None = refl
-    go (Some (Parameter place name flags declared_type)) = refl
+    go (Some (Parameter position name flags declared_type)) = refl
     go (Some _) = refl
 
 pub field_kind : (nodes : List Node) (id : ℕ) →
@@ -24,7 +24,7 @@ field_kind nodes id = go (slice_get nodes id)
   where
     go : (o : Option Node) → is_some (option_and_then (field_of nodes id) o) ≡ is_field_kind (option_map kind_of o)
     go None = refl
-    go (Some (Field place name flags declared_type equals value)) = refl
+    go (Some (Field position name flags declared_type equals value)) = refl
     go (Some _) = refl
 
 pub method_kind : (nodes : List Node) (id : ℕ) →
@@ -34,5 +34,5 @@ method_kind nodes id = go (slice_get nodes id)
   where
     go : (o : Option Node) → is_some (option_and_then (method_of nodes id) o) ≡ is_method_kind (option_map kind_of o)
     go None = refl
-    go (Some (Method place name flags result_type parameters body)) = refl
+    go (Some (Method position name flags result_type parameters body)) = refl
     go (Some _) = refl

@@ -4,4 +4,4 @@ use Rattle.scj_rules.specs.declared.views.Declared.{Declared}
 
 -- its name, and where it is named
 abbrev pub naming : Declared → Written
-naming d = record { name = d.name; place = d.place }
+naming d = record { name = d.name; position = d.position }

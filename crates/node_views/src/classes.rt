@@ -23,10 +23,10 @@ pub fn class_name(program: &Program, id: NodeId) -> Option<Name>
 /// Where the class at a node is named.
 #[tactic(auto, unfolding(scj_rules::specs::Views::class_of))]
 pub fn class_place(program: &Program, id: NodeId) -> Option<Pos>
-    ensures { result ≡ option_map (λ (c : WrittenClass). c.place) (class_at program.now.nodes id) }
+    ensures { result ≡ option_map (λ (c : WrittenClass). c.position) (class_at program.now.nodes id) }
 {
     match program.get(id)? {
-        Node::Class { place, .. } => Some(*place),
+        Node::Class { position, .. } => Some(*position),
         _ => None,
     }
 }
@@ -48,9 +48,9 @@ pub fn named_super(program: &Program, id: NodeId) -> Option<Written>
     ensures { result ≡ read program.now.nodes named_super id }
 {
     match program.get(id)? {
-        Node::SuperType { place, name, .. } => Some(Written {
+        Node::SuperType { position, name, .. } => Some(Written {
             name: *name.get(),
-            place: *place,
+            position: *position,
         }),
         _ => None,
     }

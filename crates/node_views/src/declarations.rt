@@ -12,16 +12,16 @@ use scj_tree::{Node, Program};
 pub fn declared(
     program: &Program,
     node: NodeId,
-    place: Pos,
+    position: Pos,
     name: Name,
     flags: Option<NodeId>,
     declared_type: NodeId,
 ) -> Declared
-    ensures { result ≡ declared program.now.nodes node place name flags declared_type }
+    ensures { result ≡ declared program.now.nodes node position name flags declared_type }
 {
     Declared {
         node,
-        place,
+        position,
         name,
         modifiers: modifiers_at(program, flags),
         declared_type: type_at(program, declared_type),
@@ -35,24 +35,24 @@ pub fn variable_at(program: &Program, id: NodeId) -> Option<Declared>
 {
     match program.get(id)? {
         Node::Parameter {
-            place,
+            position,
             name,
             flags,
             declared_type,
         }
         | Node::Local {
-            place,
+            position,
             name,
             flags,
             declared_type,
         }
         | Node::LocalWithValue {
-            name_place: place,
+            name_place: position,
             name,
             flags,
             declared_type,
             ..
-        } => Some(declared(program, id, *place, *name.get(), *flags, *declared_type)),
+        } => Some(declared(program, id, *position, *name.get(), *flags, *declared_type)),
         _ => None,
     }
 }
@@ -64,12 +64,12 @@ pub fn field_at(program: &Program, id: NodeId) -> Option<Declared>
 {
     match program.get(id)? {
         Node::Field {
-            place,
+            position,
             name,
             flags,
             declared_type,
             ..
-        } => Some(declared(program, id, *place, *name.get(), *flags, *declared_type)),
+        } => Some(declared(program, id, *position, *name.get(), *flags, *declared_type)),
         _ => None,
     }
 }

@@ -16,12 +16,12 @@ pub fn method_declared(program: &Program, id: NodeId) -> Option<Declared>
 {
     match program.get(id)? {
         Node::Method {
-            place,
+            position,
             name,
             flags,
             result_type,
             ..
-        } => Some(declared(program, id, *place, *name.get(), *flags, *result_type)),
+        } => Some(declared(program, id, *position, *name.get(), *flags, *result_type)),
         _ => None,
     }
 }
@@ -66,9 +66,9 @@ pub fn callable_name(program: &Program, id: NodeId) -> Option<Written>
     ensures { result ≡ read program.now.nodes callable_name id }
 {
     match program.get(id)? {
-        Node::Method { place, name, .. } | Node::Constructor { place, name, .. } => Some(Written {
+        Node::Method { position, name, .. } | Node::Constructor { position, name, .. } => Some(Written {
             name: *name.get(),
-            place: *place,
+            position: *position,
         }),
         _ => None,
     }

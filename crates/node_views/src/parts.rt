@@ -127,15 +127,15 @@ pub fn variable_written(program: &Program, id: NodeId) -> Option<Written>
     ensures { result ≡ option_map naming (variable_at program.now.nodes id) }
 {
     match program.get(id)? {
-        Node::Parameter { place, name, .. }
-        | Node::Local { place, name, .. }
+        Node::Parameter { position, name, .. }
+        | Node::Local { position, name, .. }
         | Node::LocalWithValue {
-            name_place: place,
+            name_place: position,
             name,
             ..
         } => Some(Written {
             name: *name.get(),
-            place: *place,
+            position: *position,
         }),
         _ => None,
     }
@@ -147,9 +147,9 @@ pub fn field_written(program: &Program, id: NodeId) -> Option<Written>
     ensures { result ≡ option_map naming (field_at program.now.nodes id) }
 {
     match program.get(id)? {
-        Node::Field { place, name, .. } => Some(Written {
+        Node::Field { position, name, .. } => Some(Written {
             name: *name.get(),
-            place: *place,
+            position: *position,
         }),
         _ => None,
     }

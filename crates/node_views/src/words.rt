@@ -13,7 +13,7 @@ pub fn place_at(program: &Program, id: NodeId) -> Pos
     ensures { result ≡ place_at program.now.nodes id }
 {
     match program.get(id) {
-        Some(node) => node.place(),
+        Some(node) => node.position(),
         None => Pos {
             file: 0,
             line: 0,
@@ -28,9 +28,9 @@ pub fn scope_written(program: &Program, value: NodeId) -> Option<Written>
     ensures { result ≡ read program.now.nodes written_of value }
 {
     match program.get(value)? {
-        Node::ScopeName { place, name } => Some(Written {
+        Node::ScopeName { position, name } => Some(Written {
             name: *name.get(),
-            place: *place,
+            position: *position,
         }),
         _ => None,
     }
@@ -43,7 +43,7 @@ fn modifiers(program: &Program, flags: NodeId) -> Option<Modifiers>
 {
     match program.get(flags)? {
         Node::Flags {
-            place: _,
+            position: _,
             define_scope,
             scope,
             runs_in,

@@ -24,12 +24,12 @@ node_of f = f.node
 
 -- ---- places
 
-no_shift : (o : Option ℕ) → option_map (λ place. 0 + place) o ≡ o
+no_shift : (o : Option ℕ) → option_map (λ index. 0 + index) o ≡ o
 no_shift None = refl
 no_shift (Some k) = ap (λ (n : ℕ). Some n) (zero-add k)
 
 pub places_found : (find : ℕ → Option ℕ) (list ids : List ℕ)
-    → ((id : ℕ) → find id ≡ option_map (λ place. 0 + place) (position (λ other. id == other) list))
+    → ((id : ℕ) → find id ≡ option_map (λ index. 0 + index) (position (λ other. id == other) list))
     → map (λ (id : ℕ). find id) ids ≡ map (λ (id : ℕ). position (λ other. id == other) list) ids
 places_found find list [] h = refl
 places_found find list (id ∷ ids) h =
@@ -170,19 +170,19 @@ kind_by_table forest table field h =
     ap (λ (ks : List SlotKind). slice_get ks field) h.kinds
     ∙ slice_get-map kind_of_field (declared_fields (declarations_of forest)) field
 
-flat : {A : Type 0} (f : A → Option ℕ) (o : Option A) → option_and_then (λ place. place) (option_map f o)
+flat : {A : Type 0} (f : A → Option ℕ) (o : Option A) → option_and_then (λ index. index) (option_map f o)
     ≡ option_and_then f o
 flat f None = refl
 flat f (Some x) = refl
 
 pub static_place_by_table : (forest : Forest) (table : FieldTable) (field : ℕ) → IsFieldTableOf forest table
-    → option_and_then (λ place. place) (slice_get table.static_places.items field) ≡ static_place
+    → option_and_then (λ index. index) (slice_get table.static_places.items field) ≡ static_place
     (declarations_of forest) field
 unfolding static_place places_among_statics
 static_place_by_table forest table field h =
     let p : Declarations = declarations_of forest in
-    ap (λ (os : List (Option ℕ)). option_and_then (λ place. place) (slice_get os field)) h.static_places
-    ∙ ap (option_and_then (λ place. place))
+    ap (λ (os : List (Option ℕ)). option_and_then (λ index. index) (slice_get os field)) h.static_places
+    ∙ ap (option_and_then (λ index. index))
     (slice_get-map (λ (f : Declared). place_among (static_fields p) f) (declared_fields p) field)
     ∙ flat (λ (f : Declared). place_among (static_fields p) f) (slice_get (declared_fields p) field)
 

@@ -31,16 +31,16 @@ module _ (places fields : List ℕ) (field : ℕ) (has : HasPlaces places fields
       let e : Some (get_or fields k field) ≡ Some (get_or fields k 0) = sym a ∙ b in
       cc
 
-  pub placed_there : (place : ℕ) → place ≡ lookup 0 places field → place < length fields →
-      (field == lookup 0 fields place) ≡ true → position (λ other. field == other) fields ≡ Some place
-  placed_there place e l h =
-      let here : (field == get_or fields place field) ≡ true = ap (λ n. field == n) (same_there place l) ∙ h in
-      let none : (j : ℕ) → j < place → (field == get_or fields j field) ≡ false = λ j less. earlier j less in
-      let first : position_or_len (λ other. field == other) fields ≡ place =
-      position_or_len_is (λ other. field == other) fields place field (omega (arith, l)) none (λ z. here) in
-      rw first (rw (lt-ltb place (length fields) l) refl)
+  pub placed_there : (index : ℕ) → index ≡ lookup 0 places field → index < length fields →
+      (field == lookup 0 fields index) ≡ true → position (λ other. field == other) fields ≡ Some index
+  placed_there index e l h =
+      let here : (field == get_or fields index field) ≡ true = ap (λ n. field == n) (same_there index l) ∙ h in
+      let none : (j : ℕ) → j < index → (field == get_or fields j field) ≡ false = λ j less. earlier j less in
+      let first : position_or_len (λ other. field == other) fields ≡ index =
+      position_or_len_is (λ other. field == other) fields index field (omega (arith, l)) none (λ z. here) in
+      rw first (rw (lt-ltb index (length fields) l) refl)
     where
-      earlier : (j : ℕ) → j < place → (field == get_or fields j field) ≡ false
+      earlier : (j : ℕ) → j < index → (field == get_or fields j field) ≡ false
       earlier j less = ne_eqb field (get_or fields j field)
           (λ same. omega (
             arith,
@@ -50,16 +50,16 @@ module _ (places fields : List ℕ) (field : ℕ) (has : HasPlaces places fields
           ))
 
   -- where the table's place has another field, the field doesn't stand there
-  pub placed_elsewhere : (place : ℕ) → place ≡ lookup 0 places field → place < length fields →
-      (field == lookup 0 fields place) ≡ false → position (λ other. field == other) fields ≡ None
-  placed_elsewhere place e l h = go (position (λ other. field == other) fields) refl
+  pub placed_elsewhere : (index : ℕ) → index ≡ lookup 0 places field → index < length fields →
+      (field == lookup 0 fields index) ≡ false → position (λ other. field == other) fields ≡ None
+  placed_elsewhere index e l h = go (position (λ other. field == other) fields) refl
     where
       go : (o : Option ℕ) → position (λ other. field == other) fields ≡ o → o ≡ None
       go None q = refl
       go (Some k) q =
           let found = position-Some (λ other. field == other) fields k field q in
-          let at : place ≡ k = e ∙ stands k found.0 found.1 in
-          let here : (field == lookup 0 fields place) ≡ true =
+          let at : index ≡ k = e ∙ stands k found.0 found.1 in
+          let here : (field == lookup 0 fields index) ≡ true =
           ap (λ n. field == lookup 0 fields n) at ∙ ap (λ n. field == n) (sym (same_there k found.0)) ∙ found.1 in
           absurd (let z : true ≡ false = sym here ∙ h in cc)
 
@@ -117,13 +117,13 @@ row_fits p class row is =
 abbrev pub NoneBefore : List ℕ → ℕ → ℕ → Type 0
 NoneBefore fields field n = (j : ℕ) → j < n → (field == get_or fields j field) ≡ false
 
-pub found_first : (fields : List ℕ) (field place : ℕ) → place < length fields → get_or fields place field ≡ field →
-    NoneBefore fields field place → position (λ other. field == other) fields ≡ Some place
-found_first fields field place l h before =
-    let here : (field == get_or fields place field) ≡ true = eq-eqb field (get_or fields place field) (sym h) in
-    let first : position_or_len (λ other. field == other) fields ≡ place =
-    position_or_len_is (λ other. field == other) fields place field (omega (arith, l)) before (λ z. here) in
-    rw first (rw (lt-ltb place (length fields) l) refl)
+pub found_first : (fields : List ℕ) (field index : ℕ) → index < length fields → get_or fields index field ≡ field →
+    NoneBefore fields field index → position (λ other. field == other) fields ≡ Some index
+found_first fields field index l h before =
+    let here : (field == get_or fields index field) ≡ true = eq-eqb field (get_or fields index field) (sym h) in
+    let first : position_or_len (λ other. field == other) fields ≡ index =
+    position_or_len_is (λ other. field == other) fields index field (omega (arith, l)) before (λ z. here) in
+    rw first (rw (lt-ltb index (length fields) l) refl)
 
 pub found_nowhere : (fields : List ℕ) (field n : ℕ) → length fields ≤ n → NoneBefore fields field n →
     position (λ other. field == other) fields ≡ None

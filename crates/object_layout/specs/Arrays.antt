@@ -5,11 +5,11 @@ use Rattle.scj_rules.specs.declared.views.SlotKind.TheVariants.{Number, Truth, R
 
 -- what the elements of the array class at a place hold, where there are so many other classes
 unfoldable pub kind_behind : ℕ → ℕ → Option SlotKind
-kind_behind place count =
-    if place == 0 then Some Number
-    else (if place == 1 then Some Truth else (if nat_lt place (2 + count) then Some Reference else None))
+kind_behind index count =
+    if index == 0 then Some Number
+    else (if index == 1 then Some Truth else (if nat_lt index (2 + count) then Some Reference else None))
 
 -- the class of these elements, where they have one
 unfoldable pub class_behind : ℕ → ℕ → Option ℕ
-class_behind place count =
-    if nat_lt place 2 then None else (if nat_lt (place - 2) count then Some (place - 2) else None)
+class_behind index count =
+    if nat_lt index 2 then None else (if nat_lt (index - 2) count then Some (index - 2) else None)

@@ -8,5 +8,5 @@ HasPlaces places fields = (k id : ℕ) → slice_get fields k ≡ Some id → lo
 
 -- the table in which the places of these fields are noted, from a place on. Behind 2 ^ 32 - 1 comes 0.
 unfoldable pub noted : List ℕ → ℕ → List ℕ → List ℕ
-noted places place [] = places
-noted places place (id ∷ ids) = noted (slice_set places id place) ((place + 1) % 2 ^ 32) ids
+noted places index [] = places
+noted places index (id ∷ ids) = noted (slice_set places id index) ((index + 1) % 2 ^ 32) ids

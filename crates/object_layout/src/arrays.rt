@@ -11,16 +11,16 @@ use scj_rules::SlotKind;
 
 /// What the elements of the array class at a place behind so many classes hold.
 #[tactic(auto, unfolding(crate::specs::Arrays::kind_behind))]
-fn kind_behind(place: usize, count: usize) -> Option<SlotKind>
-    ensures { result ≡ kind_behind place count }
+fn kind_behind(index: usize, count: usize) -> Option<SlotKind>
+    ensures { result ≡ kind_behind index count }
 {
-    if place == 0 {
+    if index == 0 {
         return Some(SlotKind::Number);
     }
-    if place == 1 {
+    if index == 1 {
         return Some(SlotKind::Truth);
     }
-    if place - 2 < count {
+    if index - 2 < count {
         return Some(SlotKind::Reference);
     }
     None
@@ -28,14 +28,14 @@ fn kind_behind(place: usize, count: usize) -> Option<SlotKind>
 
 /// The class of the elements of the array class at a place behind so many classes.
 #[tactic(auto, unfolding(crate::specs::Arrays::class_behind))]
-fn class_behind(place: u32, count: usize) -> Option<ClassId>
-    ensures { result ≡ class_behind place count }
+fn class_behind(index: u32, count: usize) -> Option<ClassId>
+    ensures { result ≡ class_behind index count }
 {
-    if place < 2 {
+    if index < 2 {
         return None;
     }
-    if ((place - 2) as usize) < count {
-        return Some(ClassId::at(place - 2));
+    if ((index - 2) as usize) < count {
+        return Some(ClassId::at(index - 2));
     }
     None
 }

@@ -42,10 +42,10 @@ pub fn body_named(classes: &ClassTable, class: ClassId, name: &Name) -> Option<B
 }
 
 /// The node at a place of a list.
-fn node_at(nodes: &[NodeId], place: u32) -> Option<NodeId>
-    ensures { result ≡ slice_get nodes.now place }
+fn node_at(nodes: &[NodeId], index: u32) -> Option<NodeId>
+    ensures { result ≡ slice_get nodes.now index }
 {
-    nodes.get(place as usize).copied()
+    nodes.get(index as usize).copied()
 }
 
 /// The node of a declared method or constructor.

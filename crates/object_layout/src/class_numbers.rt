@@ -13,12 +13,12 @@ use scj_base::{ClassId, Memory, NodeId};
 use std::alloc::Global;
 
 /// Tells of a node that it stands in a class, if it does.
-fn learn(table: &mut Vec<Option<ClassId>>, place: usize, class: &Option<ClassId>)
-    requires { place < length table.old.items }
-    ensures { table.new.items ≡ (if is_some class.now then set table.old.items place class.now else table.old.items) }
+fn learn(table: &mut Vec<Option<ClassId>>, index: usize, class: &Option<ClassId>)
+    requires { index < length table.old.items }
+    ensures { table.new.items ≡ (if is_some class.now then set table.old.items index class.now else table.old.items) }
 {
     if class.is_some() {
-        table[place] = *class;
+        table[index] = *class;
     }
 }
 
@@ -33,9 +33,9 @@ pub fn classes_of_bodies(
         (λ table. (body : ℕ) → lookup None table.items body ≡ class_of_body (declarations_of classes.now) body) }
 {
     let mut table = class_numbers(alloc, classes.program())?;
-    for place in 0..node_count(classes) {
-        let context = contexts.get(NodeId::at(place as u32));
-        learn(&mut table, place, &context.class);
+    for number in 0..node_count(classes) {
+        let context = contexts.get(NodeId::at(number as u32));
+        learn(&mut table, number, &context.class);
     }
     Ok(table)
 }

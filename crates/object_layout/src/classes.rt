@@ -35,12 +35,12 @@ pub fn class_node(classes: &ClassTable, class: ClassId) -> Option<NodeId>
 pub fn class_place(classes: &ClassTable, class: ClassId) -> Pos
     ensures { result ≡ class_place (declarations_of classes.now) class }
 {
-    let place = match class_node(classes, class) {
+    let position = match class_node(classes, class) {
         Some(node) => node_views::class_place(classes.program(), node),
         None => None,
     };
-    match place {
-        Some(place) => place,
+    match position {
+        Some(position) => position,
         None => Pos {
             file: 0,
             line: 0,

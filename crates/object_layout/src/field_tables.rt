@@ -34,8 +34,8 @@ fn numbers_at(
     let mut numbers = Vec::new(alloc);
     let mut others = ids;
     while let [id, rest @ ..] = others {
-        let place = id.place();
-        numbers.push(found.get(&place).copied())?;
+        let number = id.number();
+        numbers.push(found.get(&number).copied())?;
         others = rest;
     }
     Ok(numbers)
@@ -79,10 +79,10 @@ pub fn kind_numbered(kinds: &[SlotKind], field: FieldId) -> Option<SlotKind>
 
 /// The place at a number.
 pub fn place_numbered(places: &[Option<u32>], field: FieldId) -> Option<u32>
-    ensures { result ≡ option_and_then (λ place. place) (slice_get places.now field) }
+    ensures { result ≡ option_and_then (λ index. index) (slice_get places.now field) }
 {
     match places.get(field.number() as usize) {
-        Some(place) => *place,
+        Some(index) => *index,
         None => None,
     }
 }

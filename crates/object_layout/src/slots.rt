@@ -11,12 +11,12 @@ use scj_base::NodeId;
 use scj_tree::told;
 
 /// Notes the place of a field.
-fn note_place(places: &mut Vec<u32>, field: NodeId, place: u32)
-    ensures { places.new.items ≡ slice_set places.old.items field place }
+fn note_place(places: &mut Vec<u32>, field: NodeId, index: u32)
+    ensures { places.new.items ≡ slice_set places.old.items field index }
 {
-    let at = field.place();
+    let at = field.number();
     if at < places.len() {
-        places[at] = place;
+        places[at] = index;
     }
 }
 
@@ -25,11 +25,11 @@ fn note_place(places: &mut Vec<u32>, field: NodeId, place: u32)
 pub fn note_places(places: &mut Vec<u32>, fields: &[NodeId])
     ensures { places.new.items ≡ noted places.old.items 0 fields.now }
 {
-    let mut place = 0u32;
+    let mut index = 0u32;
     let mut others = fields;
     while let [field, rest @ ..] = others {
-        note_place(places, *field, place);
-        place = place.wrapping_add(1);
+        note_place(places, *field, index);
+        index = index.wrapping_add(1);
         others = rest;
     }
 }
@@ -61,25 +61,25 @@ pub fn has_all_places(places: &[u32], rows: &[ObjectRow]) -> bool
 }
 
 /// Whether a field stands at a place.
-fn stands_at(fields: &[NodeId], place: usize, field: NodeId) -> bool
-    requires { place < length fields.now }
-    ensures { result ≡ (field == lookup 0 fields.now place) }
+fn stands_at(fields: &[NodeId], index: usize, field: NodeId) -> bool
+    requires { index < length fields.now }
+    ensures { result ≡ (field == lookup 0 fields.now index) }
 {
-    field == fields[place]
+    field == fields[index]
 }
 
 /// The place of a field that the table has, if the field is there.
 fn place_by_table(fields: &[NodeId], places: &[u32], field: NodeId) -> Option<usize>
     requires { HasPlaces places.now fields.now }
     ensures value { result ≡ position (λ other. field == other) fields.now }
-    ensures within { IfSome result (λ place. place < length fields.now) }
+    ensures within { IfSome result (λ index. index < length fields.now) }
 {
-    let place = told(places, 0, field) as usize;
-    if place >= fields.len() {
+    let index = told(places, 0, field) as usize;
+    if index >= fields.len() {
         return None;
     }
-    if stands_at(fields, place, field) {
-        Some(place)
+    if stands_at(fields, index, field) {
+        Some(index)
     } else {
         None
     }
@@ -89,11 +89,11 @@ fn place_by_table(fields: &[NodeId], places: &[u32], field: NodeId) -> Option<us
 #[tactic(auto, using(crate::proofs::SlotLemmas::found_first, crate::proofs::SlotLemmas::found_nowhere))]
 fn place_by_search(fields: &[NodeId], field: NodeId) -> Option<usize>
     ensures value { result ≡ position (λ other. field == other) fields.now }
-    ensures within { IfSome result (λ place. place < length fields.now) }
+    ensures within { IfSome result (λ index. index < length fields.now) }
 {
-    for place in 0..fields.len() {
-        if fields[place] == field {
-            return Some(place);
+    for index in 0..fields.len() {
+        if fields[index] == field {
+            return Some(index);
         }
     }
     None
@@ -103,7 +103,7 @@ fn place_by_search(fields: &[NodeId], field: NodeId) -> Option<usize>
 pub fn place_of(fields: &[NodeId], places: &[u32], is_regular: bool, field: NodeId) -> Option<usize>
     requires { is_regular ≡ true → HasPlaces places.now fields.now }
     ensures value { result ≡ position (λ other. field == other) fields.now }
-    ensures within { IfSome result (λ place. place < length fields.now) }
+    ensures within { IfSome result (λ index. index < length fields.now) }
 {
     if is_regular {
         place_by_table(fields, places, field)
@@ -113,13 +113,13 @@ pub fn place_of(fields: &[NodeId], places: &[u32], is_regular: bool, field: Node
 }
 
 /// The slot at a place behind the fields that nothing declares.
-pub fn slot_at(row: &ObjectRow, place: Option<usize>) -> Option<u32>
+pub fn slot_at(row: &ObjectRow, index: Option<usize>) -> Option<u32>
     requires sum { row.now.hidden + length row.now.fields.items ≡ row.now.slots }
-    requires within { IfSome place (λ k. k < length row.now.fields.items) }
-    ensures { result ≡ option_map (λ k. row.now.hidden + k) place }
+    requires within { IfSome index (λ k. k < length row.now.fields.items) }
+    ensures { result ≡ option_map (λ k. row.now.hidden + k) index }
 {
-    match place {
-        Some(place) => Some(row.hidden + place as u32),
+    match index {
+        Some(index) => Some(row.hidden + index as u32),
         None => None,
     }
 }

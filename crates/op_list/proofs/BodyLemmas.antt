@@ -30,18 +30,18 @@ method_is_body : (nodes : List Node) (id : ℕ) (node : Option Node) → slice_g
     is_some (option_and_then (method_of nodes id) node) ≡ true → Of is_body nodes id
 unfolding method_of is_body
 method_is_body nodes id None stands e = absurd (cc (e))
-method_is_body nodes id (Some (Method place name flags result_type parameters body)) stands e =
-    record { node = Method place name flags result_type parameters body; is_there = stands; passes = refl }
+method_is_body nodes id (Some (Method position name flags result_type parameters body)) stands e =
+    record { node = Method position name flags result_type parameters body; is_there = stands; passes = refl }
 method_is_body nodes id (Some _) stands e = absurd (cc (e))
 
 constructor_is_body : (nodes : List Node) (id : ℕ) (node : Option Node) (c : DeclaredConstructor) →
     slice_get nodes id ≡ node → option_and_then (constructor_of nodes id) node ≡ Some c → Of is_body nodes c.node
 unfolding constructor_of is_body
 constructor_is_body nodes id None c stands e = absurd (cc (e))
-constructor_is_body nodes id (Some (Constructor place name flags parameters super_call body)) c stands e =
+constructor_is_body nodes id (Some (Constructor position name flags parameters super_call body)) c stands e =
     let number : id ≡ c.node = ap (λ (c : DeclaredConstructor). c.node) (some_inj _ c e) in
     subst (Of is_body nodes) number
-    (record { node = Constructor place name flags parameters super_call body; is_there = stands; passes = refl })
+    (record { node = Constructor position name flags parameters super_call body; is_there = stands; passes = refl })
 constructor_is_body nodes id (Some _) c stands e = absurd (cc (e))
 
 module _ (forest : Forest) (accepted : IsAcceptedProgram forest) where
@@ -148,7 +148,7 @@ module _ (forest : Forest) (accepted : IsAcceptedProgram forest) where
           let user = user_class_is forest accepted.whole accepted.is_accepted sorted class row c there_ is in
           subst (Of is_body p.nodes) (some_inj c.node node e)
           (record {
-            node = Class user.node.place c.name user.node.flags user.node.header c.members;
+            node = Class user.node.position c.name user.node.flags user.node.header c.members;
             is_there = user.node.is_there;
             passes = refl;
           })

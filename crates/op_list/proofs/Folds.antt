@@ -22,21 +22,21 @@ use Rattle.op_list.proofs.Layouts.{laid_front, laid_nothing, laid_loop}
 use Rattle.op_list.proofs.Patches.{set_here, drop_here, drop_behind}
 use Rattle.op_list.proofs.PartsBelow.{parts_below, one_below}
 
-pub laid_as : (code : Code) (before after : List Row) (xs ys : List Op) (next place : ℕ) → xs ≡ ys →
-    IsLaid code before after xs next place → IsLaid code before after ys next place
-laid_as code before after xs ys next place e l = subst (λ ops. IsLaid code before after ops next place) e l
+pub laid_as : (code : Code) (before after : List Row) (xs ys : List Op) (next index : ℕ) → xs ≡ ys →
+    IsLaid code before after xs next index → IsLaid code before after ys next index
+laid_as code before after xs ys next index e l = subst (λ ops. IsLaid code before after ops next index) e l
 
 -- one item in front of those behind it
 pub laid_item : {A : Type 0} (code : Code) (before rows after : List Row) (ops : A → List Op) (xs : List A) (i : ℕ)
-    (item : A) (next at place : ℕ) → 0 < i → slice_get xs (i - 1) ≡ Some item →
-    IsLaid code before rows (flat_map ops (drop i xs)) next at → IsLaid code rows after (ops item) at place →
-    IsLaid code before after (flat_map ops (drop (i - 1) xs)) next place
-laid_item {A} code before rows after ops xs i item next at place h there back front =
+    (item : A) (next at index : ℕ) → 0 < i → slice_get xs (i - 1) ≡ Some item →
+    IsLaid code before rows (flat_map ops (drop i xs)) next at → IsLaid code rows after (ops item) at index →
+    IsLaid code before after (flat_map ops (drop (i - 1) xs)) next index
+laid_item {A} code before rows after ops xs i item next at index h there back front =
     let step : drop (i - 1) xs ≡ item ∷ drop (i - 1 + 1) xs = drop_here xs (i - 1) item there in
     let same : i - 1 + 1 ≡ i = omega (arith, h) in
-    laid_as code before after (ops item ++ flat_map ops (drop i xs)) (flat_map ops (drop (i - 1) xs)) next place
+    laid_as code before after (ops item ++ flat_map ops (drop i xs)) (flat_map ops (drop (i - 1) xs)) next index
     (sym (ap (flat_map ops) (step ∙ ap (λ (k : ℕ). item ∷ drop k xs) same)))
-    (laid_front code before rows after (ops item) (flat_map ops (drop i xs)) next at place back front)
+    (laid_front code before rows after (ops item) (flat_map ops (drop i xs)) next at index back front)
 
 pub no_items : {A : Type 0} (code : Code) (rows : List Row) (ops : A → List Op) (xs : List A) (i next : ℕ) →
     length xs ≤ i → next < length rows → IsLaid code rows rows (flat_map ops (drop i xs)) next next
@@ -91,24 +91,24 @@ leave_plain nodes = refl
 -- ---- loops
 
 -- a loop, whose row is put, whose turn is laid out, and whose row is set
-pub laid_set : (code : Code) (before one two after : List Row) (op : Op) (turn : List Op) (next place start : ℕ) →
+pub laid_set : (code : Code) (before one two after : List Row) (op : Op) (turn : List Op) (next index start : ℕ) →
     next < length before →
     ((front : List Op) → put_in_front code op true ≡ Some front → turn ++ op ∷ [] ≡ front) →
     ((front : List Op) → put_in_front code op false ≡ Some front → [] ≡ front) →
-    one ≡ before ++ row_of code op next next next ∷ [] → place ≡ length before →
-    IsLaid code one two turn place start →
-    after ≡ slice_set two place (row_of code op next start next) →
-    IsLaid code before after (op ∷ []) next place
-laid_set code before one two after op turn next place start inside if_true if_false put at l set =
+    one ≡ before ++ row_of code op next next next ∷ [] → index ≡ length before →
+    IsLaid code one two turn index start →
+    after ≡ slice_set two index (row_of code op next start next) →
+    IsLaid code before after (op ∷ []) next index
+laid_set code before one two after op turn next index start inside if_true if_false put at l set =
     let empty : Row = row_of code op next next next in
     let last : Row = row_of code op next start next in
     let moved : IsLaid code (before ++ empty ∷ []) two turn (length before) start =
     subst (λ (k : ℕ). IsLaid code (before ++ empty ∷ []) two turn k start) at
-    (subst (λ (rows : List Row). IsLaid code rows two turn place start) put l) in
+    (subst (λ (rows : List Row). IsLaid code rows two turn index start) put l) in
     let whole : two ≡ before ++ empty ∷ moved.longer.grown.0 =
     moved.longer.grown.1 ∙ append_assoc before (empty ∷ []) moved.longer.grown.0 in
     let is : after ≡ before ++ last ∷ moved.longer.grown.0 =
-    set ∙ ap (λ (rows : List Row). slice_set rows place last) whole
+    set ∙ ap (λ (rows : List Row). slice_set rows index last) whole
     ∙ ap (λ (k : ℕ). slice_set (before ++ empty ∷ moved.longer.grown.0) k last) at
     ∙ set_here before moved.longer.grown.0 empty last in
     subst (λ (k : ℕ). IsLaid code before after (op ∷ []) next k) (sym at)

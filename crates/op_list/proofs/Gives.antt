@@ -41,9 +41,9 @@ module _ (code : Code) (id : ℕ) where
   unfolding part_ids part_ops AllBelow
   part_same (Visit x) h = below_it (ops_of code) id x h.0
   part_same (Emit op) h = refl
-  part_same (Items place list) h =
-      items_same (drop place (items_at nodes list)) (below_drop id place (items_at nodes list) h)
-  part_same (Literals place class) h = refl
+  part_same (Items index list) h =
+      items_same (drop index (items_at nodes list)) (below_drop id index (items_at nodes list) h)
+  part_same (Literals index class) h = refl
 
   parts_same : (parts : List Part) → AllBelow id (ids_of nodes parts) →
       flat_map (part_ops code ops_below) parts ≡ flat_map (part_ops code (ops_of code)) parts

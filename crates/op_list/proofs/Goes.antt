@@ -30,8 +30,8 @@ module _ (code : Code) where
       ≡ front_of op (elim o [ None ↦ Plain | Some node ↦ and_choice node ]) condition
   unfolding right_operand and_choice front_of optional_ops
   and_front op condition None = refl
-  and_front op true (Some (Binary place operator left right)) = refl
-  and_front op false (Some (Binary place operator left right)) = refl
+  and_front op true (Some (Binary position operator left right)) = refl
+  and_front op false (Some (Binary position operator left right)) = refl
   and_front op condition (Some _) = refl
 
   or_front : (op : Op) (condition : Bool) (o : Option Node) →
@@ -39,8 +39,8 @@ module _ (code : Code) where
       ≡ front_of op (elim o [ None ↦ Plain | Some node ↦ or_choice node ]) condition
   unfolding right_operand or_choice front_of optional_ops
   or_front op condition None = refl
-  or_front op true (Some (Binary place operator left right)) = refl
-  or_front op false (Some (Binary place operator left right)) = refl
+  or_front op true (Some (Binary position operator left right)) = refl
+  or_front op false (Some (Binary position operator left right)) = refl
   or_front op condition (Some _) = refl
 
   if_front : (op : Op) (condition : Bool) (o : Option Node) →
@@ -49,8 +49,8 @@ module _ (code : Code) where
       ≡ front_of op (elim o [ None ↦ Plain | Some node ↦ if_choice node ]) condition
   unfolding if_parts if_choice front_of optional_ops
   if_front op condition None = refl
-  if_front op true (Some (If place test then_part else_part)) = refl
-  if_front op false (Some (If place test then_part else_part)) = refl
+  if_front op true (Some (If position test then_part else_part)) = refl
+  if_front op false (Some (If position test then_part else_part)) = refl
   if_front op condition (Some _) = refl
 
   loop_front : (id : ℕ) (condition : Bool) (o : Option Node) →
@@ -58,10 +58,10 @@ module _ (code : Code) where
       ≡ front_of (LOOP id) (elim o [ None ↦ Plain | Some node ↦ loop_choice node ]) condition
   unfolding turn_ops loop_choice front_of optional_ops
   loop_front id condition None = refl
-  loop_front id true (Some (While place test body)) = refl
-  loop_front id false (Some (While place test body)) = refl
-  loop_front id true (Some (For place first test step body)) = refl
-  loop_front id false (Some (For place first test step body)) = refl
+  loop_front id true (Some (While position test body)) = refl
+  loop_front id false (Some (While position test body)) = refl
+  loop_front id true (Some (For position first test step body)) = refl
+  loop_front id false (Some (For position first test step body)) = refl
   loop_front id condition (Some _) = refl
 
   pub goes : (op : Op) (condition : Bool) → put_in_front code op condition

@@ -11,10 +11,10 @@ use Rattle.op_list.specs.Rows.{rest_at, row_of, target, GoesOn, IsLonger, IsLaid
 use Rattle.op_list.proofs.Rests.{get_front, get_here, rest_front, rest_is, rest_patched, head_of}
 
 -- a row that goes on well does so when more rows are put behind
-pub goes_on_more : (code : Code) (xs ys : List Row) (place : ℕ) (row : Row) → place < length xs →
-    GoesOn code xs place row → GoesOn code (xs ++ ys) place row
+pub goes_on_more : (code : Code) (xs ys : List Row) (index : ℕ) (row : Row) → index < length xs →
+    GoesOn code xs index row → GoesOn code (xs ++ ys) index row
 unfolding target
-goes_on_more code xs ys place row h g =
+goes_on_more code xs ys index row h g =
     record {
       asked = g.asked;
       down = g.down;
@@ -30,7 +30,7 @@ pub longer_nothing : (code : Code) (rows : List Row) → IsLonger code rows rows
 longer_nothing code rows =
     record {
       grown = ([], sym (append-nil rows));
-      good = λ place row h e. absurd (omega (arith, h, slice_get_within rows place row e));
+      good = λ index row h e. absurd (omega (arith, h, slice_get_within rows index row e));
     }
 
 pub longer_length : (code : Code) (before after : List Row) → IsLonger code before after → length before ≤ length after
@@ -55,23 +55,23 @@ longer_still code before middle after g h =
         g.grown.0 ++ h.grown.0,
         h.grown.1 ∙ ap (λ rows. rows ++ h.grown.0) g.grown.1 ∙ append_assoc before g.grown.0 h.grown.0,
       );
-      good = λ place row l e. ⊎_elim
-          (λ (inside : place < length middle).
-          let there : slice_get middle place ≡ Some row = sym (longer_get code middle after h place inside) ∙ e in
-          subst (λ rows. GoesOn code rows place row) (sym h.grown.1)
-          (goes_on_more code middle h.grown.0 place row inside (g.good place row l there)))
-          (λ (outside : length middle ≤ place). h.good place row outside e)
-          (cases_lt place (length middle));
+      good = λ index row l e. ⊎_elim
+          (λ (inside : index < length middle).
+          let there : slice_get middle index ≡ Some row = sym (longer_get code middle after h index inside) ∙ e in
+          subst (λ rows. GoesOn code rows index row) (sym h.grown.1)
+          (goes_on_more code middle h.grown.0 index row inside (g.good index row l there)))
+          (λ (outside : length middle ≤ index). h.good index row outside e)
+          (cases_lt index (length middle));
     }
 
 pub laid_nothing : (code : Code) (rows : List Row) (next : ℕ) → next < length rows → IsLaid code rows rows [] next next
 laid_nothing code rows next h = record { longer = longer_nothing code rows; inside = h; rest = refl }
 
 -- one part in front of another
-pub laid_front : (code : Code) (before middle after : List Row) (front back : List Op) (next at place : ℕ) →
-    IsLaid code before middle back next at → IsLaid code middle after front at place →
-    IsLaid code before after (front ++ back) next place
-laid_front code before middle after front back next at place b f =
+pub laid_front : (code : Code) (before middle after : List Row) (front back : List Op) (next at index : ℕ) →
+    IsLaid code before middle back next at → IsLaid code middle after front at index →
+    IsLaid code before after (front ++ back) next index
+laid_front code before middle after front back next at index b f =
     record {
       longer = longer_still code before middle after b.longer f.longer;
       inside = f.inside;
@@ -88,10 +88,10 @@ module _ (code : Code) (rows : List Row) (row : Row) (asked : row.instruction �
   more =
       record {
         grown = (row ∷ [], refl);
-        good = λ place other l e.
-            let within = slice_get_within (rows ++ row ∷ []) place other e in
+        good = λ index other l e.
+            let within = slice_get_within (rows ++ row ∷ []) index other e in
             let len = length-append rows (row ∷ []) in
-            let last : length rows ≡ place = omega (arith, l, within, len) in
+            let last : length rows ≡ index = omega (arith, l, within, len) in
             let same : Some row ≡ Some other = sym (get_here rows [] row) ∙ ap (slice_get (rows ++ row ∷ [])) last ∙ e in
             let is : row ≡ other = cc in
             let here : GoesOn code (rows ++ row ∷ []) (length rows) row =
@@ -160,8 +160,8 @@ laid_choice code before middle rows op if_true if_false next on_true on_false h 
 
 -- the first row of a list behind others, with other targets: the others stay as they were
 patched_good : (code : Code) (xs ys : List Row) (x y : Row) → head_of x ≡ head_of y →
-    (place : ℕ) (row : Row) → GoesOn code (xs ++ x ∷ ys) place row → GoesOn code (xs ++ y ∷ ys) place row
-patched_good code xs ys x y e place row g =
+    (index : ℕ) (row : Row) → GoesOn code (xs ++ x ∷ ys) index row → GoesOn code (xs ++ y ∷ ys) index row
+patched_good code xs ys x y e index row g =
     let len : length (xs ++ x ∷ ys) ≡ length (xs ++ y ∷ ys) =
     (let a = length-append xs (x ∷ ys) in let b = length-append xs (y ∷ ys) in omega (arith, a, b)) in
     record {
@@ -224,29 +224,29 @@ laid_loop code before laid op turn next start h true_is false_is l =
     record {
       longer = record {
         grown = (last ∷ ys, refl);
-        good = λ place row low e. ⊎_elim
-            (λ (behind : length before < place).
-            let there : slice_get laid place ≡ Some row =
-            ap (λ rows. slice_get rows place) laid_is ∙ get_patched before ys first last place behind ∙ e in
+        good = λ index row low e. ⊎_elim
+            (λ (behind : length before < index).
+            let there : slice_get laid index ≡ Some row =
+            ap (λ rows. slice_get rows index) laid_is ∙ get_patched before ys first last index behind ∙ e in
             let wide_first = length-append before (first ∷ []) in
-            patched_good code before ys first last refl place row
-            (subst (λ rows. GoesOn code rows place row) laid_is
-            (l.longer.good place row (omega (arith, wide_first, behind)) there)))
-            (λ (at : place ≤ length before).
-            let is : length before ≡ place = omega (arith, at, low) in
+            patched_good code before ys first last refl index row
+            (subst (λ rows. GoesOn code rows index row) laid_is
+            (l.longer.good index row (omega (arith, wide_first, behind)) there)))
+            (λ (at : index ≤ length before).
+            let is : length before ≡ index = omega (arith, at, low) in
             let equal : Some last ≡ Some row = sym here ∙ ap (slice_get (before ++ last ∷ ys)) is ∙ e in
             let same_row : last ≡ row = cc in
             subst (λ (p : ℕ). GoesOn code (before ++ last ∷ ys) p row) is
             (subst (λ (r : Row). GoesOn code (before ++ last ∷ ys) (length before) r) same_row good_last))
-            (cases_lt (length before) place);
+            (cases_lt (length before) index);
       };
       inside = omega (arith, wide);
       rest = begin;
     }
 
 -- what is known of rows and places that are the same
-pub laid_at : (code : Code) (before after rows : List Row) (ops : List Op) (next place at : ℕ) → rows ≡ after →
-    at ≡ place → IsLaid code before after ops next place → IsLaid code before rows ops next at
-laid_at code before after rows ops next place at same is l =
+pub laid_at : (code : Code) (before after rows : List Row) (ops : List Op) (next index at : ℕ) → rows ≡ after →
+    at ≡ index → IsLaid code before after ops next index → IsLaid code before rows ops next at
+laid_at code before after rows ops next index at same is l =
     subst (λ (rows : List Row). IsLaid code before rows ops next at) (sym same)
     (subst (λ (at : ℕ). IsLaid code before after ops next at) (sym is) l)

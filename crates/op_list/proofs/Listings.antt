@@ -20,21 +20,21 @@ use Rattle.op_list.proofs.Rests.{rest_zero}
 use Rattle.op_list.proofs.Layouts.{goes_on_more, longer_length, longer_rest, longer_get}
 
 -- rows that were laid out behind the first one, which is never read
-pub first_rows : (code : Code) (none before rows : List Row) (first : Row) (ops : List Op) (next place : ℕ) →
-    none ≡ [] → before ≡ none ++ first ∷ [] → IsLaid code before rows ops next place → IsListed code rows []
-first_rows code none before rows first ops next place e put l =
+pub first_rows : (code : Code) (none before rows : List Row) (first : Row) (ops : List Op) (next index : ℕ) →
+    none ≡ [] → before ≡ none ++ first ∷ [] → IsLaid code before rows ops next index → IsListed code rows []
+first_rows code none before rows first ops next index e put l =
     let one : length before ≡ 1 = ap length put ∙ ap (λ (rs : List Row). length (rs ++ first ∷ [])) e in
     let long = longer_length code before rows l.longer in
     record {
       some = omega (arith, long, one);
-      good = record { each = λ place row h e. l.longer.good place row (omega (arith, h, one)) e };
+      good = record { each = λ index row h e. l.longer.good index row (omega (arith, h, one)) e };
       begins = λ id listed e. absurd (cc (e));
     }
 
 -- operations that were laid out in front of the end
-pub rest_laid : (code : Code) (before after : List Row) (ops : List Op) (place : ℕ) →
-    IsLaid code before after ops 0 place → rest_at after place ≡ ops
-rest_laid code before after ops place l =
+pub rest_laid : (code : Code) (before after : List Row) (ops : List Op) (index : ℕ) →
+    IsLaid code before after ops 0 index → rest_at after index ≡ ops
+rest_laid code before after ops index l =
     l.rest ∙ ap (λ (os : List Op). ops ++ os) (rest_zero before) ∙ append-nil ops
 
 pub empty_row : (code : Code) (before after : List Row) (row : BodyRow) →
@@ -93,13 +93,13 @@ one_more code before after bodies listed l g n =
     record {
       some = omega (arith, l.some, long);
       good = record {
-        each = λ place row h e. ⊎_elim
-            (λ (inside : place < length before).
-            let there : slice_get before place ≡ Some row = sym (longer_get code before after g place inside) ∙ e in
-            subst (λ rows. GoesOn code rows place row) (sym g.grown.1)
-            (goes_on_more code before g.grown.0 place row inside (l.good.each place row h there)))
-            (λ (outside : length before ≤ place). g.good place row outside e)
-            (cases_lt place (length before));
+        each = λ index row h e. ⊎_elim
+            (λ (inside : index < length before).
+            let there : slice_get before index ≡ Some row = sym (longer_get code before after g index inside) ∙ e in
+            subst (λ rows. GoesOn code rows index row) (sym g.grown.1)
+            (goes_on_more code before g.grown.0 index row inside (l.good.each index row h there)))
+            (λ (outside : length before ≤ index). g.good index row outside e)
+            (cases_lt index (length before));
       };
       begins = λ id other e. ⊎_elim
           (λ (inside : id < length bodies).

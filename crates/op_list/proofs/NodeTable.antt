@@ -20,8 +20,8 @@ use Rattle.op_list.proofs.StandFor.{StandFor, nothing, pick, visit, emit, last, 
 
 -- the nodes of an assignment's target that are visited
 unfoldable pub target_ids : Node → List ℕ
-target_ids (FieldAccess place name object) = object ∷ []
-target_ids (Element place array index) = array ∷ index ∷ []
+target_ids (FieldAccess position name object) = object ∷ []
+target_ids (Element position array index) = array ∷ index ∷ []
 target_ids _ = []
 
 module _ (code : Code) (id : ℕ) (sub : ℕ → List Op) where
@@ -113,13 +113,13 @@ module _ (code : Code) (id : ℕ) (sub : ℕ → List Op) where
   pub assign_stands : (value : ℕ) → value < id → (node : Node) → AllBelow id (target_ids node) → (b : Binding) →
       StandFor code id sub (assign_parts id value b node) (assign_ops sub id value b node)
   unfolding assign_parts assign_ops target_ids AllBelow
-  assign_stands value l (SimpleName place name) h (Local k) = visit code id sub value _ _ l (own (STORE id))
-  assign_stands value l (SimpleName place name) h (Field k) =
+  assign_stands value l (SimpleName position name) h (Local k) = visit code id sub value _ _ l (own (STORE id))
+  assign_stands value l (SimpleName position name) h (Field k) =
       emit code id sub (THIS id) _ _ (visit code id sub value _ _ l (own (PUT id)))
-  assign_stands value l (FieldAccess place name object) h (Field k) =
+  assign_stands value l (FieldAccess position name object) h (Field k) =
       visit code id sub object _ _ h.0 (visit code id sub value _ _ l (own (PUT id)))
   assign_stands value l node h (Static k) = visit code id sub value _ _ l (own (PUTSTATIC id))
-  assign_stands value l (Element place array index) h b =
+  assign_stands value l (Element position array index) h b =
       visit code id sub array _ _ h.0
       (visit code id sub index _ _ h.1.0 (visit code id sub value _ _ l (own (PUTELEM id))))
   assign_stands value l _ h _ = none

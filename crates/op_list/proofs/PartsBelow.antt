@@ -45,8 +45,8 @@ module _ (nodes : List Node) (id : ℕ) where
   put [] ys p q = q
   put (Emit op ∷ xs) ys p q = (p.0, put xs ys p.1 q)
   put (Visit x ∷ xs) ys p q = put xs ys p q
-  put (Items place list ∷ xs) ys p q = put xs ys p q
-  put (Literals place class ∷ xs) ys p q = put xs ys p q
+  put (Items index list ∷ xs) ys p q = put xs ys p q
+  put (Literals index class ∷ xs) ys p q = put xs ys p q
 
   there_is : (by : Node → Choice) (node : Node) → slice_get nodes id ≡ Some node → IsChoiceBelow id (by node) →
       IsChoiceBelow id (choice_at nodes by id)
@@ -134,11 +134,11 @@ module _ (nodes : List Node) (id : ℕ) where
 
   assigns : (x value : ℕ) (b : Binding) (target : Node) → Emits (assign_parts x value b target)
   unfolding Emits assign_parts choice_of IsChoiceBelow
-  assigns x value (Local k) (SimpleName place name) = (tt, tt)
-  assigns x value (Field k) (SimpleName place name) = (tt, (tt, tt))
-  assigns x value (Field k) (FieldAccess place name object) = (tt, tt)
+  assigns x value (Local k) (SimpleName position name) = (tt, tt)
+  assigns x value (Field k) (SimpleName position name) = (tt, (tt, tt))
+  assigns x value (Field k) (FieldAccess position name object) = (tt, tt)
   assigns x value (Static k) _ = (tt, tt)
-  assigns x value _ (Element place array index) = (tt, tt)
+  assigns x value _ (Element position array index) = (tt, tt)
   assigns x value _ _ = tt
 
   assignments : (code : Code) (x value target : ℕ) (o : Option Node) →
@@ -196,52 +196,52 @@ module _ (code : Code) (behind : BehindChildren code.program) (id : ℕ) where
   emits : (node : Node) → slice_get nodes id ≡ Some node → Emits nodes id (node_parts code id node)
   unfolding Emits node_parts binary_parts assignment_parts dropped_parts constructor_parts choice_of IsChoiceBelow
       IsBelowIfAny AllBelow children and_choice or_choice if_choice loop_choice
-  emits (Number place value is_negative) there = (tt, tt)
-  emits (True place) there = (tt, tt)
-  emits (False place) there = (tt, tt)
-  emits (Null place) there = (tt, tt)
-  emits (This place) there = (tt, tt)
-  emits (SimpleName place name) there = names nodes id id (binding code id)
-  emits (FieldAccess place name object) there = accesses nodes id id object (binding code id)
-  emits (Element place array index) there = (tt, tt)
-  emits (Parenthesized place inner) there = tt
-  emits (Unary place operator operand) there = (tt, tt)
-  emits (Binary place operator left right) there =
-      let h = behind id (Binary place operator left right) there in
+  emits (Number position value is_negative) there = (tt, tt)
+  emits (True position) there = (tt, tt)
+  emits (False position) there = (tt, tt)
+  emits (Null position) there = (tt, tt)
+  emits (This position) there = (tt, tt)
+  emits (SimpleName position name) there = names nodes id id (binding code id)
+  emits (FieldAccess position name object) there = accesses nodes id id object (binding code id)
+  emits (Element position array index) there = (tt, tt)
+  emits (Parenthesized position inner) there = tt
+  emits (Unary position operator operand) there = (tt, tt)
+  emits (Binary position operator left right) there =
+      let h = behind id (Binary position operator left right) there in
       choose nodes id (operator == sign_and_and) _ _
-      (there_is nodes id and_choice (Binary place operator left right) there (h.1.0, tt), tt)
+      (there_is nodes id and_choice (Binary position operator left right) there (h.1.0, tt), tt)
       (choose nodes id (operator == sign_or_or) _ _
-      (there_is nodes id or_choice (Binary place operator left right) there (tt, h.1.0), tt)
+      (there_is nodes id or_choice (Binary position operator left right) there (tt, h.1.0), tt)
       (tt, tt))
-  emits (New place name_place name arguments) there = news nodes id id (binding code id)
-  emits (NewArray place element length) there = (tt, tt)
-  emits (Call place name object arguments) there = calls nodes id id object (binding code id)
-  emits (Cast place name_place name operand) there = (tt, tt)
-  emits (LocalNode place name flags declared_type) there = (tt, tt)
-  emits (LocalWithValue place name_place name flags declared_type value) there = (tt, tt)
-  emits (Assign place target value) there = assignments nodes id code id value target (slice_get nodes target)
-  emits (ExpressionStatement place expression) there =
+  emits (New position name_place name arguments) there = news nodes id id (binding code id)
+  emits (NewArray position element length) there = (tt, tt)
+  emits (Call position name object arguments) there = calls nodes id id object (binding code id)
+  emits (Cast position name_place name operand) there = (tt, tt)
+  emits (LocalNode position name flags declared_type) there = (tt, tt)
+  emits (LocalWithValue position name_place name flags declared_type value) there = (tt, tt)
+  emits (Assign position target value) there = assignments nodes id code id value target (slice_get nodes target)
+  emits (ExpressionStatement position expression) there =
       choose nodes id (leaves_value (binding code expression)) _ _ (tt, tt) tt
-  emits (Block place statements) there = tt
-  emits (If place condition then_part else_part) there =
-      let h = behind id (If place condition then_part else_part) there in (
-        there_is nodes id if_choice (If place condition then_part else_part) there
+  emits (Block position statements) there = tt
+  emits (If position condition then_part else_part) there =
+      let h = behind id (If position condition then_part else_part) there in (
+        there_is nodes id if_choice (If position condition then_part else_part) there
             (h.1.0, below_optional nodes id else_part h.1.1),
         tt,
       )
-  emits (While place condition body) there =
-      let h = behind id (While place condition body) there in
-      (there_is nodes id loop_choice (While place condition body) there (h.1.0, tt, h.0), tt)
-  emits (For place start condition step body) there =
-      let h = behind id (For place start condition step body) there in
-      (there_is nodes id loop_choice (For place start condition step body) there (h.1.1.1.0, h.1.1.0, h.1.0), tt)
-  emits (Return place value) there = returns nodes id id value
-  emits (MethodNode place name flags result_type parameters body) there =
+  emits (While position condition body) there =
+      let h = behind id (While position condition body) there in
+      (there_is nodes id loop_choice (While position condition body) there (h.1.0, tt, h.0), tt)
+  emits (For position start condition step body) there =
+      let h = behind id (For position start condition step body) there in
+      (there_is nodes id loop_choice (For position start condition step body) there (h.1.1.1.0, h.1.1.0, h.1.0), tt)
+  emits (Return position value) there = returns nodes id id value
+  emits (MethodNode position name flags result_type parameters body) there =
       methods nodes id (is_same_type (type_at nodes result_type) void_type) body
-  emits (SuperCall place arguments) there = supers nodes id id (binding code id)
-  emits (Constructor place name flags parameters super_call body) there =
+  emits (SuperCall position arguments) there = supers nodes id id (binding code id)
+  emits (Constructor position name flags parameters super_call body) there =
       constructors nodes id code super_call (Some body) (class_of_body code.program id)
-  emits (Class place name flags header members) there =
+  emits (Class position name flags header members) there =
       constructors nodes id code None None (class_of_body code.program id)
   emits _ there = tt
 
@@ -256,10 +256,10 @@ module _ (code : Code) (behind : BehindChildren code.program) (id : ℕ) where
   both [] h e = tt
   both (Visit x ∷ parts) h e = (h.0, both parts h.1 e)
   both (Emit op ∷ parts) h e = (e.0, both parts h e.1)
-  both (Items place list ∷ parts) h e =
+  both (Items index list ∷ parts) h e =
       let r = below_split id (items_at nodes list) (ids_of nodes parts) h in
       (at (items_at nodes list) r.0, both parts r.1 e)
-  both (Literals place class ∷ parts) h e = (tt, both parts h e)
+  both (Literals index class ∷ parts) h e = (tt, both parts h e)
 
   parts_of : (o : Option Node) → slice_get nodes id ≡ o →
       AreBelow nodes id (elim o [ None ↦ [] | Some node ↦ node_parts code id node ])

@@ -12,8 +12,8 @@ use Rattle.op_list.specs.Parts.{items_at, part_ops, all_items}
 unfoldable pub part_ids : List Node → Part → List ℕ
 part_ids nodes (Visit id) = id ∷ []
 part_ids nodes (Emit op) = []
-part_ids nodes (Items place list) = items_at nodes list
-part_ids nodes (Literals place class) = []
+part_ids nodes (Items index list) = items_at nodes list
+part_ids nodes (Literals index class) = []
 
 unfoldable pub ids_of : List Node → List Part → List ℕ
 ids_of nodes [] = []

@@ -11,21 +11,21 @@ use Rattle.op_list.specs.declared.choices.Choice.{Choice}
 use Rattle.op_list.specs.declared.choices.Choice.TheVariants.{Plain, Either, Turn}
 
 unfoldable pub and_choice : Node → Choice
-and_choice (Binary place operator left right) = Either (record { on_true = Some right; on_false = None })
+and_choice (Binary position operator left right) = Either (record { on_true = Some right; on_false = None })
 and_choice _ = Plain
 
 unfoldable pub or_choice : Node → Choice
-or_choice (Binary place operator left right) = Either (record { on_true = None; on_false = Some right })
+or_choice (Binary position operator left right) = Either (record { on_true = None; on_false = Some right })
 or_choice _ = Plain
 
 unfoldable pub if_choice : Node → Choice
-if_choice (If place condition then_part else_part) =
+if_choice (If position condition then_part else_part) =
     Either (record { on_true = Some then_part; on_false = else_part })
 if_choice _ = Plain
 
 unfoldable pub loop_choice : Node → Choice
-loop_choice (While place condition body) = Turn (record { body = body; step = None; test = condition })
-loop_choice (For place first condition step body) = Turn (record { body = body; step = Some step; test = condition })
+loop_choice (While position condition body) = Turn (record { body = body; step = None; test = condition })
+loop_choice (For position first condition step body) = Turn (record { body = body; step = Some step; test = condition })
 loop_choice _ = Plain
 
 unfoldable pub choice_at : List Node → (Node → Choice) → ℕ → Choice
@@ -54,9 +54,9 @@ IsChoiceBelow bound (Turn parts) =
 unfoldable pub IsPartBelow : List Node → ℕ → Part → Type 0
 IsPartBelow nodes bound (Visit id) = id < bound
 IsPartBelow nodes bound (Emit op) = IsChoiceBelow bound (choice_of nodes op)
-IsPartBelow nodes bound (Items place list) =
+IsPartBelow nodes bound (Items index list) =
     (k item : ℕ) → slice_get (items_at nodes list) k ≡ Some item → item < bound
-IsPartBelow nodes bound (Literals place class) = Unit {0}
+IsPartBelow nodes bound (Literals index class) = Unit {0}
 
 -- each of these parts is
 unfoldable pub AreBelow : List Node → ℕ → List Part → Type 0

@@ -16,9 +16,9 @@ use Rattle.op_list.specs.Rows.{rest_at, GoesOn}
 
 -- what a body is named by: a method, a constructor, or a class whose constructor isn't written
 unfoldable pub is_body : Node → Bool
-is_body (Method place name flags result_type parameters body) = true
-is_body (Constructor place name flags parameters super_call body) = true
-is_body (Class place name flags header members) = true
+is_body (Method position name flags result_type parameters body) = true
+is_body (Constructor position name flags parameters super_call body) = true
+is_body (Class position name flags header members) = true
 is_body _ = false
 
 -- the body is the framework's empty one, or one that a node of these names
@@ -49,7 +49,7 @@ pub record IsNodeRow (code : Code) (rows : List Row) (id : ℕ) (listed : Option
 
 -- each row but the one of place 0 goes on where the definition does
 pub record AreGood (code : Code) (rows : List Row) : Type 0 where
-  pub each : (place : ℕ) (row : Row) → 0 < place → slice_get rows place ≡ Some row → GoesOn code rows place row
+  pub each : (index : ℕ) (row : Row) → 0 < index → slice_get rows index ≡ Some row → GoesOn code rows index row
 
 pub record IsListed (code : Code) (rows : List Row) (bodies : List (Option BodyRow)) : Type 0 where
   pub some : 0 < length rows

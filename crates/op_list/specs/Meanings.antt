@@ -31,7 +31,7 @@ get code world f field =
     with_field code world r field (λ o slot. given (slice_get o.slots slot) (λ value. pushes f value))))
 
 abbrev pub get_static : Environment → Frame → ℕ → Effect
-get_static world f place = given (slice_get world.statics place) (λ value. pushes f value)
+get_static world f index = given (slice_get world.statics index) (λ value. pushes f value)
 
 abbrev pub unary : Frame → ℕ → Effect
 unary f operator = pop f (λ operand f. given (unary_value operator operand) (λ value. pushes f value))
@@ -101,7 +101,7 @@ put code world f field =
     with_field code world r field (λ o slot. Stores f r slot value))))
 
 abbrev pub put_static : Frame → ℕ → Effect
-put_static f place = pop f (λ value f. StoresStatic f place value)
+put_static f index = pop f (λ value f. StoresStatic f index value)
 
 -- ---- all instructions, each at the node of its operation
 

@@ -24,10 +24,10 @@ use Rattle.op_list.specs.declared.parts.Part.TheVariants.{Visit, Emit, Items, Li
 
 -- the items of a node, which stand in a list: statements and arguments
 unfoldable pub items_of : Node → List ℕ
-items_of (SuperCall place arguments) = arguments
-items_of (Block place statements) = statements
-items_of (Call place name object arguments) = arguments
-items_of (New place name_place name arguments) = arguments
+items_of (SuperCall position arguments) = arguments
+items_of (Block position statements) = statements
+items_of (Call position name object arguments) = arguments
+items_of (New position name_place name arguments) = arguments
 items_of _ = []
 
 unfoldable pub items_at : List Node → ℕ → List ℕ
@@ -37,8 +37,8 @@ items_at nodes id = elim (slice_get nodes id) [ None ↦ [] | Some node ↦ item
 unfoldable pub part_ops : Code → (ℕ → List Op) → Part → List Op
 part_ops code ops (Visit id) = ops id
 part_ops code ops (Emit op) = op ∷ []
-part_ops code ops (Items place list) = flat_map ops (drop place (items_at code.program.nodes list))
-part_ops code ops (Literals place class) = drop place (literal_ops code class)
+part_ops code ops (Items index list) = flat_map ops (drop index (items_at code.program.nodes list))
+part_ops code ops (Literals index class) = drop index (literal_ops code class)
 
 -- the items of a node, from the first on
 abbrev pub all_items : ℕ → Part
@@ -98,11 +98,11 @@ call_parts id object _ = []
 -- ---- statements
 
 unfoldable pub assign_parts : ℕ → ℕ → Binding → Node → List Part
-assign_parts id value (Local k) (SimpleName place name) = Visit value ∷ Emit (STORE id) ∷ []
-assign_parts id value (Field k) (SimpleName place name) = Emit (THIS id) ∷ Visit value ∷ Emit (PUT id) ∷ []
-assign_parts id value (Field k) (FieldAccess place name object) = Visit object ∷ Visit value ∷ Emit (PUT id) ∷ []
+assign_parts id value (Local k) (SimpleName position name) = Visit value ∷ Emit (STORE id) ∷ []
+assign_parts id value (Field k) (SimpleName position name) = Emit (THIS id) ∷ Visit value ∷ Emit (PUT id) ∷ []
+assign_parts id value (Field k) (FieldAccess position name object) = Visit object ∷ Visit value ∷ Emit (PUT id) ∷ []
 assign_parts id value (Static k) _ = Visit value ∷ Emit (PUTSTATIC id) ∷ []
-assign_parts id value _ (Element place array index) =
+assign_parts id value _ (Element position array index) =
     Visit array ∷ Visit index ∷ Visit value ∷ Emit (PUTELEM id) ∷ []
 assign_parts id value _ _ = []
 
@@ -165,38 +165,38 @@ constructor_parts code id super_call body =
 -- ---- all nodes
 
 unfoldable pub node_parts : Code → ℕ → Node → List Part
-node_parts code id (Number place value is_negative) = Emit (PUSH id) ∷ []
-node_parts code id (True place) = Emit (PUSH id) ∷ []
-node_parts code id (False place) = Emit (PUSH id) ∷ []
-node_parts code id (Null place) = Emit (PUSH id) ∷ []
-node_parts code id (This place) = Emit (THIS id) ∷ []
-node_parts code id (SimpleName place name) = name_parts id (binding code id)
-node_parts code id (FieldAccess place name object) = access_parts id object (binding code id)
-node_parts code id (Element place array index) = Visit array ∷ Visit index ∷ Emit (ELEM id) ∷ []
-node_parts code id (Parenthesized place inner) = Visit inner ∷ []
-node_parts code id (Unary place operator operand) = Visit operand ∷ Emit (UNARY id) ∷ []
-node_parts code id (Binary place operator left right) = binary_parts id operator left right
-node_parts code id (New place name_place name arguments) = new_parts id (binding code id)
-node_parts code id (NewArray place element length) = Visit length ∷ Emit (ALLOCARRAY id) ∷ []
-node_parts code id (Call place name object arguments) = call_parts id object (binding code id)
-node_parts code id (Cast place name_place name operand) = Visit operand ∷ Emit (CAST id) ∷ []
-node_parts code id (LocalNode place name flags declared_type) = Emit (ZERO id) ∷ []
-node_parts code id (LocalWithValue place name_place name flags declared_type value) =
+node_parts code id (Number position value is_negative) = Emit (PUSH id) ∷ []
+node_parts code id (True position) = Emit (PUSH id) ∷ []
+node_parts code id (False position) = Emit (PUSH id) ∷ []
+node_parts code id (Null position) = Emit (PUSH id) ∷ []
+node_parts code id (This position) = Emit (THIS id) ∷ []
+node_parts code id (SimpleName position name) = name_parts id (binding code id)
+node_parts code id (FieldAccess position name object) = access_parts id object (binding code id)
+node_parts code id (Element position array index) = Visit array ∷ Visit index ∷ Emit (ELEM id) ∷ []
+node_parts code id (Parenthesized position inner) = Visit inner ∷ []
+node_parts code id (Unary position operator operand) = Visit operand ∷ Emit (UNARY id) ∷ []
+node_parts code id (Binary position operator left right) = binary_parts id operator left right
+node_parts code id (New position name_place name arguments) = new_parts id (binding code id)
+node_parts code id (NewArray position element length) = Visit length ∷ Emit (ALLOCARRAY id) ∷ []
+node_parts code id (Call position name object arguments) = call_parts id object (binding code id)
+node_parts code id (Cast position name_place name operand) = Visit operand ∷ Emit (CAST id) ∷ []
+node_parts code id (LocalNode position name flags declared_type) = Emit (ZERO id) ∷ []
+node_parts code id (LocalWithValue position name_place name flags declared_type value) =
     Visit value ∷ Emit (STORE id) ∷ []
-node_parts code id (Assign place target value) = assignment_parts code id target value
-node_parts code id (ExpressionStatement place expression) =
+node_parts code id (Assign position target value) = assignment_parts code id target value
+node_parts code id (ExpressionStatement position expression) =
     dropped_parts id expression (leaves_value (binding code expression))
-node_parts code id (Block place statements) = all_items id ∷ []
-node_parts code id (If place condition then_part else_part) = Visit condition ∷ Emit (IF id) ∷ []
-node_parts code id (While place condition body) = Visit condition ∷ Emit (LOOP id) ∷ []
-node_parts code id (For place first condition step body) = Visit first ∷ Visit condition ∷ Emit (LOOP id) ∷ []
-node_parts code id (Return place value) = return_parts id value
-node_parts code id (MethodNode place name flags result_type parameters body) =
+node_parts code id (Block position statements) = all_items id ∷ []
+node_parts code id (If position condition then_part else_part) = Visit condition ∷ Emit (IF id) ∷ []
+node_parts code id (While position condition body) = Visit condition ∷ Emit (LOOP id) ∷ []
+node_parts code id (For position first condition step body) = Visit first ∷ Visit condition ∷ Emit (LOOP id) ∷ []
+node_parts code id (Return position value) = return_parts id value
+node_parts code id (MethodNode position name flags result_type parameters body) =
     method_parts (is_same_type (type_at code.program.nodes result_type) void_type) body
-node_parts code id (SuperCall place arguments) = super_parts id (binding code id)
-node_parts code id (Constructor place name flags parameters super_call body) =
+node_parts code id (SuperCall position arguments) = super_parts id (binding code id)
+node_parts code id (Constructor position name flags parameters super_call body) =
     constructor_parts code id super_call (Some body)
-node_parts code id (Class place name flags header members) = constructor_parts code id None None
+node_parts code id (Class position name flags header members) = constructor_parts code id None None
 node_parts code id _ = []
 
 unfoldable pub parts_at : Code → ℕ → List Part

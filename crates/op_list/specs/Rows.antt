@@ -32,14 +32,14 @@ target row condition = if condition then row.if_true else row.if_false
 
 -- from a row on, which was taken in front of a place, a run goes on where the definition does
 unfoldable pub GoesBy : Code → List Row → Row → ℕ → Type 0
-GoesBy code rows row place =
+GoesBy code rows row index =
     (condition : Bool) (front : List Op) → put_in_front code row.op condition ≡ Some front →
-    rest_at rows (target row condition) ≡ front ++ rest_at rows place
+    rest_at rows (target row condition) ≡ front ++ rest_at rows index
 
 -- a row goes on where the definition does, and has what its operation asks
-pub record GoesOn (code : Code) (rows : List Row) (place : ℕ) (row : Row) : Type 0 where
+pub record GoesOn (code : Code) (rows : List Row) (index : ℕ) (row : Row) : Type 0 where
   pub asked : row.instruction ≡ instruction_of code row.op
-  pub down : row.next < place
+  pub down : row.next < index
   pub if_true : row.if_true < length rows
   pub if_false : row.if_false < length rows
   pub branch : (condition : Bool) (front : List Op) → put_in_front code row.op condition ≡ Some front →
@@ -48,11 +48,11 @@ pub record GoesOn (code : Code) (rows : List Row) (place : ℕ) (row : Row) : Ty
 -- rows were put behind others, and each of the new ones goes on where the definition does
 pub record IsLonger (code : Code) (before after : List Row) : Type 0 where
   pub grown : (more : List Row) × (after ≡ before ++ more)
-  pub good : (place : ℕ) (row : Row) → length before ≤ place → slice_get after place ≡ Some row →
-      GoesOn code after place row
+  pub good : (index : ℕ) (row : Row) → length before ≤ index → slice_get after index ≡ Some row →
+      GoesOn code after index row
 
 -- operations were laid out in front of place `next`, from `place` on
-pub record IsLaid (code : Code) (before after : List Row) (ops : List Op) (next place : ℕ) : Type 0 where
+pub record IsLaid (code : Code) (before after : List Row) (ops : List Op) (next index : ℕ) : Type 0 where
   pub longer : IsLonger code before after
-  pub inside : place < length after
-  pub rest : rest_at after place ≡ ops ++ rest_at before next
+  pub inside : index < length after
+  pub rest : rest_at after index ≡ ops ++ rest_at before next

@@ -19,7 +19,7 @@ use scj_rules::Binding;
 pub fn all_items(id: NodeId) -> Part
     ensures { result ≡ all_items id }
 {
-    Part::Items { place: 0, list: id }
+    Part::Items { index: 0, list: id }
 }
 
 /// The parts of a name.

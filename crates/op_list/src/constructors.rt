@@ -96,7 +96,7 @@ pub fn constructor_parts(
         None => Parts::none(),
         Some(class) => {
             let mut parts = first_parts(code, class, super_call);
-            parts.push(Part::Literals { place: 0, class });
+            parts.push(Part::Literals { index: 0, class });
             put_body(&mut parts, body);
             parts
         }

@@ -215,14 +215,14 @@ fn lay_part(
 ) -> Result<u32, Memory>
     requires below { IsPartBelow code.now.nodes bound part }
     requires inside { next < length rows.old.items }
-    ensures { IfOk result (λ place. IsLaid (code_of code.now) rows.old.items rows.new.items
-        (part_ops (code_of code.now) (ops_of (code_of code.now)) part) next place) }
+    ensures { IfOk result (λ index. IsLaid (code_of code.now) rows.old.items rows.new.items
+        (part_ops (code_of code.now) (ops_of (code_of code.now)) part) next index) }
 {
     match part {
         Part::Visit(id) => lay_node(code, rows, id, next),
         Part::Emit(op) => lay_op(code, rows, bound, op, next),
-        Part::Items { place, list } => lay_items(code, rows, bound, place, list, next),
-        Part::Literals { place, class } => lay_literals(code, rows, place, class, next),
+        Part::Items { index, list } => lay_items(code, rows, bound, index, list, next),
+        Part::Literals { index, class } => lay_literals(code, rows, index, class, next),
     }
 }
 

@@ -68,17 +68,17 @@ fn lay_first(code: &Code<'_>, rows: &mut Vec<Row>) -> Result<BodyRow, Memory>
 fn listed_at(bodies: &[Option<BodyRow>], node: NodeId) -> Option<BodyRow>
     ensures { result ≡ option_and_then (λ (listed : Option RowOfBody). listed) (slice_get bodies.now node) }
 {
-    match bodies.get(node.place()) {
+    match bodies.get(node.number()) {
         Some(listed) => *listed,
         None => None,
     }
 }
 
 /// The row at a place.
-fn read(rows: &[Row], place: usize) -> Option<Row>
-    ensures { result ≡ slice_get rows.now place }
+fn read(rows: &[Row], index: usize) -> Option<Row>
+    ensures { result ≡ slice_get rows.now index }
 {
-    match rows.get(place) {
+    match rows.get(index) {
         Some(row) => Some(*row),
         None => None,
     }
@@ -86,17 +86,17 @@ fn read(rows: &[Row], place: usize) -> Option<Row>
 
 /// The row at a place, if an operation is left there.
 #[inline]
-fn row_at(code: &Code<'_>, rows: &[Row], place: u32) -> Option<Row>
+fn row_at(code: &Code<'_>, rows: &[Row], index: u32) -> Option<Row>
     requires { AreGood (code_of code.now) rows.now }
-    ensures some { IfSome result (λ row. rest_at rows.now place ≡ row.op ∷ rest_at rows.now row.next) }
-    ensures none { IfNone result (rest_at rows.now place ≡ []) }
+    ensures some { IfSome result (λ row. rest_at rows.now index ≡ row.op ∷ rest_at rows.now row.next) }
+    ensures none { IfNone result (rest_at rows.now index ≡ []) }
     ensures asks { IfSome result (λ row. row.instruction ≡ instruction_of (code_of code.now) row.op) }
     ensures goes { IfSome result (λ row. GoesBy (code_of code.now) rows.now row row.next) }
 {
-    if place == 0 {
+    if index == 0 {
         return None;
     }
-    match read(rows, place as usize) {
+    match read(rows, index as usize) {
         None => None,
         Some(row) => Some(row),
     }
@@ -160,15 +160,15 @@ impl<'a> OpList<'a> {
 
     /// The operation at a place, with what it asks and where it goes on, if one is left.
     #[inline]
-    pub fn at(&self, place: u32) -> Option<Row>
+    pub fn at(&self, index: u32) -> Option<Row>
         ensures some { IfSome result (λ row.
-            rest_at self.now.rows place ≡ row.op ∷ rest_at self.now.rows row.next) }
-        ensures none { IfNone result (rest_at self.now.rows place ≡ []) }
+            rest_at self.now.rows index ≡ row.op ∷ rest_at self.now.rows row.next) }
+        ensures none { IfNone result (rest_at self.now.rows index ≡ []) }
         ensures asks { IfSome result (λ row.
             row.instruction ≡ instruction_of (code_of self.now.program) row.op) }
         ensures goes { IfSome result (λ row.
             GoesBy (code_of self.now.program) self.now.rows row row.next) }
     {
-        row_at(&self.code, self.rows.as_slice(), place)
+        row_at(&self.code, self.rows.as_slice(), index)
     }
 }

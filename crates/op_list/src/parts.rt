@@ -14,9 +14,9 @@ pub enum Part {
     /// One operation.
     Emit(Op),
     /// The statements or arguments of a node, from a place on.
-    Items { place: usize, list: NodeId },
+    Items { index: usize, list: NodeId },
     /// The literals of the fields that a class declares, from a place on.
-    Literals { place: usize, class: ClassId },
+    Literals { index: usize, class: ClassId },
 }
 
 /// A constructor has the most: two of its super part, the literals, the body and its end.

@@ -22,12 +22,12 @@ pub fn put_row(
     if_true: u32,
     if_false: u32,
 ) -> Result<u32, Memory>
-    ensures place { IfOk result (λ place. place ≡ length rows.old.items) }
-    ensures put { IfOk result (λ place.
+    ensures place { IfOk result (λ index. index ≡ length rows.old.items) }
+    ensures put { IfOk result (λ index.
         rows.new.items ≡ rows.old.items ++ row_of (code_of code.now) op.now next if_true if_false ∷ []) }
 {
-    let place = rows.len();
-    if place >= u32::MAX as usize {
+    let index = rows.len();
+    if index >= u32::MAX as usize {
         return Err(Memory);
     }
     rows.push(Row {
@@ -37,15 +37,15 @@ pub fn put_row(
         if_true,
         if_false,
     })?;
-    Ok(place as u32)
+    Ok(index as u32)
 }
 
 /// Puts the row of a loop's operation in the place of one: it goes on at its turn if its condition is true.
-pub fn set_row(code: &Code<'_>, rows: &mut Vec<Row>, place: u32, op: &Op, next: u32, turn: u32)
-    requires { place < length rows.old.items }
-    ensures { rows.new.items ≡ slice_set rows.old.items place (row_of (code_of code.now) op.now next turn next) }
+pub fn set_row(code: &Code<'_>, rows: &mut Vec<Row>, index: u32, op: &Op, next: u32, turn: u32)
+    requires { index < length rows.old.items }
+    ensures { rows.new.items ≡ slice_set rows.old.items index (row_of (code_of code.now) op.now next turn next) }
 {
-    rows[place as usize] = Row {
+    rows[index as usize] = Row {
         op: *op,
         instruction: instruction_of(code, op),
         next,

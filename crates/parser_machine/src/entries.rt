@@ -21,24 +21,24 @@ pub enum Entry {
     RunsInOpen,
     /// `@DefineScope(name=`, or `parent=` where `parent_first` holds.
     DefineFirst {
-        place: Pos,
+        position: Pos,
         parent_first: bool,
     },
     /// The same up to the second `=`.
     DefineSecond {
-        place: Pos,
+        position: Pos,
         parent_first: bool,
         first: NodeId,
     },
     /// A class up to its name.
     ClassOpen {
         flags: Option<NodeId>,
-        place: Pos,
+        position: Pos,
         name: SharedName,
     },
     /// `extends` or `implements`, where `is_extends` does not hold, and what was read behind it.
     SupersOpen {
-        place: Pos,
+        position: Pos,
         is_extends: bool,
         superclass: Option<NodeId>,
         interfaces: NodeList,
@@ -46,7 +46,7 @@ pub enum Entry {
     /// A class with the members so far.
     ClassBody {
         flags: Option<NodeId>,
-        place: Pos,
+        position: Pos,
         name: SharedName,
         header: Option<NodeId>,
         members: NodeList,
@@ -67,7 +67,7 @@ pub enum Entry {
     FieldOpen {
         flags: Option<NodeId>,
         declared_type: NodeId,
-        place: Pos,
+        position: Pos,
         name: SharedName,
         equals: Pos,
     },
@@ -75,110 +75,110 @@ pub enum Entry {
     MethodOpen {
         flags: Option<NodeId>,
         result_type: NodeId,
-        place: Pos,
+        position: Pos,
         name: SharedName,
     },
     /// A constructor up to its name.
     ConstructorOpen {
         flags: Option<NodeId>,
-        place: Pos,
+        position: Pos,
         name: SharedName,
     },
     /// The `(` at `place` and the parameters so far.
     ParametersOpen {
-        place: Pos,
+        position: Pos,
         list: NodeList,
     },
     /// A method up to its body.
     MethodBody {
         flags: Option<NodeId>,
         result_type: NodeId,
-        place: Pos,
+        position: Pos,
         name: SharedName,
         parameters: Option<NodeId>,
     },
     /// A constructor up to its body, with the super call if there is one.
     ConstructorBody {
         flags: Option<NodeId>,
-        place: Pos,
+        position: Pos,
         name: SharedName,
         parameters: Option<NodeId>,
         super_call: Option<NodeId>,
     },
     /// The `{` at `place` and the statements so far.
     BlockOpen {
-        place: Pos,
+        position: Pos,
         statements: NodeList,
     },
     /// A local, an assignment or a call as a statement, up to its `;`.
     Simple,
     /// `for (`.
     ForHead {
-        place: Pos,
+        position: Pos,
     },
     /// `for (first;`.
     ForTest {
-        place: Pos,
+        position: Pos,
         first: NodeId,
     },
     /// `for (first; condition;`.
     ForStep {
-        place: Pos,
+        position: Pos,
         first: NodeId,
         condition: NodeId,
     },
     /// `for (first; condition; step)`.
     ForBody {
-        place: Pos,
+        position: Pos,
         first: NodeId,
         condition: NodeId,
         step: NodeId,
     },
     /// `if (`.
     IfTest {
-        place: Pos,
+        position: Pos,
     },
     /// `if (condition)`.
     IfThen {
-        place: Pos,
+        position: Pos,
         condition: NodeId,
     },
     /// `if (condition) then_part else`.
     IfElse {
-        place: Pos,
+        position: Pos,
         condition: NodeId,
         then_part: NodeId,
     },
     /// `while (`.
     WhileTest {
-        place: Pos,
+        position: Pos,
     },
     /// `while (condition)`.
     WhileBody {
-        place: Pos,
+        position: Pos,
         condition: NodeId,
     },
     /// `return`.
     ReturnValue {
-        place: Pos,
+        position: Pos,
     },
     /// Where the target of an assignment or a call as a statement is due: no operator stands behind it.
     Target,
     /// `target =`; the `=` stands at `place`.
     AssignValue {
-        place: Pos,
+        position: Pos,
         target: NodeId,
     },
     /// `target op=`, with the name once more as the left operand.
     CompoundValue {
-        place: Pos,
+        position: Pos,
         operator: u8,
         target: NodeId,
         left: NodeId,
     },
     /// A local up to its `=`, at `place`.
     LocalValue {
-        place: Pos,
+        position: Pos,
         name_place: Pos,
         name: SharedName,
         flags: Option<NodeId>,
@@ -186,33 +186,33 @@ pub enum Entry {
     },
     /// A left operand and its operator.
     BinaryLeft {
-        place: Pos,
+        position: Pos,
         operator: u8,
         left: NodeId,
     },
     /// A unary operator.
     UnaryOpen {
-        place: Pos,
+        position: Pos,
         operator: u8,
     },
     /// `( Name )` of a cast.
     CastOpen {
-        place: Pos,
+        position: Pos,
         name_place: Pos,
         name: SharedName,
     },
     /// `(` around an expression.
     GroupOpen {
-        place: Pos,
+        position: Pos,
     },
     /// `array[`; the `[` stands at `place`.
     IndexOpen {
-        place: Pos,
+        position: Pos,
         array: NodeId,
     },
     /// `new element[`.
     LengthOpen {
-        place: Pos,
+        position: Pos,
         element: NodeId,
     },
     /// The arguments so far; below is what they are arguments of.
@@ -221,19 +221,19 @@ pub enum Entry {
     },
     /// The name of a call.
     CallOpen {
-        place: Pos,
+        position: Pos,
         name: SharedName,
         object: Option<NodeId>,
     },
     /// `new Name`.
     NewOpen {
-        place: Pos,
+        position: Pos,
         name_place: Pos,
         name: SharedName,
     },
     /// `super`, in a constructor whose body begins at `block_place`.
     SuperCallOpen {
         block_place: Pos,
-        place: Pos,
+        position: Pos,
     },
 }

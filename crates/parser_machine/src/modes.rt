@@ -49,7 +49,7 @@ pub enum Mode {
     },
     /// `@`: the annotation's name.
     At {
-        place: Pos,
+        position: Pos,
     },
     /// The name of an annotation without effect: `(`, or what stands behind the annotation.
     PlainOpen,
@@ -73,11 +73,11 @@ pub enum Mode {
     ValueStart,
     /// The name `Scope` where a scope's name is due: a dot, or what stands behind the scope's name.
     ValueScope {
-        place: Pos,
+        position: Pos,
     },
     /// `Scope.`: a name.
     ValueDot {
-        place: Pos,
+        position: Pos,
     },
     /// A scope's name.
     ValueRead {
@@ -85,26 +85,26 @@ pub enum Mode {
     },
     /// `@DefineScope`: `(`.
     DefineOpen {
-        place: Pos,
+        position: Pos,
     },
     /// `@DefineScope(`: `name` or `parent`.
     DefineName {
-        place: Pos,
+        position: Pos,
     },
     /// `name` or `parent`: `=`.
     DefineAssign {
-        place: Pos,
+        position: Pos,
         parent_first: bool,
     },
     /// The comma behind the first value: `parent` or `name`.
     DefineOther {
-        place: Pos,
+        position: Pos,
         parent_first: bool,
         first: NodeId,
     },
     /// The other word: `=`.
     DefineOtherAssign {
-        place: Pos,
+        position: Pos,
         parent_first: bool,
         first: NodeId,
     },
@@ -118,17 +118,17 @@ pub enum Mode {
     SuperName,
     /// The name of a super type: `<`, or what stands behind the super type.
     SuperNamed {
-        place: Pos,
+        position: Pos,
         name: SharedName,
     },
     /// `<` behind such a name: a name.
     SuperArgumentName {
-        place: Pos,
+        position: Pos,
         name: SharedName,
     },
     /// The argument: `>`.
     SuperArgumentEnd {
-        place: Pos,
+        position: Pos,
         name: SharedName,
         argument: NodeId,
     },
@@ -140,28 +140,28 @@ pub enum Mode {
     InMembers,
     /// A name where a type is due: `<`, `[`, or what stands behind the type; of a member also `(`.
     TypeName {
-        place: Pos,
+        position: Pos,
         name: SharedName,
     },
     /// `<` behind such a name: a name.
     TypeArgumentName {
-        place: Pos,
+        position: Pos,
         name: SharedName,
     },
     /// The argument: `>`.
     TypeArgumentEnd {
-        place: Pos,
+        position: Pos,
         name: SharedName,
         argument: NodeId,
     },
     /// A type: `[`, or what stands behind the type.
     TypeEnd {
-        place: Pos,
+        position: Pos,
         element: ElementType,
     },
     /// The `[` of a type: `]`.
     TypeBracket {
-        place: Pos,
+        position: Pos,
         element: ElementType,
     },
     /// A type with brackets.
@@ -172,7 +172,7 @@ pub enum Mode {
     MemberNamed {
         flags: Option<NodeId>,
         declared_type: NodeId,
-        place: Pos,
+        position: Pos,
         name: SharedName,
     },
     /// `void` or `long`: the method's name.
@@ -184,14 +184,14 @@ pub enum Mode {
     MethodNamed {
         flags: Option<NodeId>,
         result_type: NodeId,
-        place: Pos,
+        position: Pos,
         name: SharedName,
     },
     /// The `=` of a field: a literal.
     LiteralStart,
     /// `-`: a number.
     LiteralMinus {
-        place: Pos,
+        position: Pos,
     },
     /// The literal: `;`.
     LiteralDone {
@@ -199,7 +199,7 @@ pub enum Mode {
     },
     /// The `(` of a method or constructor: a parameter or `)`.
     ParametersFirst {
-        place: Pos,
+        position: Pos,
     },
     /// A parameter: a comma or `)`.
     ParameterDone {
@@ -211,12 +211,12 @@ pub enum Mode {
     },
     /// The `{` of a constructor: `super`, a statement or `}`.
     ConstructorStart {
-        place: Pos,
+        position: Pos,
     },
     /// `super`: `(`.
     SuperOpen {
         block_place: Pos,
-        place: Pos,
+        position: Pos,
     },
     /// `super(..)`: `;`.
     SuperEnd {
@@ -232,15 +232,15 @@ pub enum Mode {
     },
     /// `if`: `(`.
     IfOpen {
-        place: Pos,
+        position: Pos,
     },
     /// `while`: `(`.
     WhileOpen {
-        place: Pos,
+        position: Pos,
     },
     /// `for`: `(`.
     ForOpen {
-        place: Pos,
+        position: Pos,
     },
     /// `for (`: a local with a value or an assignment.
     ForFirst,
@@ -248,16 +248,16 @@ pub enum Mode {
     ForStepStart,
     /// `return`: an expression or `;`.
     ReturnStart {
-        place: Pos,
+        position: Pos,
     },
     /// A name where a statement or the begin of a `for` is due: a type or a target.
     NameFirst {
-        place: Pos,
+        position: Pos,
         name: SharedName,
     },
     /// `[` behind it: `]`, or an index.
     NameBracket {
-        place: Pos,
+        position: Pos,
         name: SharedName,
         bracket: Pos,
     },
@@ -265,7 +265,7 @@ pub enum Mode {
     LocalNamed {
         flags: Option<NodeId>,
         declared_type: NodeId,
-        place: Pos,
+        position: Pos,
         name: SharedName,
     },
     /// An assignment: what stands behind it.
@@ -276,48 +276,48 @@ pub enum Mode {
     Operand,
     /// A name as an operand: `(`, an assignment's sign where it is a target, or what may stand behind an operand.
     NameRead {
-        place: Pos,
+        position: Pos,
         name: SharedName,
     },
     /// `(` where an operand is due.
     Opened {
-        place: Pos,
+        position: Pos,
     },
     /// `( Name`.
     OpenedName {
-        place: Pos,
+        position: Pos,
         name_place: Pos,
         name: SharedName,
     },
     /// `( Name )`: a cast or a name between parentheses.
     ClosedName {
-        place: Pos,
+        position: Pos,
         name_place: Pos,
         name: SharedName,
     },
     /// `-` where an operand is due.
     Minus {
-        place: Pos,
+        position: Pos,
     },
     /// `new`: a class, `int` or `boolean`.
     NewStart {
-        place: Pos,
+        position: Pos,
     },
     /// `new Name`: `(` or `[`.
     NewName {
-        place: Pos,
+        position: Pos,
         name_place: Pos,
         name: SharedName,
     },
     /// `new int` or `new boolean`, whose type is a node: `[`.
     NewElement {
-        place: Pos,
+        position: Pos,
         element: NodeId,
     },
     /// An expression of names, calls and brackets, which stands at `place`: what may stand behind it.
     PostDone {
         kind: PostKind,
-        place: Pos,
+        position: Pos,
         id: NodeId,
     },
     /// A dot behind it: a name.
@@ -327,7 +327,7 @@ pub enum Mode {
     /// The name: `(`, or what may stand behind a field.
     DotName {
         object: NodeId,
-        place: Pos,
+        position: Pos,
         name: SharedName,
     },
     /// The `(` of a call: an argument or `)`.

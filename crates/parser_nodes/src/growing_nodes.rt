@@ -73,12 +73,12 @@ impl Nodes {
         ensures all { OnOk result (self.new.all ≡ put self.old.all node) }
         ensures kept { self.new.kept ≡ self.old.kept }
     {
-        let place = self.items.len();
-        if place >= u32::MAX as usize {
+        let index = self.items.len();
+        if index >= u32::MAX as usize {
             return Err(Memory);
         }
         self.items.push(node)?;
-        Ok(NodeId::at(place as u32))
+        Ok(NodeId::at(index as u32))
     }
 
     /// The nodes in order.

@@ -23,7 +23,7 @@ pub fn member_read(nodes: &mut Nodes, stack: &mut Stack, id: NodeId) -> Result<O
     match entry {
         Entry::ClassBody {
             flags,
-            place,
+            position,
             name,
             header,
             members,
@@ -31,7 +31,7 @@ pub fn member_read(nodes: &mut Nodes, stack: &mut Stack, id: NodeId) -> Result<O
             let members = with_item(members, id)?;
             stack.push(Entry::ClassBody {
                 flags,
-                place,
+                position,
                 name,
                 header,
                 members,

@@ -89,7 +89,7 @@ module _ (code : Listing) (st : RunState) where
   names_here (Goes h) x = tt
   names_here (Prints h label value) x = tt
   names_here (Stores h r slot v) x = tt
-  names_here (StoresStatic h place v) x = tt
+  names_here (StoresStatic h index v) x = tt
   names_here (SetsHidden h r values) x = tt
   names_here (SetsCeiling h r ceiling) x = tt
   names_here (Opens h g scope bytes) x = tt
@@ -142,8 +142,8 @@ pub record KeepsLaws (forest : Forest) : Type 0 where
   pub jobs : (plan : Plan) (moment : Moment) (s : State) → Reached (code_of forest) plan by_priority moment s →
       (job : Job) (activity : Activity) → activity_of s job ≡ Some activity → StandsInOpenAreas s activity
   pub release_closes : (plan : Plan) (s : State) → Reached (code_of forest) plan by_priority Arrived s →
-      (place : ℕ) (activity : Activity) → by_priority s ≡ Some (TurnOf place) →
-      activity_of s (ReleaseAt place) ≡ Some activity → ClosingInOrder s activity.frames
+      (index : ℕ) (activity : Activity) → by_priority s ≡ Some (TurnOf index) →
+      activity_of s (ReleaseAt index) ≡ Some activity → ClosingInOrder s activity.frames
   pub sequencer_closes : (plan : Plan) (s : State) → Reached (code_of forest) plan by_priority Arrived s →
       is_exec s.phase ≡ false → ClosingInOrder s s.activity.frames
   pub mission_closes : (plan : Plan) (s : State) → Reached (code_of forest) plan by_priority Operated s →
@@ -151,11 +151,11 @@ pub record KeepsLaws (forest : Forest) : Type 0 where
   pub few_outside : (plan : Plan) (moment : Moment) (s : State) → Reached (code_of forest) plan by_priority moment s →
       is_exec s.phase ≡ false → open_count s < 1794
   pub few_under_way : (plan : Plan) (moment : Moment) (s : State) → Reached (code_of forest) plan by_priority moment s →
-      (place : ℕ) (activity : Activity) → activity_of s (ReleaseAt place) ≡ Some activity →
+      (index : ℕ) (activity : Activity) → activity_of s (ReleaseAt index) ≡ Some activity →
       length activity.frames < 64 → open_count s < 1794
   pub few_at_start : (plan : Plan) (moment : Moment) (s : State) → Reached (code_of forest) plan by_priority moment s →
-      (place : ℕ) (r : Release) (row : HandlerRow) → by_priority s ≡ Some (TurnOf place) →
-      slice_get s.releases place ≡ Some r → r.status ≡ Waits → handler_row s.registry r.handler ≡ Some row →
+      (index : ℕ) (r : Release) (row : HandlerRow) → by_priority s ≡ Some (TurnOf index) →
+      slice_get s.releases index ≡ Some r → r.status ≡ Waits → handler_row s.registry r.handler ≡ Some row →
       open_count s < 1794
   pub operands : (plan : Plan) (moment : Moment) (s : State) → Reached (code_of forest) plan by_priority moment s →
       (r : ℕ) → operand_of s.operation ≡ Some r → is_of_open_area s r ≡ true
@@ -206,35 +206,35 @@ module _ (code : Listing) (plan : Plan) (units : plan.units ≤ most_units) (law
     next = next_stands st reached TheSequencer;
   }
 
-  few_frames : (st : RunState) → Reached (code_of code.program) plan by_priority Arrived (state_of code st) → (place : ℕ)
-      (activity : StoredActivity) → activity_of (state_of code st) (ReleaseAt place) ≡ Some (activity_seen code activity) →
+  few_frames : (st : RunState) → Reached (code_of code.program) plan by_priority Arrived (state_of code st) → (index : ℕ)
+      (activity : StoredActivity) → activity_of (state_of code st) (ReleaseAt index) ≡ Some (activity_seen code activity) →
       length activity.frames < 64 → open_in st.memory < 1794
   unfolding state_of
-  few_frames st reached place activity there fewer =
+  few_frames st reached index activity there fewer =
       let same : length (frames_of code activity.frames) ≡ length activity.frames =
       length-map activity.frames (frame_of code) in
-      laws.few_under_way plan Arrived (state_of code st) reached place (activity_seen code activity) there
+      laws.few_under_way plan Arrived (state_of code st) reached index (activity_seen code activity) there
       (omega (arith, same, fewer))
 
-  start_stands : (st : RunState) → Reached (code_of code.program) plan by_priority Arrived (state_of code st) → (place : ℕ) →
-      by_priority (state_of code st) ≡ Some (TurnOf place) → StartStands st place
+  start_stands : (st : RunState) → Reached (code_of code.program) plan by_priority Arrived (state_of code st) → (index : ℕ) →
+      by_priority (state_of code st) ≡ Some (TurnOf index) → StartStands st index
   unfolding state_of
-  start_stands st reached place chosen r row there waits is_row =
-      laws.few_at_start plan Arrived (state_of code st) reached place (release_seen code r) row chosen
-      (get_map (release_seen code) st.releases.rows place ∙ ap (option_map (release_seen code)) there)
+  start_stands st reached index chosen r row there waits is_row =
+      laws.few_at_start plan Arrived (state_of code st) reached index (release_seen code r) row chosen
+      (get_map (release_seen code) st.releases.rows index ∙ ap (option_map (release_seen code)) there)
       (ap (status_seen code) waits) is_row
 
-  release_stands : (st : RunState) → Reached (code_of code.program) plan by_priority Arrived (state_of code st) → (place : ℕ) →
-      by_priority (state_of code st) ≡ Some (TurnOf place) → JobStands code plan.readings st (ReleaseAt place)
+  release_stands : (st : RunState) → Reached (code_of code.program) plan by_priority Arrived (state_of code st) → (index : ℕ) →
+      by_priority (state_of code st) ≡ Some (TurnOf index) → JobStands code plan.readings st (ReleaseAt index)
   unfolding state_of
-  release_stands st reached place chosen = record {
+  release_stands st reached index chosen = record {
     stands = λ activity there. record {
-      listed = (laws.jobs plan Arrived (state_of code st) reached (ReleaseAt place) (activity_seen code activity) there).listed;
+      listed = (laws.jobs plan Arrived (state_of code st) reached (ReleaseAt index) (activity_seen code activity) there).listed;
       closes = closes_here code st activity.frames
-          (laws.release_closes plan (state_of code st) reached place (activity_seen code activity) chosen there);
-      few = few_frames st reached place activity there;
+          (laws.release_closes plan (state_of code st) reached index (activity_seen code activity) chosen there);
+      few = few_frames st reached index activity there;
     };
-    next = next_stands st reached (ReleaseAt place);
+    next = next_stands st reached (ReleaseAt index);
   }
 
   acts_stand : (st : RunState) → Reached (code_of code.program) plan by_priority Arrived (state_of code st) → st.unit ≤ plan.units →

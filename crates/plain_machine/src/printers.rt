@@ -39,7 +39,7 @@ fn stands_in_file(files: &Files, count: usize, event: &Event) -> bool
     ensures { IsTrue result → StandsInFile files.now event.now }
 {
     match event {
-        Event::Fault { place, .. } => (place.file as usize) < count,
+        Event::Fault { position, .. } => (position.file as usize) < count,
         _ => true,
     }
 }

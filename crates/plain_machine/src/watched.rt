@@ -63,7 +63,7 @@ fn as_fault(event: Event) -> Option<Event>
     ensures { result ≡ as_fault event }
 {
     match event {
-        Event::Fault { unit, fault, place } => Some(Event::Fault { unit, fault, place }),
+        Event::Fault { unit, fault, position } => Some(Event::Fault { unit, fault, position }),
         _ => None,
     }
 }

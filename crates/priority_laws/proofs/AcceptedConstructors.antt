@@ -60,14 +60,14 @@ module _ (forest : Forest) (accepted : IsAccepted forest) where
   at_constructor : (id : ℕ) (node : Node) (c : DeclaredConstructor) → slice_get p.nodes id ≡ Some node →
       constructor_of p.nodes id node ≡ Some c → is_synchronized_body p c.node ≡ false
   unfolding constructor_of is_synchronized_body node_breaks c11 member_flags
-  at_constructor id (Constructor place name flags parameters super_call body) c stands e =
+  at_constructor id (Constructor position name flags parameters super_call body) c stands e =
       let m : Modifiers = modifiers_at p.nodes flags in
-      let n = no_break_at_node forest accepted id (Constructor place name flags parameters super_call body) stands in
+      let n = no_break_at_node forest accepted id (Constructor position name flags parameters super_call body) stands in
       let broken_not =
-      (both_empty (c9 p (Constructor place name flags parameters super_call body))
-      (c11 p id (Constructor place name flags parameters super_call body)) n.no_class_rule).1 in
+      (both_empty (c9 p (Constructor position name flags parameters super_call body))
+      (c11 p id (Constructor position name flags parameters super_call body)) n.no_class_rule).1 in
       let test : is_misplaced_on_constructor p id name m ≡ false =
-      right (is_misplaced_on_constructor p id name m) C11 place broken_not in
+      right (is_misplaced_on_constructor p id name m) C11 position broken_not in
       let words : (is_some m.runs_in || m.is_synchronized) ≡ false =
       not_last (has_class_words m) (has_method_words m) m.is_static m.is_abstract (is_some m.scope)
       (not (is_named_as_class p id name)) test in
@@ -112,7 +112,7 @@ module _ (forest : Forest) (accepted : IsAccepted forest) where
   at_class : (id : ℕ) (node : Node) (c : WrittenClass) → slice_get p.nodes id ≡ Some node →
       class_of p.nodes id node ≡ Some c → is_synchronized_body p c.node ≡ false
   unfolding class_of is_synchronized_body member_flags
-  at_class id (Class place name flags header members) c stands e =
+  at_class id (Class position name flags header members) c stands e =
       let same : c.node ≡ id = ap (λ (x : WrittenClass). x.node) (sym (some_inj _ c e)) in
       ap (λ i. holds (read p.nodes member_flags i) (λ flags. (modifiers_at p.nodes flags).is_synchronized)) same
       ∙ ap (λ (o : Option Node). holds (o >>= member_flags) (λ flags. (modifiers_at p.nodes flags).is_synchronized))

@@ -54,21 +54,21 @@ unfolding code_of
 accepted_enters forest a t =
     record {
       constructors = constructors_plain forest a.is_accepted;
-      opens = λ plan s place op f g scope bytes h d. opened plan s place op f g scope bytes h d
+      opens = λ plan s index op f g scope bytes h d. opened plan s index op f g scope bytes h d
           (subst (λ (e : Effect). Formed (scene_of (code_of forest) (environment plan.readings s) d.frame d.rest op) e)
           d.is_effect (formed_at (code_of forest) (environment plan.readings s) d.frame d.rest op)).is.1;
-      starts = λ plan s place r row body h there waits is_row is_body.
+      starts = λ plan s index r row body h there waits is_row is_body.
           let c : IsHandlerClass (code_of forest).program row.class =
           class_of_row (right_priorities (code_of forest) plan t.spares h).classes r.handler row is_row in
           handle_plain forest a row.class body c.is_class c.is_handler is_body;
     }
   where
-    opened : (plan : Plan) (s : State) (place : ℕ) (op : Op) (f g : Frame) (scope bytes : ℕ) →
-        Reached (code_of forest) plan by_priority Arrived s → Does (code_of forest) plan.readings s (ReleaseAt place) op
+    opened : (plan : Plan) (s : State) (index : ℕ) (op : Op) (f g : Frame) (scope bytes : ℕ) →
+        Reached (code_of forest) plan by_priority Arrived s → Does (code_of forest) plan.readings s (ReleaseAt index) op
         (Opens f g scope bytes) → OpensRightly (code_of forest) (λ r. slice_get s.objects r) g →
         monitor_of (code_of forest) g ≡ None
-    opened plan s place op f g scope bytes h d o =
-        let c = t.opens plan s place op f g scope bytes o.runnable o.object h d o.is_this o.is_there in
+    opened plan s index op f g scope bytes h d o =
+        let c = t.opens plan s index op f g scope bytes o.runnable o.object h d o.is_this o.is_there in
         no_monitor (code_of forest) g (run_plain forest a o.object.class g.body c.is_class c.is_runnable o.is_run)
 
 -- ---- a class is no array's

@@ -92,33 +92,33 @@ as_closed x = record x { is_open = false }
 abbrev pub shut : ℕ → List MemoryArea → List MemoryArea
 shut a areas = changed as_closed a areas
 
-pub length_changed : {A : Type 0} (f : A → A) (place : ℕ) (xs : List A) → length (changed f place xs) ≡ length xs
-length_changed {A} f place xs = go (slice_get xs place)
+pub length_changed : {A : Type 0} (f : A → A) (index : ℕ) (xs : List A) → length (changed f index xs) ≡ length xs
+length_changed {A} f index xs = go (slice_get xs index)
   where
-    go : (o : Option A) → length (elim o as (λ z. List A) [ None ↦ xs | Some x ↦ slice_set xs place (f x) ]) ≡ length xs
+    go : (o : Option A) → length (elim o as (λ z. List A) [ None ↦ xs | Some x ↦ slice_set xs index (f x) ]) ≡ length xs
     go None = refl
-    go (Some x) = length_set xs place (f x)
+    go (Some x) = length_set xs index (f x)
 
 pub get_within : {A : Type 0} (xs : List A) (i : ℕ) (x : A) → slice_get xs i ≡ Some x → i < length xs
 get_within [] i x e = absurd (cc (e))
 get_within (y ∷ xs) zero x e = omega arith
 get_within (y ∷ xs) (suc i) x e = let h : i < length xs = get_within xs i x e in omega (arith, h)
 
-pub get_changed : {A : Type 0} (f : A → A) (place : ℕ) (xs : List A) (x : A) → slice_get xs place ≡ Some x →
-    slice_get (changed f place xs) place ≡ Some (f x)
-get_changed {A} f place xs x e =
-    subst (λ (o : Option A). slice_get (elim o as (λ z. List A) [ None ↦ xs | Some y ↦ slice_set xs place (f y) ]) place
+pub get_changed : {A : Type 0} (f : A → A) (index : ℕ) (xs : List A) (x : A) → slice_get xs index ≡ Some x →
+    slice_get (changed f index xs) index ≡ Some (f x)
+get_changed {A} f index xs x e =
+    subst (λ (o : Option A). slice_get (elim o as (λ z. List A) [ None ↦ xs | Some y ↦ slice_set xs index (f y) ]) index
     ≡ Some (f x)) (sym e)
-    (get_set_same xs place (f x) (get_within xs place x e))
+    (get_set_same xs index (f x) (get_within xs index x e))
 
-pub get_changed_other : {A : Type 0} (f : A → A) (place other : ℕ) (xs : List A) → (place ≡ other → ⊥) →
-    slice_get (changed f place xs) other ≡ slice_get xs other
-get_changed_other {A} f place other xs h = go (slice_get xs place)
+pub get_changed_other : {A : Type 0} (f : A → A) (index other : ℕ) (xs : List A) → (index ≡ other → ⊥) →
+    slice_get (changed f index xs) other ≡ slice_get xs other
+get_changed_other {A} f index other xs h = go (slice_get xs index)
   where
-    go : (o : Option A) → slice_get (elim o as (λ z. List A) [ None ↦ xs | Some x ↦ slice_set xs place (f x) ]) other
+    go : (o : Option A) → slice_get (elim o as (λ z. List A) [ None ↦ xs | Some x ↦ slice_set xs index (f x) ]) other
         ≡ slice_get xs other
     go None = refl
-    go (Some x) = get_set_other xs place other (f x) h
+    go (Some x) = get_set_other xs index other (f x) h
 
 pub shut_closes : (a : ℕ) (areas : List MemoryArea) → open_in (shut a areas) a ≡ false
 shut_closes a areas = go (slice_get areas a) refl

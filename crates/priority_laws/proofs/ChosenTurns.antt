@@ -24,10 +24,10 @@ own_below own priority (f ∷ fs) r =
 -- ---- a started release is a candidate
 
 abbrev started_candidate : ℕ → ℕ → Candidate
-started_candidate q priority = record { place = q; priority = priority; is_started = true }
+started_candidate q priority = record { index = q; priority = priority; is_started = true }
 
 abbrev waiting_candidate : ℕ → ℕ → Candidate
-waiting_candidate q priority = record { place = q; priority = priority; is_started = false }
+waiting_candidate q priority = record { index = q; priority = priority; is_started = false }
 
 candidate_started : (s : State) (q : ℕ) (r : Release) (a : Activity) → r.status ≡ Started a →
     candidate s q r ≡ Some (started_candidate q a.priority)

@@ -154,9 +154,9 @@ module _ (m : Scene) where
       (m.elements ≡ true) ⊎ SparesPriority m.code m.world.object_at r slot → Formed m (Stores g r slot v)
   shaped_stores g s r slot v x = record { is = (s, x) }
 
-  pub shaped_stores_static : (g : Frame) → StandsAs m.frame g → (place : ℕ) (v : Value) →
-      Formed m (StoresStatic g place v)
-  shaped_stores_static g s place v = record { is = s }
+  pub shaped_stores_static : (g : Frame) → StandsAs m.frame g → (index : ℕ) (v : Value) →
+      Formed m (StoresStatic g index v)
+  shaped_stores_static g s index v = record { is = s }
 
   pub shaped_ceiling : (g : Frame) → StandsAs m.frame g → (r ceiling : ℕ) → IsPriority ceiling →
       Formed m (SetsCeiling g r ceiling)

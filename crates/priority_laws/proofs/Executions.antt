@@ -94,7 +94,7 @@ module _ (code : Code) (rows : List ReadingRow) (s : State) (turn : Turn) where
   enters_turn (Prints f label value) h = h
   enters_turn (Makes f class slots) h = h
   enters_turn (Stores f r slot value) h = h
-  enters_turn (StoresStatic f place value) h = h
+  enters_turn (StoresStatic f index value) h = h
   enters_turn (SetsHidden f r values) h = h
   enters_turn (SetsCeiling f r ceiling) h = h
   enters_turn (Calls f g) h = h
@@ -197,10 +197,10 @@ module _ (code : Code) (rows : List ReadingRow) (s : State) (o : IsInOrder s) (e
         bounded = λ c h. record { is = h.is };
       }
 
-  by_choice : (place : Option ℕ) → chosen s ≡ place →
+  by_choice : (index : Option ℕ) → chosen s ≡ index →
       Gives (IsKept code (EnterRightly code rows s) s)
-      (then_try (turn_taken s (elim place [ None ↦ IdleTurn | Some place ↦ TurnOf place ]))
-      (turn_acts code rows (elim place [ None ↦ IdleTurn | Some place ↦ TurnOf place ])))
+      (then_try (turn_taken s (elim index [ None ↦ IdleTurn | Some index ↦ TurnOf index ]))
+      (turn_acts code rows (elim index [ None ↦ IdleTurn | Some index ↦ TurnOf index ])))
   unfolding turn_taken turn_acts
   by_choice None e = gives_some (IsKept code (EnterRightly code rows s) s) _ idle
   by_choice (Some p) e =
@@ -214,7 +214,7 @@ module _ (code : Code) (rows : List ReadingRow) (s : State) (o : IsInOrder s) (e
   unit_kept =
       subst
       (λ b. Gives (IsKept code (EnterRightly code rows s) s)
-      (if b then (Some (elim (chosen s) [ None ↦ IdleTurn | Some place ↦ TurnOf place ])
+      (if b then (Some (elim (chosen s) [ None ↦ IdleTurn | Some index ↦ TurnOf index ])
       >>= (λ turn. then_try (turn_taken s turn) (turn_acts code rows turn))) else sequencer_turn code rows s))
       (sym exec)
       (by_choice (chosen s) refl)

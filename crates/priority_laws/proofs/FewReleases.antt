@@ -108,9 +108,9 @@ few_numbers low (suc count) xs d h =
 
 module _ (h : Release → Option ℕ) where
   record IsGiven (rs : List Release) (x : ℕ) : Type 0 where
-    place : ℕ
+    index : ℕ
     release : Release
-    is_there : slice_get rs place ≡ Some release
+    is_there : slice_get rs index ≡ Some release
     gives : h release ≡ Some x
 
   given_at : (rs : List Release) (x : ℕ) → is_among x (filter_map h rs) ≡ true → IsGiven rs x
@@ -118,7 +118,7 @@ module _ (h : Release → Option ℕ) where
   given_at (r ∷ rs) x m = go (h r) refl m (given_at rs x)
     where
       later : IsGiven rs x → IsGiven (r ∷ rs) x
-      later k = record { place = suc k.place; release = k.release; is_there = k.is_there; gives = k.gives }
+      later k = record { index = suc k.index; release = k.release; is_there = k.is_there; gives = k.gives }
 
       go : (o : Option ℕ) → h r ≡ o → is_among x (cons_option o (filter_map h rs)) ≡ true →
           (is_among x (filter_map h rs) ≡ true → IsGiven rs x) → IsGiven (r ∷ rs) x
@@ -127,7 +127,7 @@ module _ (h : Release → Option ℕ) where
         where
           by : (x ≡ y) ⊎ (is_among x (filter_map h rs) ≡ true) → IsGiven (r ∷ rs) x
           by (inl same) =
-              record { place = 0; release = r; is_there = refl; gives = e ∙ ap (λ (z : ℕ). Some z) (sym same) }
+              record { index = 0; release = r; is_there = refl; gives = e ∙ ap (λ (z : ℕ). Some z) (sym same) }
           by (inr n) = later (more n)
 
   distinct_given : (rs : List Release) →
@@ -145,7 +145,7 @@ module _ (h : Release → Option ℕ) where
       go (Some x) e d = (λ m. twice (given_at rs x m), d)
         where
           twice : IsGiven rs x → ⊥
-          twice k = differ 0 (suc k.place) x r k.release (λ z. omega (arith, z)) refl k.is_there e k.gives
+          twice k = differ 0 (suc k.index) x r k.release (λ z. omega (arith, z)) refl k.is_there e k.gives
 
 -- ---- own priorities
 
@@ -235,7 +235,7 @@ module _ (code : Code) (s : State) (o : IsInOrder s) (h : PrioritiesAreRight cod
 
       range : (b : ℕ) → IsGiven (own_in s) s.releases b → (1 ≤ b) × (b < 1 + 28)
       range b k =
-          let right : IsPriority b = own_right k.place b (own_at s k.place b k.release k.is_there k.gives) in
+          let right : IsPriority b = own_right k.index b (own_at s k.index b k.release k.is_there k.gives) in
           let x = right.1 in (right.0, omega (arith, x))
 
 pub few_are_started : (code : Code) (plan : Plan) → SparesPriorities code → (moment : Moment) (s : State) →

@@ -105,13 +105,13 @@ module _ (forest : Forest) (a : IsAcceptedProgram forest) where
       method_of p.nodes id node ≡ Some m → is_framework_method p (context p id).class id m.declared.name ≡ true →
       is_synchronized_body p id ≡ false
   unfolding method_of is_synchronized_body node_breaks c11 member_flags
-  at_method id (Method place name flags result_type parameters body) m stands e h =
+  at_method id (Method position name flags result_type parameters body) m stands e h =
       let w : Modifiers = modifiers_at p.nodes flags in
-      let n = no_break_at_node forest accepted id (Method place name flags result_type parameters body) stands in
+      let n = no_break_at_node forest accepted id (Method position name flags result_type parameters body) stands in
       let none =
-      (both_empty (c9 p (Method place name flags result_type parameters body))
-      (c11 p id (Method place name flags result_type parameters body)) n.no_class_rule).1 in
-      let test : is_misplaced_on_method p id name w ≡ false = right (is_misplaced_on_method p id name w) C11 place none
+      (both_empty (c9 p (Method position name flags result_type parameters body))
+      (c11 p id (Method position name flags result_type parameters body)) n.no_class_rule).1 in
+      let test : is_misplaced_on_method p id name w ≡ false = right (is_misplaced_on_method p id name w) C11 position none
       in
       let wrong : is_wrongly_synchronized p id name w ≡ false =
       last_of_three (has_class_words w) (w.is_static && w.is_abstract) (is_wrongly_synchronized p id name w) test in

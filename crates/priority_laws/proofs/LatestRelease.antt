@@ -166,7 +166,7 @@ module _ (code : Code) (condition : Type 0) (s t : State) (p handler priority : 
       (is_among a t.activity.areas ≡ true) ⊎ IsOpenedByRelease t a
   still_opened a h n = go (o.opened.is a h)
     where
-      place : (k : IsOpenedByRelease s a) → (p ≡ k.place) ⊎ (p ≡ k.place → ⊥) → IsOpenedByRelease t a
+      place : (k : IsOpenedByRelease s a) → (p ≡ k.index) ⊎ (p ≡ k.index → ⊥) → IsOpenedByRelease t a
       place k (inl e) =
           absurd
           (n
@@ -174,16 +174,16 @@ module _ (code : Code) (condition : Type 0) (s t : State) (p handler priority : 
           (l.mine k.release (ap (started_at s.releases) e ∙ k.is_there)) k.is_opened))
       place k (inr d) =
           record {
-            place = k.place;
+            index = k.index;
             release = k.release;
-            is_there = m.others.others k.place d ∙ k.is_there;
+            is_there = m.others.others k.index d ∙ k.is_there;
             is_opened = k.is_opened;
           }
 
       go : (is_among a s.activity.areas ≡ true) ⊎ IsOpenedByRelease s a →
           (is_among a t.activity.areas ≡ true) ⊎ IsOpenedByRelease t a
       go (inl k) = inl (ap (λ (x : Activity). is_among a x.areas) m.others.activity ∙ k)
-      go (inr k) = inr (place k (number_cases p k.place))
+      go (inr k) = inr (place k (number_cases p k.index))
 
   opened_now : (a : ℕ) → is_open_area t a ≡ true → GoesOn code condition s t p handler priority old ⊎ Ends s t p old →
       (is_among a t.activity.areas ≡ true) ⊎ IsOpenedByRelease t a
@@ -193,7 +193,7 @@ module _ (code : Code) (condition : Type 0) (s t : State) (p handler priority : 
           ((is_open_area s a ≡ true) × (is_among a (opened_by old) ≡ true → ⊥)) →
           (is_among a t.activity.areas ≡ true) ⊎ IsOpenedByRelease t a
       go (inl k) =
-          inr (record { place = p; release = started_as handler g.after; is_there = g.is_there; is_opened = k })
+          inr (record { index = p; release = started_as handler g.after; is_there = g.is_there; is_opened = k })
       go (inr k) = still_opened a k.0 k.1
   opened_now a h (inr e) = go (e.areas.stays a h)
     where
@@ -233,17 +233,17 @@ module _ (code : Code) (condition : Type 0) (s t : State) (p handler priority : 
       (is_among b (opened_by old) ≡ true → ⊥) → b < a
   earlier_open a b h k n = go (o.opened.is b k)
     where
-      place : (x : IsOpenedByRelease s b) → (p ≡ x.place) ⊎ (p ≡ x.place → ⊥) → b < a
+      place : (x : IsOpenedByRelease s b) → (p ≡ x.index) ⊎ (p ≡ x.index → ⊥) → b < a
       place x (inl e) =
           absurd
           (n
           (subst (λ fs. is_among b (opened_by fs) ≡ true)
           (l.mine x.release (ap (started_at s.releases) e ∙ x.is_there)) x.is_opened))
-      place x (inr d) = l.areas x.place x.release d x.is_there b a x.is_opened h
+      place x (inr d) = l.areas x.index x.release d x.is_there b a x.is_opened h
 
       go : (is_among b s.activity.areas ≡ true) ⊎ IsOpenedByRelease s b → b < a
       go (inl x) = l.are_inside b a x h
-      go (inr x) = place x (number_cases p x.place)
+      go (inr x) = place x (number_cases p x.index)
 
   closed_last : (a b : ℕ) → is_open_area s a ≡ true → is_open_area t a ≡ false → is_open_area t b ≡ true →
       GoesOn code condition s t p handler priority old ⊎ Ends s t p old → b < a

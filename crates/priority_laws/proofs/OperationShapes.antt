@@ -280,7 +280,7 @@ module _ (f : Frame) (rest : List Op) where
   shaped_with (Prints h label value) x = record { is = stands_with h x.is }
   shaped_with (Makes h class slots) x = record { is = stands_with h x.is }
   shaped_with (Stores h r slot value) x = record { is = stands_with h x.is }
-  shaped_with (StoresStatic h place value) x = record { is = stands_with h x.is }
+  shaped_with (StoresStatic h index value) x = record { is = stands_with h x.is }
   shaped_with (SetsHidden h r values) x = record { is = stands_with h x.is }
   shaped_with (SetsCeiling h r ceiling) x = record { is = stands_with h x.is }
   shaped_with (Calls h g) x = record { is = (stands_with h x.is.0, x.is.1) }

@@ -29,13 +29,13 @@ module _ (code : Code) (s : State) (p : ℕ) (r : Release) (there : slice_get s.
       (with_frame s (ReleaseAt p) a h below)
   goes h k = goes_in s (near_same s) refl h k
 
-  made : (h : Frame) (class : ℕ) (slots : List Value) → StandsAs f h → (place : Pos) (next : State → ℕ → Step)
+  made : (h : Frame) (class : ℕ) (slots : List Value) → StandsAs f h → (position : Pos) (next : State → ℕ → Step)
       → ((u : State) (q : ℕ) → IsNear s u → s.areas ≡ u.areas → ReleaseMoves code (Unit {0}) s p r.handler a.priority
       (f ∷ below) (next u q).state)
       → ReleaseMoves code (Unit {0}) s p r.handler a.priority (f ∷ below)
-      (allocating s (ReleaseAt p) a place class h.area slots next).state
+      (allocating s (ReleaseAt p) a position class h.area slots next).state
   unfolding allocating
-  made h class slots k place next more =
+  made h class slots k position next more =
       step_if (ReleaseMoves code (Unit {0}) s p r.handler a.priority (f ∷ below)) (has_room s h.area (length slots)) _ _
       (λ e. more (with_object s class h.area slots) (length s.objects)
       (record {
@@ -47,32 +47,32 @@ module _ (code : Code) (s : State) (p : ℕ) (r : Release) (there : slice_get s.
         objects = ceilings_more
             s.objects _;
       }) refl)
-      (λ e. fault_moves code s p r there a f below frames (Unit {0}) place _)
+      (λ e. fault_moves code s p r there a f below frames (Unit {0}) position _)
 
-  asked : (h : Frame) (q : ℕ) (o : Object) → StandsAs f h → (place : Pos) →
+  asked : (h : Frame) (q : ℕ) (o : Object) → StandsAs f h → (position : Pos) →
       ReleaseMoves code (Unit {0}) s p r.handler a.priority (f ∷ below)
-      (registered code s (ReleaseAt p) a place q o (with_frame s (ReleaseAt p) a h below)).state
+      (registered code s (ReleaseAt p) a position q o (with_frame s (ReleaseAt p) a h below)).state
   unfolding registered
-  asked h q o k place =
+  asked h q o k position =
       step_if (ReleaseMoves code (Unit {0}) s p r.handler a.priority (f ∷ below)) (not (is_init s.phase)) _ _
-      (λ e. fault_moves code s p r there a f below frames (Unit {0}) place _)
+      (λ e. fault_moves code s p r there a f below frames (Unit {0}) position _)
       (λ e. absurd (cc (ap not (not_init s.phase exec), e)))
 
-  pub applied_moves : (place : Pos) (e : Effect) → Shaped f e →
+  pub applied_moves : (position : Pos) (e : Effect) → Shaped f e →
       Gives (ReleaseMoves code (Enters code s e) s p r.handler a.priority (f ∷ below))
-      (applied code s (ReleaseAt p) a below place e)
+      (applied code s (ReleaseAt p) a below position e)
   unfolding applied
-  applied_moves place (Goes h) x = gives_some _ _ (goes h x.is)
-  applied_moves place (Prints h label value) x = gives_some _ _ (goes h x.is)
-  applied_moves place (Makes h class slots) x =
+  applied_moves position (Goes h) x = gives_some _ _ (goes h x.is)
+  applied_moves position (Prints h label value) x = gives_some _ _ (goes h x.is)
+  applied_moves position (Makes h class slots) x =
       gives_some _ _
-      (made h class slots x.is place _
+      (made h class slots x.is position _
       (λ u q near same. goes_in u near same _
       (record { body = x.is.body; this = x.is.this; saved = x.is.saved; opened = x.is.opened })))
-  applied_moves place (Stores h q slot value) x =
+  applied_moves position (Stores h q slot value) x =
       gives_some _ _
       (goes_in (with_slot s q slot value) (near_objects s _ (ceilings_changed _ q s.objects (λ o. refl))) refl h x.is)
-  applied_moves place (StoresStatic h n value) x =
+  applied_moves position (StoresStatic h n value) x =
       gives_some _ _
       (goes_in (record s { statics = slice_set s.statics n value })
       (record {
@@ -84,29 +84,29 @@ module _ (code : Code) (s : State) (p : ℕ) (r : Release) (there : slice_get s.
         objects = ceilings_same
             s.objects;
       }) refl h x.is)
-  applied_moves place (SetsHidden h q values) x =
+  applied_moves position (SetsHidden h q values) x =
       gives_some _ _
       (goes_in (record s { objects = changed (with_first values) q s.objects })
       (near_objects s _ (ceilings_changed (with_first values) q s.objects (λ o. refl))) refl h x.is)
-  applied_moves place (SetsCeiling h q ceiling) x =
-      gives_some _ _ (fault_moves code s p r there a f below frames (Unit {0}) place _)
-  applied_moves place (Calls h g) x =
-      gives_some _ _ (called_moves code s p r there a f below frames h g x.is.0 x.is.1 place)
-  applied_moves place (Opens h g scope bytes) x =
-      gives_some _ _ (opened_moves code s p r there a f below frames h g scope bytes x.is.0 x.is.1 place)
-  applied_moves place (Leaves h value) x =
+  applied_moves position (SetsCeiling h q ceiling) x =
+      gives_some _ _ (fault_moves code s p r there a f below frames (Unit {0}) position _)
+  applied_moves position (Calls h g) x =
+      gives_some _ _ (called_moves code s p r there a f below frames h g x.is.0 x.is.1 position)
+  applied_moves position (Opens h g scope bytes) x =
+      gives_some _ _ (opened_moves code s p r there a f below frames h g scope bytes x.is.0 x.is.1 position)
+  applied_moves position (Leaves h value) x =
       gives_some _ _ (left_moves code s p r there a f below frames (Unit {0}) h value x.is)
-  applied_moves place (AsksRegistration h q) x = gives_mapped _ (object_at s q) _ (λ o e. asked h q o x.is place)
-  applied_moves place (AsksRelease h q) x =
+  applied_moves position (AsksRegistration h q) x = gives_mapped _ (object_at s q) _ (λ o e. asked h q o x.is position)
+  applied_moves position (AsksRelease h q) x =
       gives_some _ _
       (moves_still code (Unit {0}) s p r there a.priority (f ∷ below) (with_frame s (ReleaseAt p) a h below) _
       (goes h x.is)
       (still_released (with_frame s (ReleaseAt p) a h below) q))
-  applied_moves place (AsksTermination h q) x =
+  applied_moves position (AsksTermination h q) x =
       gives_some _ _
       (moves_still code (Unit {0}) s p r there a.priority (f ∷ below) (with_frame s (ReleaseAt p) a h below) _
       (goes h x.is)
       (still_asked (with_frame s (ReleaseAt p) a h below) q))
-  applied_moves place (Faults fault) x =
-      gives_some _ _ (fault_moves code s p r there a f below frames (Unit {0}) place fault)
-  applied_moves place Stuck x = gives_nothing _
+  applied_moves position (Faults fault) x =
+      gives_some _ _ (fault_moves code s p r there a f below frames (Unit {0}) position fault)
+  applied_moves position Stuck x = gives_nothing _

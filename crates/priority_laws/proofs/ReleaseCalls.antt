@@ -115,34 +115,34 @@ module _ (code : Code) (s : State) (p : ℕ) (r : Release) (there : slice_get s.
           absurd (look q (slice_get s.objects q) refl (enters q m)
           (ap (λ (o : Option ℕ). o >>= object_at s >>= (λ (x : Object). Some x.ceiling)) (sym m) ∙ none))
 
-  pub called_moves : (h g : Frame) → StandsAs f h → IsNew g → (place : Pos) →
+  pub called_moves : (h g : Frame) → StandsAs f h → IsNew g → (position : Pos) →
       ReleaseMoves code (Enters code s (Calls h g)) s p r.handler a.priority (f ∷ below)
-      (called code s (ReleaseAt p) a (h ∷ below) place g).state
+      (called code s (ReleaseAt p) a (h ∷ below) position g).state
   unfolding called
-  called_moves h g k n place =
+  called_moves h g k n position =
       step_if (ReleaseMoves code (Enters code s (Calls h g)) s p r.handler a.priority (f ∷ below))
       (is_full (h ∷ below)) _ _
-      (λ e. fault_moves code s p r there a f below frames (Enters code s (Calls h g)) place _)
+      (λ e. fault_moves code s p r there a f below frames (Enters code s (Calls h g)) position _)
       (λ e. step_option (ReleaseMoves code (Enters code s (Calls h g)) s p r.handler a.priority (f ∷ below))
       (ceiling_entered code s g) _ _
       (λ none. calls_plainly (Enters code s (Calls h g)) h g k n (enters_none g none))
       (λ ceiling entered. step_if (ReleaseMoves code (Enters code s (Calls h g)) s p r.handler a.priority (f ∷ below))
       (nat_lt ceiling a.priority) _ _
-      (λ e. fault_moves code s p r there a f below frames (Enters code s (Calls h g)) place _)
+      (λ e. fault_moves code s p r there a f below frames (Enters code s (Calls h g)) position _)
       (λ e. calls_into (Enters code s (Calls h g)) h g ceiling k n (grind (arith, nat_tests)) entered)))
 
   -- a call in an area that is opened
-  pub opened_moves : (h g : Frame) (scope bytes : ℕ) → StandsAs f h → IsNew g → (place : Pos) →
+  pub opened_moves : (h g : Frame) (scope bytes : ℕ) → StandsAs f h → IsNew g → (position : Pos) →
       ReleaseMoves code (Enters code s (Opens h g scope bytes)) s p r.handler a.priority (f ∷ below)
-      (opened_in s (ReleaseAt p) a (h ∷ below) place g scope bytes).state
+      (opened_in s (ReleaseAt p) a (h ∷ below) position g scope bytes).state
   unfolding opened_in opening monitor_of
-  opened_moves h g scope bytes k n place =
+  opened_moves h g scope bytes k n position =
       step_if (ReleaseMoves code (Enters code s (Opens h g scope bytes)) s p r.handler a.priority (f ∷ below))
       (is_some (area_with_scope s scope a.areas)) _ _
-      (λ e. fault_moves code s p r there a f below frames (Enters code s (Opens h g scope bytes)) place _)
+      (λ e. fault_moves code s p r there a f below frames (Enters code s (Opens h g scope bytes)) position _)
       (λ e. step_if (ReleaseMoves code (Enters code s (Opens h g scope bytes)) s p r.handler a.priority (f ∷ below))
       (is_full (h ∷ below)) _ _
-      (λ e. fault_moves code s p r there a f below frames (Enters code s (Opens h g scope bytes)) place _)
+      (λ e. fault_moves code s p r there a f below frames (Enters code s (Opens h g scope bytes)) position _)
       (λ e. step_if (ReleaseMoves code (Enters code s (Opens h g scope bytes)) s p r.handler a.priority (f ∷ below))
       (has_store_for s bytes) _ _
       (λ e. moves_on code (Enters code s (Opens h g scope bytes)) s p r there a.priority (f ∷ below)
@@ -171,4 +171,4 @@ module _ (code : Code) (s : State) (p : ℕ) (r : Release) (there : slice_get s.
       ))
       (subst (λ xs. AreasMove s.areas (with_area s scope (Some g.area) bytes).areas (opened_by (f ∷ below))
       (length s.areas ∷ xs)) (sym (opened_same f h below k)) (area_added s.areas _ (opened_by (f ∷ below)))))
-      (λ e. fault_moves code s p r there a f below frames (Enters code s (Opens h g scope bytes)) place _)))
+      (λ e. fault_moves code s p r there a f below frames (Enters code s (Opens h g scope bytes)) position _)))

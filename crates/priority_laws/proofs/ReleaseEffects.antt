@@ -82,10 +82,10 @@ not_init Over h = refl
 
 pub moves_fault : (code : Code) (condition : Type 0) (s : State) (p : ℕ) (r : Release) →
     slice_get s.releases p ≡ Some r → (priority : ℕ) (old : List Frame) (a : Activity) → a.frames ≡ old →
-    (place : Pos) (fault : RunFault) → ReleaseMoves code condition s p r.handler priority old
-    (fault_in s (ReleaseAt p) a place fault).state
+    (position : Pos) (fault : RunFault) → ReleaseMoves code condition s p r.handler priority old
+    (fault_in s (ReleaseAt p) a position fault).state
 unfolding fault_in
-moves_fault code condition s p r there priority old a same place fault =
+moves_fault code condition s p r there priority old a same position fault =
     moves_out code condition s p r there priority old (closed_all s a.frames) (near_closed_all s a.frames)
     (subst (λ fs. AreasMove s.areas (closed_all s a.frames).areas (opened_by fs) []) same (all_closed s a.frames))
 
@@ -94,9 +94,9 @@ moves_fault code condition s p r there priority old a same place fault =
 module _ (code : Code) (s : State) (p : ℕ) (r : Release) (there : slice_get s.releases p ≡ Some r)
     (a : Activity) (f : Frame) (below : List Frame)
     (frames : a.frames ≡ f ∷ below) where
-  pub fault_moves : (condition : Type 0) (place : Pos) (fault : RunFault) →
-      ReleaseMoves code condition s p r.handler a.priority (f ∷ below) (fault_in s (ReleaseAt p) a place fault).state
-  fault_moves condition place fault = moves_fault code condition s p r there a.priority (f ∷ below) a frames place fault
+  pub fault_moves : (condition : Type 0) (position : Pos) (fault : RunFault) →
+      ReleaseMoves code condition s p r.handler a.priority (f ∷ below) (fault_in s (ReleaseAt p) a position fault).state
+  fault_moves condition position fault = moves_fault code condition s p r there a.priority (f ∷ below) a frames position fault
 
   -- the frame stands where it stood
   pub stays_on : (condition : Type 0) (u : State) → IsNear s u → s.areas ≡ u.areas → (h : Frame) → StandsAs f h →

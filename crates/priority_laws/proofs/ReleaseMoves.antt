@@ -29,19 +29,19 @@ ceilings_same objects = record { is = λ r o e. (o, e, refl) }
 pub ceilings_more : (objects more : List Object) → KeepsCeilings objects (objects ++ more)
 ceilings_more objects more = record { is = λ r o e. (o, get_left objects more r o e, refl) }
 
-pub ceilings_changed : (f : Object → Object) (place : ℕ) (objects : List Object) →
-    ((o : Object) → (f o).ceiling ≡ o.ceiling) → KeepsCeilings objects (changed f place objects)
-ceilings_changed f place objects same = record { is = λ r o e. go r o e (number_cases place r) }
+pub ceilings_changed : (f : Object → Object) (index : ℕ) (objects : List Object) →
+    ((o : Object) → (f o).ceiling ≡ o.ceiling) → KeepsCeilings objects (changed f index objects)
+ceilings_changed f index objects same = record { is = λ r o e. go r o e (number_cases index r) }
   where
-    go : (r : ℕ) (o : Object) → slice_get objects r ≡ Some o → (place ≡ r) ⊎ (place ≡ r → ⊥) →
-        (q : Object) × (slice_get (changed f place objects) r ≡ Some q) × (q.ceiling ≡ o.ceiling)
+    go : (r : ℕ) (o : Object) → slice_get objects r ≡ Some o → (index ≡ r) ⊎ (index ≡ r → ⊥) →
+        (q : Object) × (slice_get (changed f index objects) r ≡ Some q) × (q.ceiling ≡ o.ceiling)
     go r o e (inl h) = (
       f o,
-      subst (λ i. slice_get (changed f place objects) i ≡ Some (f o)) h
-          (get_changed f place objects o (ap (slice_get objects) h ∙ e)),
+      subst (λ i. slice_get (changed f index objects) i ≡ Some (f o)) h
+          (get_changed f index objects o (ap (slice_get objects) h ∙ e)),
       same o,
     )
-    go r o e (inr n) = (o, get_changed_other f place r objects n ∙ e, refl)
+    go r o e (inr n) = (o, get_changed_other f index r objects n ∙ e, refl)
 
 pub ceilings_subst : (before after other : List Object) → KeepsCeilings before after → other ≡ after →
     KeepsCeilings before other

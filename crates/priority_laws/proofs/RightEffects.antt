@@ -59,11 +59,11 @@ unfolding closed_all
 right_closed_all code s [] h = h
 right_closed_all code s (f ∷ fs) h = right_closed_all code (closed s f.opened) fs (right_closed code s f.opened h)
 
-pub right_fault : (code : Code) (s : State) (job : Job) (a : Activity) (place : Pos) (fault : RunFault) →
-    PrioritiesAreRight code s → PrioritiesAreRight code (fault_in s job a place fault).state
+pub right_fault : (code : Code) (s : State) (job : Job) (a : Activity) (position : Pos) (fault : RunFault) →
+    PrioritiesAreRight code s → PrioritiesAreRight code (fault_in s job a position fault).state
 unfolding fault_in
-right_fault code s TheSequencer a place fault h = right_same code s h _ refl refl
-right_fault code s (ReleaseAt p) a place fault h =
+right_fault code s TheSequencer a position fault h = right_same code s h _ refl refl
+right_fault code s (ReleaseAt p) a position fault h =
     right_same code (closed_all s a.frames) (right_closed_all code s a.frames h) _ refl refl
 
 right_ended : (code : Code) (s : State) (job : Job) (a : Activity) (value : Option Value) → PrioritiesAreRight code s →
@@ -75,23 +75,23 @@ right_ended code s (ReleaseAt p) a value h = right_same code s h _ refl refl
 -- ---- the effects
 
 module _ (code : Code) (s : State) (h : PrioritiesAreRight code s) (job : Job) (a : Activity) (below : List Frame)
-    (place : Pos) where
+    (position : Pos) where
   goes : (u : State) → PrioritiesAreRight code u → (f : Frame) → PrioritiesAreRight code (with_frame u job a f below)
   goes u k f = right_activity code u job (record a { frames = f ∷ below }) k
 
-  faults : (fault : RunFault) → PrioritiesAreRight code (fault_in s job a place fault).state
-  faults fault = right_fault code s job a place fault h
+  faults : (fault : RunFault) → PrioritiesAreRight code (fault_in s job a position fault).state
+  faults fault = right_fault code s job a position fault h
 
   pub right_made : (class area : ℕ) (slots : List Value) → MakesRightly code class slots → (next : State → ℕ → Step) →
       ((u : State) (q : ℕ) → PrioritiesAreRight code u → PrioritiesAreRight code (next u q).state) →
-      PrioritiesAreRight code (allocating s job a place class area slots next).state
+      PrioritiesAreRight code (allocating s job a position class area slots next).state
   unfolding allocating
   right_made class area slots m next more =
       step_if (PrioritiesAreRight code) (has_room s area (length slots)) _ _
       (λ e. more (with_object s class area slots) (length s.objects) (right_object code s h class area slots m))
       (λ e. faults _)
 
-  calls : (frames : List Frame) (g : Frame) → PrioritiesAreRight code (called code s job a frames place g).state
+  calls : (frames : List Frame) (g : Frame) → PrioritiesAreRight code (called code s job a frames position g).state
   unfolding called
   calls frames g =
       step_if (PrioritiesAreRight code) (is_full frames) _ _ (λ e. faults _)
@@ -101,14 +101,14 @@ module _ (code : Code) (s : State) (h : PrioritiesAreRight code s) (job : Job) (
 
   pub right_opening : (scope : ℕ) (parent : Option ℕ) (bytes : ℕ) (next : State → ℕ → Step) →
       ((u : State) (q : ℕ) → PrioritiesAreRight code u → PrioritiesAreRight code (next u q).state) →
-      PrioritiesAreRight code (opening s job a place scope parent bytes next).state
+      PrioritiesAreRight code (opening s job a position scope parent bytes next).state
   unfolding opening
   right_opening scope parent bytes next more =
       step_if (PrioritiesAreRight code) (has_store_for s bytes) _ _
       (λ e. more (with_area s scope parent bytes) (length s.areas) (right_same code s h _ refl refl)) (λ e. faults _)
 
   opens : (frames : List Frame) (g : Frame) (scope bytes : ℕ) →
-      PrioritiesAreRight code (opened_in s job a frames place g scope bytes).state
+      PrioritiesAreRight code (opened_in s job a frames position g scope bytes).state
   unfolding opened_in
   opens frames g scope bytes =
       step_if (PrioritiesAreRight code) (is_some (area_with_scope s scope a.areas)) _ _ (λ e. faults _)
@@ -139,7 +139,7 @@ module _ (code : Code) (s : State) (h : PrioritiesAreRight code s) (job : Job) (
       go (g ∷ gs) = right_activity code (closed s f.opened) job after (right_closed code s f.opened h)
 
   registers : (f : Frame) (r : ℕ) (o : Object) → object_at s r ≡ Some o → IsHandlerClass code.program o.class →
-      PrioritiesAreRight code (registered code s job a place r o (with_frame s job a f below)).state
+      PrioritiesAreRight code (registered code s job a position r o (with_frame s job a f below)).state
   unfolding registered
   registers f r o there c =
       step_if (PrioritiesAreRight code) (not (is_init s.phase)) _ _ (λ e. faults _)
@@ -150,7 +150,7 @@ module _ (code : Code) (s : State) (h : PrioritiesAreRight code s) (job : Job) (
       refl)))
 
   pub right_applied : (e : Effect) → Right code s e →
-      Gives (PrioritiesAreRight code) (applied code s job a below place e)
+      Gives (PrioritiesAreRight code) (applied code s job a below position e)
   unfolding applied
   right_applied (Goes f) x = gives_some _ _ (goes s h f)
   right_applied (Prints f label value) x = gives_some _ _ (goes s h f)

@@ -20,20 +20,20 @@ use Rattle.priority_laws.proofs.HandlerSlots.{handler_hides}
 
 -- ---- an element of a changed list
 
-pub record IsChangedFrom {A : Type 0} (f : A → A) (place : ℕ) (xs : List A) (i : ℕ) (y : A) : Type 0 where
+pub record IsChangedFrom {A : Type 0} (f : A → A) (index : ℕ) (xs : List A) (i : ℕ) (y : A) : Type 0 where
   pub before : A
   pub was_there : slice_get xs i ≡ Some before
-  pub is : (y ≡ before) ⊎ ((place ≡ i) × (y ≡ f before))
+  pub is : (y ≡ before) ⊎ ((index ≡ i) × (y ≡ f before))
 
-changed_from : {A : Type 0} (f : A → A) (place : ℕ) (xs : List A) (i : ℕ) (y : A) →
-    slice_get (changed f place xs) i ≡ Some y → IsChangedFrom f place xs i y
-changed_from {A} f place xs i y e = go (number_cases place i)
+changed_from : {A : Type 0} (f : A → A) (index : ℕ) (xs : List A) (i : ℕ) (y : A) →
+    slice_get (changed f index xs) i ≡ Some y → IsChangedFrom f index xs i y
+changed_from {A} f index xs i y e = go (number_cases index i)
   where
-    here : (o : Option A) → slice_get xs place ≡ o → place ≡ i → IsChangedFrom f place xs i y
+    here : (o : Option A) → slice_get xs index ≡ o → index ≡ i → IsChangedFrom f index xs i y
     here None g h =
         let same : slice_get xs i ≡ None = sym (ap (slice_get xs) h) ∙ g in
-        let all : changed f place xs ≡ xs =
-        ap (λ (o : Option A). elim o as (λ z. List A) [ None ↦ xs | Some x ↦ slice_set xs place (f x) ]) g in
+        let all : changed f index xs ≡ xs =
+        ap (λ (o : Option A). elim o as (λ z. List A) [ None ↦ xs | Some x ↦ slice_set xs index (f x) ]) g in
         absurd (cc (sym (ap (λ ys. slice_get ys i) all) ∙ e, same))
     here (Some x) g h =
         record {
@@ -41,28 +41,28 @@ changed_from {A} f place xs i y e = go (number_cases place i)
           was_there = sym (ap (slice_get xs) h) ∙ g;
           is = inr (
             h,
-            some_inj y (f x) (sym e ∙ (sym (ap (slice_get (changed f place xs)) h) ∙ get_changed f place xs x g)),
+            some_inj y (f x) (sym e ∙ (sym (ap (slice_get (changed f index xs)) h) ∙ get_changed f index xs x g)),
           );
         }
 
-    go : (place ≡ i) ⊎ (place ≡ i → ⊥) → IsChangedFrom f place xs i y
-    go (inl h) = here (slice_get xs place) refl h
-    go (inr n) = record { before = y; was_there = sym (get_changed_other f place i xs n) ∙ e; is = inl refl }
+    go : (index ≡ i) ⊎ (index ≡ i → ⊥) → IsChangedFrom f index xs i y
+    go (inl h) = here (slice_get xs index) refl h
+    go (inr n) = record { before = y; was_there = sym (get_changed_other f index i xs n) ∙ e; is = inl refl }
 
 -- ---- objects
 
-module _ (p : Declarations) (f : Object → Object) (place : ℕ) (objects : List Object)
+module _ (p : Declarations) (f : Object → Object) (index : ℕ) (objects : List Object)
     (same : (x : Object) → (f x).class ≡ x.class) where
-  pub handlers_changed : ((x : Object) → slice_get objects place ≡ Some x → IsHandlerClass p x.class →
+  pub handlers_changed : ((x : Object) → slice_get objects index ≡ Some x → IsHandlerClass p x.class →
       BeginWithPriority x.slots → BeginWithPriority (f x).slots) → HandlersHavePriorities p objects →
-      HandlersHavePriorities p (changed f place objects)
-  handlers_changed keeps h = record { is = λ r o e c. go r o c (changed_from f place objects r o e) }
+      HandlersHavePriorities p (changed f index objects)
+  handlers_changed keeps h = record { is = λ r o e c. go r o c (changed_from f index objects r o e) }
     where
-      go : (r : ℕ) (o : Object) → IsHandlerClass p o.class → IsChangedFrom f place objects r o →
+      go : (r : ℕ) (o : Object) → IsHandlerClass p o.class → IsChangedFrom f index objects r o →
           BeginWithPriority o.slots
       go r o c k = by k.is
         where
-          by : (o ≡ k.before) ⊎ ((place ≡ r) × (o ≡ f k.before)) → BeginWithPriority o.slots
+          by : (o ≡ k.before) ⊎ ((index ≡ r) × (o ≡ f k.before)) → BeginWithPriority o.slots
           by (inl e) = h.is r o (k.was_there ∙ ap (λ (x : Object). Some x) (sym e)) c
           by (inr e) =
               let class : IsHandlerClass p k.before.class =
@@ -70,15 +70,15 @@ module _ (p : Declarations) (f : Object → Object) (place : ℕ) (objects : Lis
               subst (λ (x : Object). BeginWithPriority x.slots) (sym e.1)
               (keeps k.before (ap (slice_get objects) e.0 ∙ k.was_there) class (h.is r k.before k.was_there class))
 
-pub ceilings_changed : (f : Object → Object) (place : ℕ) (objects : List Object) →
+pub ceilings_changed : (f : Object → Object) (index : ℕ) (objects : List Object) →
     ((x : Object) → IsPriority x.ceiling → IsPriority (f x).ceiling) → CeilingsArePriorities objects →
-    CeilingsArePriorities (changed f place objects)
-ceilings_changed f place objects keeps h = record { is = λ r o e. go r o (changed_from f place objects r o e) }
+    CeilingsArePriorities (changed f index objects)
+ceilings_changed f index objects keeps h = record { is = λ r o e. go r o (changed_from f index objects r o e) }
   where
-    go : (r : ℕ) (o : Object) → IsChangedFrom f place objects r o → IsPriority o.ceiling
+    go : (r : ℕ) (o : Object) → IsChangedFrom f index objects r o → IsPriority o.ceiling
     go r o k = by k.is
       where
-        by : (o ≡ k.before) ⊎ ((place ≡ r) × (o ≡ f k.before)) → IsPriority o.ceiling
+        by : (o ≡ k.before) ⊎ ((index ≡ r) × (o ≡ f k.before)) → IsPriority o.ceiling
         by (inl e) = h.is r o (k.was_there ∙ ap (λ (x : Object). Some x) (sym e))
         by (inr e) =
             subst (λ (x : Object). IsPriority x.ceiling) (sym e.1) (keeps k.before (h.is r k.before k.was_there))

@@ -54,10 +54,10 @@ module _ (code : Code) (rows : List ReadingRow) (s : State) (turn : Turn) where
 
 module _ (code : Code) (plan : Plan) (spares : SparesPriorities code) (s : State)
     (reached : Reached code plan by_priority Arrived s) (h : PrioritiesAreRight code s) where
-  by_choice : is_exec s.phase ≡ true → (place : Option ℕ) → chosen s ≡ place →
+  by_choice : is_exec s.phase ≡ true → (index : Option ℕ) → chosen s ≡ index →
       Gives (PrioritiesAreRight code)
-      (then_try (turn_taken s (elim place [ None ↦ IdleTurn | Some place ↦ TurnOf place ]))
-      (turn_acts code plan.readings (elim place [ None ↦ IdleTurn | Some place ↦ TurnOf place ])))
+      (then_try (turn_taken s (elim index [ None ↦ IdleTurn | Some index ↦ TurnOf index ]))
+      (turn_acts code plan.readings (elim index [ None ↦ IdleTurn | Some index ↦ TurnOf index ])))
   unfolding turn_taken turn_acts
   by_choice exec None e = gives_some (PrioritiesAreRight code) _ (right_same code s h _ refl refl)
   by_choice exec (Some p) e =

@@ -159,16 +159,16 @@ module _ (code : Code) (rows : List ReadingRow) (s : State) (h : PrioritiesAreRi
 
   -- ---- the sequencer
 
-  right_area : (place : Pos) (scope bytes : ℕ) → PrioritiesAreRight code (area_opened s place scope bytes).state
+  right_area : (position : Pos) (scope bytes : ℕ) → PrioritiesAreRight code (area_opened s position scope bytes).state
   unfolding area_opened
-  right_area place scope bytes =
-      right_opening code s h TheSequencer s.activity [] place scope (innermost s.activity.areas) bytes _
+  right_area position scope bytes =
+      right_opening code s h TheSequencer s.activity [] position scope (innermost s.activity.areas) bytes _
       (λ u q k. right_same code u k _ refl refl)
 
-  right_safelet : (place : Pos) (class area : ℕ) → PrioritiesAreRight code (safelet_made code s place class area).state
+  right_safelet : (position : Pos) (class area : ℕ) → PrioritiesAreRight code (safelet_made code s position class area).state
   unfolding safelet_made
-  right_safelet place class area =
-      right_made code s h TheSequencer s.activity [] place class area (new_slots code.program class)
+  right_safelet position class area =
+      right_made code s h TheSequencer s.activity [] position class area (new_slots code.program class)
       (new_begins code class) _
       (λ u q k. right_same code u k _ refl refl)
 

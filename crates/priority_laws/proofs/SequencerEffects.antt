@@ -46,10 +46,10 @@ returned_none (Some value) = refl
 module _ (code : Code) (s : State) (none : (q : ℕ) → started_at s.releases q ≡ None) (quiet : is_exec s.phase ≡ false)
     (idle : s.outcome ≡ None) (n : NestsForSequencer s) where
   -- a fault halts the run
-  pub halts : (a : Activity) (place : Pos) (fault : RunFault) →
-      SequencerMoves s (fault_in s TheSequencer a place fault).state
+  pub halts : (a : Activity) (position : Pos) (fault : RunFault) →
+      SequencerMoves s (fault_in s TheSequencer a position fault).state
   unfolding fault_in is_exec
-  halts a place fault =
+  halts a position fault =
       record {
         none = none;
         inside = λ e. absurd (cc (e));
@@ -83,24 +83,24 @@ module _ (code : Code) (s : State) (none : (q : ℕ) → started_at s.releases q
         ∙ ap (λ xs. xs ++ n.base)
         (stands_first h k ∙ sym (ap (λ (o : Option ℕ). option_to_list o ++ opened_by (h ∷ below)) opened)))
 
-    called_moves : (h g : Frame) → StandsAs f h → IsNew g → (place : Pos) →
-        SequencerMoves s (called code s TheSequencer s.activity (h ∷ below) place g).state
+    called_moves : (h g : Frame) → StandsAs f h → IsNew g → (position : Pos) →
+        SequencerMoves s (called code s TheSequencer s.activity (h ∷ below) position g).state
     unfolding called
-    called_moves h g k new place =
-        step_if (SequencerMoves s) (is_full (h ∷ below)) _ _ (λ e. halts s.activity place _)
+    called_moves h g k new position =
+        step_if (SequencerMoves s) (is_full (h ∷ below)) _ _ (λ e. halts s.activity position _)
         (λ e. step_option (SequencerMoves s) (ceiling_entered code s g) _ _
         (λ e. calls h g s.activity.priority k new.opened)
         (λ ceiling e. step_if (SequencerMoves s) (nat_lt ceiling s.activity.priority) _ _
-        (λ e. halts s.activity place _)
+        (λ e. halts s.activity position _)
         (λ e. calls h (record g { saved = Some s.activity.priority }) ceiling k new.opened)))
 
-    opened_moves : (h g : Frame) (scope bytes : ℕ) → StandsAs f h → (place : Pos) →
-        SequencerMoves s (opened_in s TheSequencer s.activity (h ∷ below) place g scope bytes).state
+    opened_moves : (h g : Frame) (scope bytes : ℕ) → StandsAs f h → (position : Pos) →
+        SequencerMoves s (opened_in s TheSequencer s.activity (h ∷ below) position g scope bytes).state
     unfolding opened_in opening
-    opened_moves h g scope bytes k place =
+    opened_moves h g scope bytes k position =
         step_if (SequencerMoves s) (is_some (area_with_scope s scope s.activity.areas)) _ _
-        (λ e. halts s.activity place _)
-        (λ e. step_if (SequencerMoves s) (is_full (h ∷ below)) _ _ (λ e. halts s.activity place _)
+        (λ e. halts s.activity position _)
+        (λ e. step_if (SequencerMoves s) (is_full (h ∷ below)) _ _ (λ e. halts s.activity position _)
         (λ e. step_if (SequencerMoves s) (has_store_for s bytes) _ _
         (λ e. goes_with s none quiet idle (with_area s scope (Some g.area) bytes) refl refl refl
         (record s.activity {
@@ -110,17 +110,17 @@ module _ (code : Code) (s : State) (none : (q : ℕ) → started_at s.releases q
         })
         (area_added s.areas _ s.activity.areas) n.base
         (ap (λ xs. length s.areas ∷ xs) (n.is_list ∙ ap (λ xs. xs ++ n.base) (stands_first h k))))
-        (λ e. halts s.activity place _)))
+        (λ e. halts s.activity position _)))
 
-    made_moves : (h : Frame) (class : ℕ) (slots : List Value) (place : Pos) (next : State → ℕ → Step)
+    made_moves : (h : Frame) (class : ℕ) (slots : List Value) (position : Pos) (next : State → ℕ → Step)
         → ((u : State) (q : ℕ) → u.releases ≡ s.releases → u.phase ≡ s.phase → u.outcome ≡ s.outcome →
         u.areas ≡ s.areas → SequencerMoves s (next u q).state)
-        → SequencerMoves s (allocating s TheSequencer s.activity place class h.area slots next).state
+        → SequencerMoves s (allocating s TheSequencer s.activity position class h.area slots next).state
     unfolding allocating
-    made_moves h class slots place next more =
+    made_moves h class slots position next more =
         step_if (SequencerMoves s) (has_room s h.area (length slots)) _ _
         (λ e. more (with_object s class h.area slots) (length s.objects) refl refl refl refl)
-        (λ e. halts s.activity place _)
+        (λ e. halts s.activity position _)
 
     left_moves : (h : Frame) (value : Option Value) → StandsAs f h →
         SequencerMoves s (frame_left s TheSequencer s.activity h below value).state
@@ -153,51 +153,51 @@ module _ (code : Code) (s : State) (none : (q : ℕ) → started_at s.releases q
             (front_closed s n h below (stands_first h k)) n.base
             (rest_left s n h below (stands_first h k) ∙ ap (λ xs. xs ++ n.base) (sym (opened_returned value below)))
 
-    registered_moves : (h : Frame) (q : ℕ) (o : Object) → StandsAs f h → (place : Pos) →
+    registered_moves : (h : Frame) (q : ℕ) (o : Object) → StandsAs f h → (position : Pos) →
         SequencerMoves s
-        (registered code s TheSequencer s.activity place q o (with_frame s TheSequencer s.activity h below)).state
+        (registered code s TheSequencer s.activity position q o (with_frame s TheSequencer s.activity h below)).state
     unfolding registered
-    registered_moves h q o k place =
+    registered_moves h q o k position =
         let m : SequencerMoves s (with_frame s TheSequencer s.activity h below) = stays s refl refl refl refl h k in
-        step_if (SequencerMoves s) (not (is_init s.phase)) _ _ (λ e. halts s.activity place _)
+        step_if (SequencerMoves s) (not (is_init s.phase)) _ _ (λ e. halts s.activity position _)
         (λ e. step_if (SequencerMoves s) (is_some (handler_number s.registry q)) _ _ (λ e. m)
         (λ e. step_if (SequencerMoves s) (not (nat_lt (length s.registry) most_handlers)) _ _
-        (λ e. halts s.activity place _)
+        (λ e. halts s.activity position _)
         (λ e. record
         { none = m.none; inside = m.inside; done = m.done; areas = m.areas; base = m.base; is_list = m.is_list })))
 
-    pub applied_moves : (place : Pos) (e : Effect) → Shaped f e →
-        Gives (SequencerMoves s) (applied code s TheSequencer s.activity below place e)
+    pub applied_moves : (position : Pos) (e : Effect) → Shaped f e →
+        Gives (SequencerMoves s) (applied code s TheSequencer s.activity below position e)
     unfolding applied
-    applied_moves place (Goes h) x = gives_some _ _ (stays s refl refl refl refl h x.is)
-    applied_moves place (Prints h label value) x = gives_some _ _ (stays s refl refl refl refl h x.is)
-    applied_moves place (Makes h class slots) x =
+    applied_moves position (Goes h) x = gives_some _ _ (stays s refl refl refl refl h x.is)
+    applied_moves position (Prints h label value) x = gives_some _ _ (stays s refl refl refl refl h x.is)
+    applied_moves position (Makes h class slots) x =
         gives_some _ _
-        (made_moves h class slots place _
+        (made_moves h class slots position _
         (λ u q releases phase outcome areas. stays u releases phase outcome areas _
         (record { body = x.is.body; this = x.is.this; saved = x.is.saved; opened = x.is.opened })))
-    applied_moves place (Stores h q slot value) x =
+    applied_moves position (Stores h q slot value) x =
         gives_some _ _ (stays (with_slot s q slot value) refl refl refl refl h x.is)
-    applied_moves place (StoresStatic h k value) x =
+    applied_moves position (StoresStatic h k value) x =
         gives_some _ _ (stays (record s { statics = slice_set s.statics k value }) refl refl refl refl h x.is)
-    applied_moves place (SetsHidden h q values) x =
+    applied_moves position (SetsHidden h q values) x =
         gives_some _ _
         (stays (record s { objects = changed (with_first values) q s.objects }) refl refl refl refl h x.is)
-    applied_moves place (SetsCeiling h q ceiling) x =
+    applied_moves position (SetsCeiling h q ceiling) x =
         gives_some _ _
         (stays (record s { objects = changed (with_ceiling ceiling) q s.objects }) refl refl refl refl h x.is)
-    applied_moves place (Calls h g) x = gives_some _ _ (called_moves h g x.is.0 x.is.1 place)
-    applied_moves place (Opens h g scope bytes) x = gives_some _ _ (opened_moves h g scope bytes x.is.0 place)
-    applied_moves place (Leaves h value) x = gives_some _ _ (left_moves h value x.is)
-    applied_moves place (AsksRegistration h q) x =
-        gives_mapped _ (object_at s q) _ (λ o e. registered_moves h q o x.is place)
-    applied_moves place (AsksRelease h q) x =
+    applied_moves position (Calls h g) x = gives_some _ _ (called_moves h g x.is.0 x.is.1 position)
+    applied_moves position (Opens h g scope bytes) x = gives_some _ _ (opened_moves h g scope bytes x.is.0 position)
+    applied_moves position (Leaves h value) x = gives_some _ _ (left_moves h value x.is)
+    applied_moves position (AsksRegistration h q) x =
+        gives_mapped _ (object_at s q) _ (λ o e. registered_moves h q o x.is position)
+    applied_moves position (AsksRelease h q) x =
         gives_some _ _
         (sequencer_still s (with_frame s TheSequencer s.activity h below) _ (stays s refl refl refl refl h x.is)
         (still_released (with_frame s TheSequencer s.activity h below) q))
-    applied_moves place (AsksTermination h q) x =
+    applied_moves position (AsksTermination h q) x =
         gives_some _ _
         (sequencer_still s (with_frame s TheSequencer s.activity h below) _ (stays s refl refl refl refl h x.is)
         (still_asked (with_frame s TheSequencer s.activity h below) q))
-    applied_moves place (Faults fault) x = gives_some _ _ (halts s.activity place fault)
-    applied_moves place Stuck x = gives_nothing _
+    applied_moves position (Faults fault) x = gives_some _ _ (halts s.activity position fault)
+    applied_moves position Stuck x = gives_nothing _

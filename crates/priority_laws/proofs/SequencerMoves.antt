@@ -52,7 +52,7 @@ module _ (code : Code) (s t : State) (o : IsInOrder s) (before : (q : ℕ) → s
     where
       go : (is_among a s.activity.areas ≡ true) ⊎ IsOpenedByRelease s a → is_among a s.activity.areas ≡ true
       go (inl x) = x
-      go (inr x) = absurd (cc (x.is_there, before x.place))
+      go (inr x) = absurd (cc (x.is_there, before x.index))
 
   is_own : (a : ℕ) → is_open_area t a ≡ true → is_among a t.activity.areas ≡ true
   is_own a h = go (m.areas.stays a h)

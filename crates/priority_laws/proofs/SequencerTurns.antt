@@ -27,25 +27,25 @@ use Rattle.priority_laws.proofs.SequencerEffects.{halts, applied_moves}
 
 module _ (code : Code) (s : State) (none : (q : ℕ) → started_at s.releases q ≡ None) (quiet : is_exec s.phase ≡ false)
     (idle : s.outcome ≡ None) (n : NestsForSequencer s) where
-  area_moves : (place : Pos) (scope bytes : ℕ) → s.activity.frames ≡ [] →
-      SequencerMoves s (area_opened s place scope bytes).state
+  area_moves : (position : Pos) (scope bytes : ℕ) → s.activity.frames ≡ [] →
+      SequencerMoves s (area_opened s position scope bytes).state
   unfolding area_opened opening
-  area_moves place scope bytes frames =
+  area_moves position scope bytes frames =
       step_if (SequencerMoves s) (has_store_for s bytes) _ _
       (λ e. comes_to_end s none quiet idle (with_area s scope (innermost s.activity.areas) bytes) refl refl
       (record s.activity { areas = length s.areas ∷ s.activity.areas }) _ frames
       (area_added s.areas _ s.activity.areas))
-      (λ e. halts code s none quiet idle n s.activity place _)
+      (λ e. halts code s none quiet idle n s.activity position _)
 
-  safelet_moves : (place : Pos) (class area : ℕ) → s.activity.frames ≡ [] →
-      SequencerMoves s (safelet_made code s place class area).state
+  safelet_moves : (position : Pos) (class area : ℕ) → s.activity.frames ≡ [] →
+      SequencerMoves s (safelet_made code s position class area).state
   unfolding safelet_made allocating
-  safelet_moves place class area frames =
+  safelet_moves position class area frames =
       step_if (SequencerMoves s) (has_room s area (length (new_slots code.program class))) _ _
       (λ e. comes_to_end s none quiet idle (with_object s class area (new_slots code.program class)) refl refl
       s.activity _ frames
       (areas_stay s.areas s.activity.areas))
-      (λ e. halts code s none quiet idle n s.activity place _)
+      (λ e. halts code s none quiet idle n s.activity position _)
 
   body_moves : (r : ℕ) (body : Body) → Gives (SequencerMoves s) (body_called code s r body)
   unfolding body_called new_frame with_activity

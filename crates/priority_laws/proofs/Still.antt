@@ -137,10 +137,10 @@ still_fired code s fire = go (fired_handler code s fire.handler)
     go None = still_same s
     go (Some handler) = still_taken s handler
 
-still_fired_at : (code : Code) (fires : List Fire) (s : State) (place : ℕ) →
-    IsStill s (fired_at code fires s place).state
-still_fired_at code fires s place =
-    step_option (IsStill s) (slice_get fires place) _ _ (λ e. still_same s) (λ fire e. still_fired code s fire)
+still_fired_at : (code : Code) (fires : List Fire) (s : State) (index : ℕ) →
+    IsStill s (fired_at code fires s index).state
+still_fired_at code fires s index =
+    step_option (IsStill s) (slice_get fires index) _ _ (λ e. still_same s) (λ fire e. still_fired code s fire)
 
 pub still_arrivals : (code : Code) (plan : Plan) (s : State) → IsStill s (arrivals code plan s).state
 unfolding arrivals
@@ -174,9 +174,9 @@ module _ (s t : State) (k : IsStill s t) where
   opened_still a (inl m) = inl (ap (λ (x : Activity). is_among a x.areas) k.activity ∙ m)
   opened_still a (inr o) =
       inr (record {
-        place = o.place;
+        index = o.index;
         release = o.release;
-        is_there = k.started o.place ∙ o.is_there;
+        is_there = k.started o.index ∙ o.is_there;
         is_opened = o.is_opened;
       })
 

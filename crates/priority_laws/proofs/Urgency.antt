@@ -217,39 +217,39 @@ is_candidate s first (x ∷ rs) c h =
 
 -- ---- the chosen one
 
-pub record IsChosen (s : State) (place : ℕ) : Type 0 where
+pub record IsChosen (s : State) (index : ℕ) : Type 0 where
   pub best : Candidate
   pub release : Release
-  pub is_there : slice_get s.releases place ≡ Some release
-  pub is_candidate : candidate s place release ≡ Some best
+  pub is_there : slice_get s.releases index ≡ Some release
+  pub is_candidate : candidate s index release ≡ Some best
   pub is_best : (q : ℕ) (r : Release) (c : Candidate) → slice_get s.releases q ≡ Some r → candidate s q r ≡ Some c →
       IsAtMost c best
 
-placed : (s : State) (q : ℕ) (r : Release) (c : Candidate) → candidate s q r ≡ Some c → c.place ≡ q
+placed : (s : State) (q : ℕ) (r : Release) (c : Candidate) → candidate s q r ≡ Some c → c.index ≡ q
 unfolding candidate
 placed s q r c e = go r.status refl
   where
-    by : (d : Candidate) → candidate s q r ≡ Some d → d.place ≡ q → c.place ≡ q
-    by d f same = ap (λ (x : Candidate). x.place) (sym (some_inj d c (sym f ∙ e))) ∙ same
+    by : (d : Candidate) → candidate s q r ≡ Some d → d.index ≡ q → c.index ≡ q
+    by d f same = ap (λ (x : Candidate). x.index) (sym (some_inj d c (sym f ∙ e))) ∙ same
 
     of : ReleaseStatus → Option Candidate
     of status =
         elim status [
-          | Waits ↦ Some (record { place = q; priority = handler_priority s r.handler; is_started = false })
-          | Started activity ↦ Some (record { place = q; priority = activity.priority; is_started = true })
+          | Waits ↦ Some (record { index = q; priority = handler_priority s r.handler; is_started = false })
+          | Started activity ↦ Some (record { index = q; priority = activity.priority; is_started = true })
           | Ended ↦ None
           | Dropped ↦ None
         ]
 
-    go : (status : ReleaseStatus) → r.status ≡ status → c.place ≡ q
-    go Waits f = by (record { place = q; priority = handler_priority s r.handler; is_started = false }) (ap of f) refl
-    go (Started activity) f = by (record { place = q; priority = activity.priority; is_started = true }) (ap of f) refl
+    go : (status : ReleaseStatus) → r.status ≡ status → c.index ≡ q
+    go Waits f = by (record { index = q; priority = handler_priority s r.handler; is_started = false }) (ap of f) refl
+    go (Started activity) f = by (record { index = q; priority = activity.priority; is_started = true }) (ap of f) refl
     go Ended f = absurd (cc (e, ap of f))
     go Dropped f = absurd (cc (e, ap of f))
 
-pub is_chosen : (s : State) (place : ℕ) → chosen s ≡ Some place → IsChosen s place
+pub is_chosen : (s : State) (index : ℕ) → chosen s ≡ Some index → IsChosen s index
 unfolding chosen candidates
-is_chosen s place e = go (most_urgent (candidates_from s 0 s.releases)) refl
+is_chosen s index e = go (most_urgent (candidates_from s 0 s.releases)) refl
   where
     listed : (q : ℕ) (r : Release) (c : Candidate) → slice_get s.releases q ≡ Some r → candidate s q r ≡ Some c →
         IsOne c (candidates_from s 0 s.releases)
@@ -257,13 +257,13 @@ is_chosen s place e = go (most_urgent (candidates_from s 0 s.releases)) refl
         let there : 0 + q ≡ q = omega arith in
         is_listed s 0 q s.releases r c f (ap (λ n. candidate s n r) there ∙ k)
 
-    found : (best : Candidate) → best.place ≡ place → IsCandidate s 0 s.releases best →
-        ((c : Candidate) → IsOne c (candidates_from s 0 s.releases) → IsAtMost c best) → IsChosen s place
+    found : (best : Candidate) → best.index ≡ index → IsCandidate s 0 s.releases best →
+        ((c : Candidate) → IsOne c (candidates_from s 0 s.releases) → IsAtMost c best) → IsChosen s index
     found best at k most =
         let zero_first : 0 + k.q ≡ k.q = omega arith in
         let there : candidate s k.q k.release ≡ Some best = sym (ap (λ n. candidate s n k.release) zero_first)
         ∙ k.is_candidate in
-        let same : k.q ≡ place = sym (placed s k.q k.release best there) ∙ at in
+        let same : k.q ≡ index = sym (placed s k.q k.release best there) ∙ at in
         record {
           best = best;
           release = k.release;
@@ -272,13 +272,13 @@ is_chosen s place e = go (most_urgent (candidates_from s 0 s.releases)) refl
           is_best = λ q r c f h. most c (listed q r c f h);
         }
 
-    go : (o : Option Candidate) → most_urgent (candidates_from s 0 s.releases) ≡ o → IsChosen s place
+    go : (o : Option Candidate) → most_urgent (candidates_from s 0 s.releases) ≡ o → IsChosen s index
     go None f = absurd (cc (e, f))
     go (Some best) f =
         let b : IsOne best (candidates_from s 0 s.releases) ×
         ((c : Candidate) → IsOne c (candidates_from s 0 s.releases) → IsAtMost c best) =
         best_of (candidates_from s 0 s.releases) best f in
         found best
-        (some_inj best.place place (sym (ap (λ (o : Option Candidate). option_map (λ (c : Candidate). c.place) o) f)
+        (some_inj best.index index (sym (ap (λ (o : Option Candidate). option_map (λ (c : Candidate). c.index) o) f)
         ∙ e))
         (is_candidate s 0 s.releases best b.0) b.1

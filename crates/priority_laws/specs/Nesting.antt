@@ -38,9 +38,9 @@ pub record NestsForRelease (s : State) (w : StartedRelease) : Type 0 where
 
 -- a started release opened the area
 pub record IsOpenedByRelease (s : State) (a : ℕ) : Type 0 where
-  pub place : ℕ
+  pub index : ℕ
   pub release : StartedRelease
-  pub is_there : started_at s.releases place ≡ Some release
+  pub is_there : started_at s.releases index ≡ Some release
   pub is_opened : is_among a (opened_by release.activity.frames) ≡ true
 
 -- no area is open that no job closes

@@ -49,11 +49,11 @@ pub record ConstructorsEnterNothing (code : Code) : Type 0 where
 -- framework calls, be it `run` in an area that is opened or `handleAsyncEvent`
 pub record EntersItsMonitors (code : Code) : Type 0 where
   pub constructors : ConstructorsEnterNothing code
-  pub opens : (plan : Plan) (s : State) (place : ℕ) (op : Op) (f g : Frame) (scope bytes : ℕ) →
-      Reached code plan by_priority Arrived s → Does code plan.readings s (ReleaseAt place) op (Opens f g scope bytes) →
+  pub opens : (plan : Plan) (s : State) (index : ℕ) (op : Op) (f g : Frame) (scope bytes : ℕ) →
+      Reached code plan by_priority Arrived s → Does code plan.readings s (ReleaseAt index) op (Opens f g scope bytes) →
       monitor_of code g ≡ None
-  pub starts : (plan : Plan) (s : State) (place : ℕ) (r : Release) (row : HandlerRow) (body : Body) →
-      Reached code plan by_priority Arrived s → slice_get s.releases place ≡ Some r → r.status ≡ Waits →
+  pub starts : (plan : Plan) (s : State) (index : ℕ) (r : Release) (row : HandlerRow) (body : Body) →
+      Reached code plan by_priority Arrived s → slice_get s.releases index ≡ Some r → r.status ≡ Waits →
       handler_row s.registry r.handler ≡ Some row →
       body_named code.program row.class (codes "handleAsyncEvent") ≡ Some body → IsFalse (is_synchronized code body)
 
@@ -76,6 +76,6 @@ pub record IsRunnableClass (p : Declarations) (class : ℕ) : Type 0 where
 -- Runnable
 pub record CallsFrameworkByTypes (code : Code) : Type 0 where
   pub spares : SparesPriorities code
-  pub opens : (plan : Plan) (s : State) (place : ℕ) (op : Op) (f g : Frame) (scope bytes r : ℕ) (o : Object) →
-      Reached code plan by_priority Arrived s → Does code plan.readings s (ReleaseAt place) op (Opens f g scope bytes) →
+  pub opens : (plan : Plan) (s : State) (index : ℕ) (op : Op) (f g : Frame) (scope bytes r : ℕ) (o : Object) →
+      Reached code plan by_priority Arrived s → Does code plan.readings s (ReleaseAt index) op (Opens f g scope bytes) →
       g.this ≡ Some r → object_at s r ≡ Some o → IsRunnableClass code.program o.class

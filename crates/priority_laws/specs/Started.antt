@@ -17,7 +17,7 @@ started_in r = option_map (started_as r.handler) (activity_in r.status)
 
 -- the started release at this place
 unfoldable pub started_at : List Release → ℕ → Option StartedRelease
-started_at releases place = slice_get releases place >>= started_in
+started_at releases index = slice_get releases index >>= started_in
 
 -- the priority with which a release started: the one that its handler was registered with
 abbrev pub own_priority : State → StartedRelease → ℕ

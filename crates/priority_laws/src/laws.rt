@@ -44,8 +44,8 @@ pub fn monitors_exclude_one_another()
     ensures guarded { (code : Code) → EntersItsMonitors code → (plan : Plan) (moment : Moment) (s : State) →
         Reached code plan by_priority moment s → MonitorsAreGuarded code s }
     ensures between { (code : Code) → EntersItsMonitors code → (plan : Plan) (moment : Moment) (s : State) →
-        Reached code plan by_priority moment s → (place : ℕ) (w : StartedRelease) →
-        started_at s.releases place ≡ Some w → (r : ℕ) → Contains (held_by code w.activity) r →
+        Reached code plan by_priority moment s → (index : ℕ) (w : StartedRelease) →
+        started_at s.releases index ≡ Some w → (r : ℕ) → Contains (held_by code w.activity) r →
         HasCeilingBetween s.objects r (own_priority s w) w.activity.priority }
     ensures exclusive { (code : Code) → EntersItsMonitors code → (plan : Plan) (moment : Moment) (s : State) →
         Reached code plan by_priority moment s → Exclusive code s }

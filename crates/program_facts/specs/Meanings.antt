@@ -25,13 +25,13 @@ meant nodes no_row = nothing
 
 -- the name of a simple name
 unfoldable pub simply_named : Node → Option (List ℕ)
-simply_named (SimpleName place name) = Some name
+simply_named (SimpleName position name) = Some name
 simply_named _ = None
 
 -- the name of an access or a call
 unfoldable pub member_named : Node → Option (List ℕ)
-member_named (FieldAccess place name object) = Some name
-member_named (Call place name object arguments) = Some name
+member_named (FieldAccess position name object) = Some name
+member_named (Call position name object arguments) = Some name
 member_named _ = None
 
 -- the row tells which field or method of the name the class has

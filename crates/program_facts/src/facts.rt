@@ -187,7 +187,7 @@ impl<'a> Facts<'a> {
     pub fn meaning_told(&self, id: NodeId) -> NodeMeaning
         ensures { IsMeaningAt self.now id result }
     {
-        match self.meanings.get(id.place()) {
+        match self.meanings.get(id.number()) {
             Some(row) => *row,
             None => NodeMeaning::Nothing,
         }
@@ -233,8 +233,8 @@ impl<'a> Facts<'a> {
             return None;
         }
         let runs = self.runs()?;
-        let place = node.place();
-        Some(*runs.rows.get(&place)?)
+        let number = node.number();
+        Some(*runs.rows.get(&number)?)
     }
 
     /// The scope of the variable that a node declares, if that is told.
@@ -242,7 +242,7 @@ impl<'a> Facts<'a> {
         ensures { IfSome result (λ scope. variable_scope_at (declarations_of self.now) id ≡ Some scope) }
     {
         let variables = self.variables?;
-        let place = id.place();
-        Some(*variables.rows.get(&place)?)
+        let number = id.number();
+        Some(*variables.rows.get(&number)?)
     }
 }

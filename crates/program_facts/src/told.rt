@@ -23,13 +23,13 @@ impl<'a> At<'a> {
     pub fn type_of(&self, node: NodeId) -> Option<Ty>
         ensures { result ≡ lookup None self.now.types.now node }
     {
-        *self.types.get(node.place())?
+        *self.types.get(node.number())?
     }
 
     /// The scope of a node, if it has one.
     pub fn scope_of(&self, node: NodeId) -> Option<Scope>
         ensures { result ≡ lookup None self.now.scopes.now node }
     {
-        *self.scopes.get(node.place())?
+        *self.scopes.get(node.number())?
     }
 }

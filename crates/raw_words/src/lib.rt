@@ -68,26 +68,26 @@ impl RawWords {
     }
 
     /// A word that was written since it was last forgotten.
-    pub fn read(&self, place: usize) -> u64
-        requires { IsSome (get_or self.now place None) }
-        ensures { get_or self.now place None ≡ Some result }
+    pub fn read(&self, index: usize) -> u64
+        requires { IsSome (get_or self.now index None) }
+        ensures { get_or self.now index None ≡ Some result }
     {
-        *self.cells.get(self.base, place)
+        *self.cells.get(self.base, index)
     }
 
     /// Writes a word.
-    pub fn write(&mut self, place: usize, word: u64)
-        requires { place < length self.old }
-        ensures { self.new ≡ slice_set self.old place (Some word) }
+    pub fn write(&mut self, index: usize, word: u64)
+        requires { index < length self.old }
+        ensures { self.new ≡ slice_set self.old index (Some word) }
     {
-        self.cells.write(self.base, place, word);
+        self.cells.write(self.base, index, word);
     }
 
     /// Forgets the words from one on. It takes no time.
-    pub fn forget_from(&mut self, place: usize)
-        ensures { self.new ≡ forgotten place self.old }
+    pub fn forget_from(&mut self, index: usize)
+        ensures { self.new ≡ forgotten index self.old }
     {
-        self.cells.forget_from(place);
+        self.cells.forget_from(index);
     }
 }
 

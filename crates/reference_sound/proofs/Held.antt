@@ -55,9 +55,9 @@ module _ (s t : State) (base : List ℕ) (held : ReferencesHold s base) where
   unfolding activity_of
   jobs_of same sequencer TheSequencer a e =
       subst (λ (x : Activity). JobHolds (world_of s) base x.frames) (some_inj t.activity a e) sequencer
-  jobs_of same sequencer (ReleaseAt place) a e =
-      held.jobs (ReleaseAt place) a
-      (sym (ap (λ (rs : List Release). slice_get rs place >>= (λ r. activity_in r.status)) same) ∙ e)
+  jobs_of same sequencer (ReleaseAt index) a e =
+      held.jobs (ReleaseAt index) a
+      (sym (ap (λ (rs : List Release). slice_get rs index >>= (λ r. activity_in r.status)) same) ∙ e)
 
   pub sequencer_holds : JobHolds (world_of s) base s.activity.frames
   unfolding activity_of
@@ -125,7 +125,7 @@ pub same_memory : (m : State) (job : Job) (a : Activity) (P : World → List Val
     P (world_of m) m.statics → P (world_of (with_activity m job a)) (with_activity m job a).statics
 unfolding with_activity
 same_memory m TheSequencer a P h = h
-same_memory m (ReleaseAt place) a P h = h
+same_memory m (ReleaseAt index) a P h = h
 
 module _ (s : State) (base : List ℕ) (held : ReferencesHold s base) where
   -- a job has these frames, in a state where the releases and the sequencer are as they were
@@ -165,13 +165,13 @@ module _ (s : State) (base : List ℕ) (held : ReferencesHold s base) where
           job_holds (world_of s) (world_of m) objects base left.frames
           (held.jobs j left (sym (same_activity s m j e g) ∙ was))
 
-  pub faults_hold : (job : Job) (activity : Activity) (place : Pos) (fault : RunFault) →
-      ReferencesHold (fault_in s job activity place fault).state base
+  pub faults_hold : (job : Job) (activity : Activity) (position : Pos) (fault : RunFault) →
+      ReferencesHold (fault_in s job activity position fault).state base
   unfolding fault_in
-  faults_hold TheSequencer activity place fault =
-      held_still s (fault_in s TheSequencer activity place fault).state base held refl refl refl
-      (jobs_of s (fault_in s TheSequencer activity place fault).state base held refl (sequencer_holds s s base held))
-  faults_hold (ReleaseAt n) activity place fault =
+  faults_hold TheSequencer activity position fault =
+      held_still s (fault_in s TheSequencer activity position fault).state base held refl refl refl
+      (jobs_of s (fault_in s TheSequencer activity position fault).state base held refl (sequencer_holds s s base held))
+  faults_hold (ReleaseAt n) activity position fault =
       let c = all_close activity.frames s in
       release_ends n (closed_all s activity.frames) c.releases c.activity
       (memory_close s (closed_all s activity.frames) c held.memory) (c.order held.order)

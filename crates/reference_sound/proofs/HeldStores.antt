@@ -147,7 +147,7 @@ module _ (m : Scene) (Q : ℕ → Type 0) (locals : EachReference Q m.frame.loca
       x = take m r.needed.value r.out r.needed.takes
 
       stores : effect_of m.code m.world m.frame (PUTSTATIC id)
-          ≡ StoresStatic (record m.frame { operands = x.rest }) r.needed.has.place x.v
+          ≡ StoresStatic (record m.frame { operands = x.rest }) r.needed.has.index x.v
       stores =
           ap (λ (o : Option ℕ). given o (λ field. given (static_place m.code.program field) (λ place.
           pop m.frame (λ value f. StoresStatic f place value)))) r.needed.is
@@ -155,7 +155,7 @@ module _ (m : Scene) (Q : ℕ → Type 0) (locals : EachReference Q m.frame.loca
           r.needed.has.is
           ∙ ap (λ (ops : List Value). elim ops as (λ z. Effect) [
             | [] ↦ Stuck
-            | v ∷ below ↦ StoresStatic (record m.frame { operands = below }) r.needed.has.place v
+            | v ∷ below ↦ StoresStatic (record m.frame { operands = below }) r.needed.has.index v
           ]) x.is)
 
       lies : IfReference (LiesInImmortal (memory m)) x.v

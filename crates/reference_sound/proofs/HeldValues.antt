@@ -67,7 +67,7 @@ module _ (code : Code) (areas : ℕ → Option MemoryArea) (world : Environment)
   get_static_holds id =
       any_given w Q (bound_static (binding code id)) _
       (λ field e. any_given w Q (static_place code.program field) _
-      (λ place e. any_given w Q (slice_get world.statics place) _ (λ value e. goes w Q _ locals)))
+      (λ index e. any_given w Q (slice_get world.statics index) _ (λ value e. goes w Q _ locals)))
 
   pub length_holds : (id : ℕ) → Does (LENGTH id)
   unfolding effect_of

@@ -40,43 +40,43 @@ around_new code w list c sig f h g scope x =
 
 module _ (code : Code) (s : State) (job : Job) (activity : Activity) (is : activity_of s job ≡ Some activity)
     (base : List ℕ) (held : ReferencesHold s base) (f : Frame) (below : List Frame)
-    (frames : activity.frames ≡ f ∷ below) (place : Pos) (rest : List Op) (c : ℕ) (sig : Signature) where
+    (frames : activity.frames ≡ f ∷ below) (position : Pos) (rest : List Op) (c : ℕ) (sig : Signature) where
   effect_kept : (e : Effect) → Fine code (world_of s) (list_of base (f ∷ below)) c sig (record f { rest = rest }) e →
       Holding (world_of s) (IsOnList (world_of s) (list_of base (f ∷ below))) e →
-      AllLead base (applied code s job activity below place e)
+      AllLead base (applied code s job activity below position e)
   unfolding applied
   effect_kept (Goes h) x a =
-      goes_hold code s job activity is base held f below frames place h (as_before f h rest x.is.same) a.is
+      goes_hold code s job activity is base held f below frames position h (as_before f h rest x.is.same) a.is
   effect_kept (Prints h label value) x a =
-      prints_hold code s job activity is base held f below frames place h label value
+      prints_hold code s job activity is base held f below frames position h label value
       (as_before f h rest x.is.same) a.is
   effect_kept (Makes h class values) x a =
-      makes_hold code s job activity is base held f below frames place h class values
+      makes_hold code s job activity is base held f below frames position h class values
       (as_before f h rest x.is.goes.same) a.is
   effect_kept (Stores h r slot v) x a =
-      stores_hold code s job activity is base held f below frames place h r slot v (as_before f h rest x.is.0.same) a.is
+      stores_hold code s job activity is base held f below frames position h r slot v (as_before f h rest x.is.0.same) a.is
   effect_kept (StoresStatic h n v) x a =
-      statics_hold code s job activity is base held f below frames place h n v (as_before f h rest x.is.0.same) a.is
+      statics_hold code s job activity is base held f below frames position h n v (as_before f h rest x.is.0.same) a.is
   effect_kept (SetsHidden h r values) x a =
-      hidden_hold code s job activity is base held f below frames place h r values (as_before f h rest x.is.0.same) a.is
+      hidden_hold code s job activity is base held f below frames position h r values (as_before f h rest x.is.0.same) a.is
   effect_kept (SetsCeiling h r ceiling) x a =
-      ceiling_holds code s job activity is base held f below frames place h r ceiling
+      ceiling_holds code s job activity is base held f below frames position h r ceiling
       (as_before f h rest x.is.0.same) a.is
   effect_kept (Calls h g) x a =
-      calls_hold code s job activity is base held f below frames place h g (as_before f h rest x.is.goes.same) a.is
+      calls_hold code s job activity is base held f below frames position h g (as_before f h rest x.is.goes.same) a.is
       x.is.unopened
   effect_kept (Opens h g scope bytes) x a =
-      opens_hold code s job activity is base held f below frames place h g scope bytes
+      opens_hold code s job activity is base held f below frames position h g scope bytes
       (as_before f h rest x.is.goes.same) a.is x.is.around
       (around_new code (world_of s) (list_of base (f ∷ below)) c sig (record f { rest = rest }) h g scope x.is)
-  effect_kept (Leaves h v) x a = leaves_hold code s job activity is base held f below frames place h v
+  effect_kept (Leaves h v) x a = leaves_hold code s job activity is base held f below frames position h v
   effect_kept (AsksRegistration h r) x a =
-      registrations_hold code s job activity is base held f below frames place h r (as_before f h rest x.is.0.same) a.is
+      registrations_hold code s job activity is base held f below frames position h r (as_before f h rest x.is.0.same) a.is
   effect_kept (AsksRelease h r) x a =
-      releases_hold code s job activity is base held f below frames place h r (as_before f h rest x.is.0.same) a.is
+      releases_hold code s job activity is base held f below frames position h r (as_before f h rest x.is.0.same) a.is
   effect_kept (AsksTermination h r) x a =
-      terminations_hold code s job activity is base held f below frames place h r (as_before f h rest x.is.0.same) a.is
-  effect_kept (Faults fault) x a = all_lead base _ (faults_hold s base held job activity place fault)
+      terminations_hold code s job activity is base held f below frames position h r (as_before f h rest x.is.0.same) a.is
+  effect_kept (Faults fault) x a = all_lead base _ (faults_hold s base held job activity position fault)
   effect_kept Stuck x a = absurd x.is
 
 module _ (code : Code) (facts : Facts code) (rows : List ReadingRow) (s : State) (job : Job) (activity : Activity)

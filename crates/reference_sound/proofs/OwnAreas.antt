@@ -76,23 +76,23 @@ returned_holds w base (Some v) (f ∷ fs) h = h
 
 module _ (code : Code) (s : State) (job : Job) (activity : Activity) (is : activity_of s job ≡ Some activity)
     (base : List ℕ) (held : ReferencesHold s base) (f : Frame) (below : List Frame)
-    (frames : activity.frames ≡ f ∷ below) (place : Pos) where
+    (frames : activity.frames ≡ f ∷ below) (position : Pos) where
   -- what the section before has of this frame
   abbrev Here : Frame → Type 0
-  Here h = HoldsHere code s job activity is base held f below frames place h
+  Here h = HoldsHere code s job activity is base held f below frames position h
 
   abbrev Asked : Effect → Type 0
-  Asked e = Asks code s job activity is base held f below frames place e
+  Asked e = Asks code s job activity is base held f below frames position e
 
   abbrev Held : Effect → Type 0
-  Held e = Kept code s job activity is base held f below frames place e
+  Held e = Kept code s job activity is base held f below frames position e
 
   -- ---- calls
 
   module _ (h g : Frame) (same : IsSame f h) (asks : Asked (Calls h g)) (unopened : g.opened ≡ None) where
     callee_holds : (saved : Option ℕ) → JobHolds (world_of s) base (record g { saved = saved } ∷ (h ∷ below))
     callee_holds saved =
-        let lower = frame_holds code s job activity is base held f below frames place s
+        let lower = frame_holds code s job activity is base held f below frames position s
         (objects_same (world_of s)) h h same refl asks.0 in
         let list = list_of base (f ∷ below) in (
           subst
@@ -122,28 +122,28 @@ module _ (code : Code) (s : State) (job : Job) (activity : Activity) (is : activ
     calls_hold = go (is_full (h ∷ below)) (ceiling_entered code s g)
       where
         entered : (ceiling : ℕ) (t : Bool) (events : List Event) → AllLead base (Some (if t
-            then fault_in s job activity place CeilingViolation
+            then fault_in s job activity position CeilingViolation
             else telling
             (with_activity s job (record activity {
               frames = record g { saved = Some activity.priority } ∷ (h ∷ below);
               priority = ceiling;
             })) events))
         entered ceiling true events =
-            all_lead base _ (faults_hold s base held job activity place CeilingViolation)
+            all_lead base _ (faults_hold s base held job activity position CeilingViolation)
         entered ceiling false events = all_lead base _ (pushed (Some activity.priority) ceiling)
 
-        go : (t : Bool) (o : Option ℕ) → AllLead base (Some (if t then fault_in s job activity place DepthFull
+        go : (t : Bool) (o : Option ℕ) → AllLead base (Some (if t then fault_in s job activity position DepthFull
             else (elim o [
               | None ↦ silently (with_activity s job (record activity { frames = g ∷ (h ∷ below) }))
               | Some ceiling ↦
-                  if nat_lt ceiling activity.priority then fault_in s job activity place CeilingViolation
+                  if nat_lt ceiling activity.priority then fault_in s job activity position CeilingViolation
                   else telling
                   (with_activity s job (record activity {
                     frames = record g { saved = Some activity.priority } ∷ (h ∷ below);
                     priority = ceiling;
                   })) (tell_priority s job activity.priority ceiling)
             ])))
-        go true o = all_lead base _ (faults_hold s base held job activity place DepthFull)
+        go true o = all_lead base _ (faults_hold s base held job activity position DepthFull)
         go false None = all_lead base _ (pushed g.saved activity.priority)
         go false (Some ceiling) =
             entered ceiling (nat_lt ceiling activity.priority) (tell_priority s job activity.priority ceiling)
@@ -176,7 +176,7 @@ module _ (code : Code) (s : State) (job : Job) (activity : Activity) (is : activ
 
         lower : JobHolds (world_of (with_area s scope (Some g.area) bytes)) base (h ∷ below)
         lower =
-            frame_holds code s job activity is base held f below frames place (with_area s scope (Some g.area) bytes)
+            frame_holds code s job activity is base held f below frames position (with_area s scope (Some g.area) bytes)
             stay
             h h same refl asks.0
 
@@ -202,14 +202,14 @@ module _ (code : Code) (s : State) (job : Job) (activity : Activity) (is : activ
     opens_hold = go (area_with_scope s scope activity.areas) (is_full (h ∷ below)) (has_store_for s bytes)
       where
         go : (o : Option ℕ) (t u : Bool) →
-            AllLead base (Some (if is_some o then fault_in s job activity place ScopedCycle
-            else (if t then fault_in s job activity place DepthFull
+            AllLead base (Some (if is_some o then fault_in s job activity position ScopedCycle
+            else (if t then fault_in s job activity position DepthFull
             else (if u then silently (with_activity (with_area s scope (Some g.area) bytes) job opened_activity)
-            else fault_in s job activity place StoreFull))))
-        go (Some a) t u = all_lead base _ (faults_hold s base held job activity place ScopedCycle)
-        go None true u = all_lead base _ (faults_hold s base held job activity place DepthFull)
+            else fault_in s job activity position StoreFull))))
+        go (Some a) t u = all_lead base _ (faults_hold s base held job activity position ScopedCycle)
+        go None true u = all_lead base _ (faults_hold s base held job activity position DepthFull)
         go None false true = all_lead base _ opened
-        go None false false = all_lead base _ (faults_hold s base held job activity place StoreFull)
+        go None false false = all_lead base _ (faults_hold s base held job activity position StoreFull)
 
   -- ---- leaving
 
@@ -227,7 +227,7 @@ module _ (code : Code) (s : State) (job : Job) (activity : Activity) (is : activ
         returned_holds (world_of (closed s h.opened)) base v below
         (job_holds (world_of s) (world_of (closed s h.opened))
         (objects_close s (closed s h.opened) (one_closes s h.opened))
-        base below (frames_hold code s job activity is base held f below frames place).1)
+        base below (frames_hold code s job activity is base held f below frames position).1)
 
     left : ReferencesHold (with_activity (closed s h.opened) job after) base
     left =
@@ -245,7 +245,7 @@ module _ (code : Code) (s : State) (job : Job) (activity : Activity) (is : activ
         (objects_close s (closed s h.opened) c)
         (jobs_of s t base held c.releases
         (returned_holds (world_of s) base v below
-        (frames_hold code s job activity is base held f below frames place).1))
+        (frames_hold code s job activity is base held f below frames position).1))
     ended (ReleaseAt n) =
         let c = one_closes s h.opened in
         release_ends s base held n (closed s h.opened) c.releases c.activity

@@ -26,7 +26,7 @@ use Rattle.reference_sound.proofs.Objects.{objects_same, objects_made, objects_c
 
 module _ (code : Code) (s : State) (job : Job) (activity : Activity) (is : activity_of s job ≡ Some activity)
     (base : List ℕ) (held : ReferencesHold s base) (f : Frame) (below : List Frame)
-    (frames : activity.frames ≡ f ∷ below) (place : Pos) where
+    (frames : activity.frames ≡ f ∷ below) (position : Pos) where
   abbrev list : List ℕ
   list = list_of base (f ∷ below)
 
@@ -37,7 +37,7 @@ module _ (code : Code) (s : State) (job : Job) (activity : Activity) (is : activ
   Asks e = EffectHolds (world_of s) (IsOnList (world_of s) list) e
 
   abbrev pub Kept : Effect → Type 0
-  Kept e = AllLead base (applied code s job activity below place e)
+  Kept e = AllLead base (applied code s job activity below position e)
 
   pub frames_hold : JobHolds (world_of s) base (f ∷ below)
   frames_hold = subst (JobHolds (world_of s) base) frames (held.jobs job activity is)
@@ -108,13 +108,13 @@ module _ (code : Code) (s : State) (job : Job) (activity : Activity) (is : activ
           (if t then Some
           (silently
           (with_frame (record s { objects = changed (with_ceiling ceiling) r s.objects }) job activity h below))
-          else Some (fault_in s job activity place NotInitializing))
+          else Some (fault_in s job activity position NotInitializing))
       go true =
           let stay = objects_changed s (with_ceiling ceiling) (λ o. refl) (λ o. refl) r in
           all_lead base _
           (framed (record s { objects = changed (with_ceiling ceiling) r s.objects }) refl refl h h same
           refl a (memory_ceiling (world_of s).areas s.objects s.statics held.memory r ceiling stay) held.order stay)
-      go false = all_lead base _ (faults_hold s base held job activity place NotInitializing)
+      go false = all_lead base _ (faults_hold s base held job activity position NotInitializing)
 
   pub makes_hold : (h : Frame) (class : ℕ) (values : List Value) → IsSame f h → Asks (Makes h class values) →
       Kept (Makes h class values)
@@ -124,11 +124,11 @@ module _ (code : Code) (s : State) (job : Job) (activity : Activity) (is : activ
       go : (t : Bool) → AllLead base
           (Some (if t then silently (with_frame (with_object s class h.area values) job activity
           (record h { operands = At (length s.objects) ∷ h.operands }) below)
-          else fault_in s job activity place MemoryFull))
+          else fault_in s job activity position MemoryFull))
       go true =
           let stay = objects_made s class h.area values in
           all_lead base _ (framed (with_object s class h.area values) refl refl h
           (record h { operands = At (length s.objects) ∷ h.operands }) same refl a.0
           (memory_made (world_of s).areas s.objects s.statics held.memory (new_object class h.area values) a.1 stay)
           held.order stay)
-      go false = all_lead base _ (faults_hold s base held job activity place MemoryFull)
+      go false = all_lead base _ (faults_hold s base held job activity position MemoryFull)

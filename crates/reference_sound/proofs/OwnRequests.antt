@@ -92,44 +92,44 @@ module _ (t : State) (base : List ℕ) (h : ReferencesHold t base) where
 
 module _ (code : Code) (s : State) (job : Job) (activity : Activity) (is : activity_of s job ≡ Some activity)
     (base : List ℕ) (held : ReferencesHold s base) (f : Frame) (below : List Frame)
-    (frames : activity.frames ≡ f ∷ below) (place : Pos) where
+    (frames : activity.frames ≡ f ∷ below) (position : Pos) where
   abbrev Asked : Effect → Type 0
-  Asked e = Asks code s job activity is base held f below frames place e
+  Asked e = Asks code s job activity is base held f below frames position e
 
   abbrev Held : Effect → Type 0
-  Held e = Kept code s job activity is base held f below frames place e
+  Held e = Kept code s job activity is base held f below frames position e
 
   pub releases_hold : (h : Frame) (r : ℕ) → IsSame f h → Asked (AsksRelease h r) → Held (AsksRelease h r)
   unfolding applied
   releases_hold h r same a =
       all_lead base _ (released_holds (with_frame s job activity h below) base
-      (plain_holds code s job activity is base held f below frames place h same a) r)
+      (plain_holds code s job activity is base held f below frames position h same a) r)
 
   pub terminations_hold : (h : Frame) (r : ℕ) → IsSame f h → Asked (AsksTermination h r) → Held (AsksTermination h r)
   unfolding applied
   terminations_hold h r same a =
       all_lead base _ (ended_holds (with_frame s job activity h below) base
-      (plain_holds code s job activity is base held f below frames place h same a) r)
+      (plain_holds code s job activity is base held f below frames position h same a) r)
 
   pub registrations_hold : (h : Frame) (r : ℕ) → IsSame f h → Asked (AsksRegistration h r) → Held (AsksRegistration h r)
   unfolding applied registered
   registrations_hold h r same a = go (object_at s r)
     where
       plain : ReferencesHold (with_frame s job activity h below) base
-      plain = plain_holds code s job activity is base held f below frames place h same a
+      plain = plain_holds code s job activity is base held f below frames position h same a
 
       one : (b u v : Bool) (rows : List HandlerRow) (events : List Event) →
-          ReferencesHold (if b then fault_in s job activity place NotInitializing
+          ReferencesHold (if b then fault_in s job activity position NotInitializing
           else (if u then silently (with_frame s job activity h below)
-          else (if v then fault_in s job activity place TooManyHandlers
+          else (if v then fault_in s job activity position TooManyHandlers
           else telling (record (with_frame s job activity h below) { registry = rows }) events))).state base
-      one true u v rows events = faults_hold s base held job activity place NotInitializing
+      one true u v rows events = faults_hold s base held job activity position NotInitializing
       one false true v rows events = plain
-      one false false true rows events = faults_hold s base held job activity place TooManyHandlers
+      one false false true rows events = faults_hold s base held job activity position TooManyHandlers
       one false false false rows events = row_holds (with_frame s job activity h below) base plain rows
 
       go : (o : Option Object) → AllLead base
-          (option_map (λ (o : Object). registered code s job activity place r o (with_frame s job activity h below)) o)
+          (option_map (λ (o : Object). registered code s job activity position r o (with_frame s job activity h below)) o)
       go None = record { gives = λ step e. absurd (cc (e)) }
       go (Some o) =
           all_lead base _

@@ -45,9 +45,9 @@ use Rattle.reference_sound.proofs.Objects.{objects_opened}
 -- ---- START
 
 module _ (code : Code) (s : State) (base : List ℕ) (held : ReferencesHold s base) (inside : InnermostIsThere s)
-    (place : ℕ) where
+    (index : ℕ) where
   begun_holds : (row : HandlerRow) (scope : ℕ) (body : Body) →
-      ReferencesHold (started_with code s place row scope body).state base
+      ReferencesHold (started_with code s index row scope body).state base
   unfolding started_with opening
   begun_holds row scope body = go (has_store_for s row.bytes)
     where
@@ -63,10 +63,10 @@ module _ (code : Code) (s : State) (base : List ℕ) (held : ReferencesHold s ba
 
       go : (b : Bool) → ReferencesHold (if b
           then silently
-          (with_activity (with_area s scope (innermost s.activity.areas) row.bytes) (ReleaseAt place) begun)
-          else fault_in s (ReleaseAt place) no_activity (class_place code.program row.class) StoreFull).state base
+          (with_activity (with_area s scope (innermost s.activity.areas) row.bytes) (ReleaseAt index) begun)
+          else fault_in s (ReleaseAt index) no_activity (class_place code.program row.class) StoreFull).state base
       go true =
-          goes_on s base held (ReleaseAt place) (with_area s scope (innermost s.activity.areas) row.bytes) refl refl
+          goes_on s base held (ReleaseAt index) (with_area s scope (innermost s.activity.areas) row.bytes) refl refl
           begun
           (memory_opens s scope (innermost s.activity.areas) row.bytes held.memory)
           (order_opens s scope (innermost s.activity.areas) row.bytes inside held.order)
@@ -76,9 +76,9 @@ module _ (code : Code) (s : State) (base : List ℕ) (held : ReferencesHold s ba
           (length s.areas)
           (record (new_frame code body None (Some row.at) (length s.areas) []) { opened = Some (length s.areas) }) refl)
       go false =
-          faults_hold s base held (ReleaseAt place) no_activity (class_place code.program row.class) StoreFull
+          faults_hold s base held (ReleaseAt index) no_activity (class_place code.program row.class) StoreFull
 
-  pub start_keeps : (r : Release) → AllLead base (start_op code s place r)
+  pub start_keeps : (r : Release) → AllLead base (start_op code s index r)
   unfolding start_op
   start_keeps r =
       any_leads base (handler_row s.registry r.handler) _ (λ row.
@@ -177,9 +177,9 @@ module _ (code : Code) (base : List ℕ) where
       go None events = held
       go (Some handler) events = taken_holds s base held handler
 
-  at_keeps : (fires : List Fire) (s : State) (place : ℕ) → ReferencesHold s base →
-      ReferencesHold (fired_at code fires s place).state base
-  at_keeps fires s place held = go (slice_get fires place)
+  at_keeps : (fires : List Fire) (s : State) (index : ℕ) → ReferencesHold s base →
+      ReferencesHold (fired_at code fires s index).state base
+  at_keeps fires s index held = go (slice_get fires index)
     where
       go : (o : Option Fire) →
           ReferencesHold (elim o as (λ z. Step) [ None ↦ silently s | Some fire ↦ fired code s fire ]).state base
@@ -190,7 +190,7 @@ module _ (code : Code) (base : List ℕ) where
       ReferencesHold (arrivals code plan s).state base
   unfolding arrivals
   arrivals_keep plan s held =
-      each_keeps base (fired_at code plan.fires) (λ t place h. at_keeps plan.fires t place h)
+      each_keeps base (fired_at code plan.fires) (λ t index h. at_keeps plan.fires t index h)
       (fires_due (executes_since s) s.unit plan.fires) (for_each release_taken (due_handlers s) s).state
       (each_keeps base release_taken (λ t handler h. taken_holds t base h handler) (due_handlers s) s held)
 
@@ -236,4 +236,4 @@ first_state_holds code plan base =
     jobs TheSequencer a e =
         subst (λ (x : Activity). JobHolds (world_of (empty_state code plan)) base x.frames)
         (some_inj no_activity a e) tt
-    jobs (ReleaseAt place) a e = absurd (cc (e))
+    jobs (ReleaseAt index) a e = absurd (cc (e))

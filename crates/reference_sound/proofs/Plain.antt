@@ -35,10 +35,10 @@ module _ (Q : ℕ → Type 0) where
 
   literal_plain : (n : Node) (v : Value) → literal_value n ≡ Some v → IfReference Q v
   unfolding literal_value
-  literal_plain (Number place value negative) v e = subst P (some_inj _ v e) tt
-  literal_plain (True place) v e = subst P (some_inj _ v e) tt
-  literal_plain (False place) v e = subst P (some_inj _ v e) tt
-  literal_plain (NullNode place) v e = subst P (some_inj _ v e) tt
+  literal_plain (Number position value negative) v e = subst P (some_inj _ v e) tt
+  literal_plain (True position) v e = subst P (some_inj _ v e) tt
+  literal_plain (False position) v e = subst P (some_inj _ v e) tt
+  literal_plain (NullNode position) v e = subst P (some_inj _ v e) tt
   literal_plain _ v e = absurd (cc (e))
 
   pub node_plain : (o : Option Node) (v : Value) → o >>= literal_value ≡ Some v → IfReference Q v

@@ -28,9 +28,9 @@ use Rattle.reference_sound.proofs.Objects.{objects_opened, objects_made}
 
 module _ (code : Code) (s : State) (base : List ℕ) (held : ReferencesHold s base) where
   module _ (inside : InnermostIsThere s) where
-    opened_holds : (place : Pos) (scope bytes : ℕ) → ReferencesHold (area_opened s place scope bytes).state base
+    opened_holds : (position : Pos) (scope bytes : ℕ) → ReferencesHold (area_opened s position scope bytes).state base
     unfolding area_opened opening
-    opened_holds place scope bytes = go (has_store_for s bytes)
+    opened_holds position scope bytes = go (has_store_for s bytes)
       where
         t : State
         t = with_area s scope (innermost s.activity.areas) bytes
@@ -40,7 +40,7 @@ module _ (code : Code) (s : State) (base : List ℕ) (held : ReferencesHold s ba
             (done
             (record (with_area s scope (innermost s.activity.areas) bytes)
             { activity = record s.activity { areas = length s.areas ∷ s.activity.areas } }) Null)
-            else fault_in s TheSequencer s.activity place StoreFull).state base
+            else fault_in s TheSequencer s.activity position StoreFull).state base
         go true =
             held_after s
             (done
@@ -55,15 +55,15 @@ module _ (code : Code) (s : State) (base : List ℕ) (held : ReferencesHold s ba
             (record (with_area s scope (innermost s.activity.areas) bytes)
             { activity = record s.activity { areas = length s.areas ∷ s.activity.areas } }) Null)
             base held refl (sequencer_holds s s base held))
-        go false = faults_hold s base held TheSequencer s.activity place StoreFull
+        go false = faults_hold s base held TheSequencer s.activity position StoreFull
 
-    made_holds : (place : Pos) (class area : ℕ) → ReferencesHold (safelet_made code s place class area).state base
+    made_holds : (position : Pos) (class area : ℕ) → ReferencesHold (safelet_made code s position class area).state base
     unfolding safelet_made allocating
-    made_holds place class area = go (has_room s area (length (new_slots code.program class)))
+    made_holds position class area = go (has_room s area (length (new_slots code.program class)))
       where
         go : (b : Bool) → ReferencesHold (if b
             then silently (done (with_object s class area (new_slots code.program class)) (At (length s.objects)))
-            else fault_in s TheSequencer s.activity place MemoryFull).state base
+            else fault_in s TheSequencer s.activity position MemoryFull).state base
         go true =
             let stay = objects_made s class area (new_slots code.program class) in
             held_after s (done (with_object s class area (new_slots code.program class)) (At (length s.objects))) base
@@ -74,7 +74,7 @@ module _ (code : Code) (s : State) (base : List ℕ) (held : ReferencesHold s ba
             (jobs_of s (done (with_object s class area (new_slots code.program class)) (At (length s.objects))) base
             held refl
             (sequencer_holds s s base held))
-        go false = faults_hold s base held TheSequencer s.activity place MemoryFull
+        go false = faults_hold s base held TheSequencer s.activity position MemoryFull
 
     called_holds : (r : ℕ) (body : Body) → AllLead base (body_called code s r body)
     unfolding body_called

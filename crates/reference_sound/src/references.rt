@@ -34,7 +34,7 @@ pub fn operations_keep_references()
         ReferencesHold s base → (step : Step) → frame_op code rows s job activity ≡ Some step →
         ReferencesHold step.state base }
     ensures starts { (code : Code) (s : State) (base : List ℕ) → ReferencesHold s base → InnermostIsThere s →
-        (place : ℕ) (release : Release) (step : Step) → start_op code s place release ≡ Some step →
+        (index : ℕ) (release : Release) (step : Step) → start_op code s index release ≡ Some step →
         ReferencesHold step.state base }
     ensures sequencer { (code : Code) (s : State) (base : List ℕ) → ReferencesHold s base → InnermostIsThere s →
         (op : SeqOp) (step : Step) → sequencer_op code s op ≡ Some step → ReferencesHold step.state base }

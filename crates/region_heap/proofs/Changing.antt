@@ -12,17 +12,17 @@ use Rattle.region_heap.proofs.Laying.{word_beside, word_here, within_more, withi
 use Rattle.region_heap.proofs.Slots.{object_count}
 
 -- words that are the same tell the same
-pub same_slots : (ws us : Words) (place count : ℕ) →
-    ((j : ℕ) → place ≤ j → j < place + count → word us j ≡ word ws j) → slots_at us place count ≡ slots_at ws place
+pub same_slots : (ws us : Words) (index count : ℕ) →
+    ((j : ℕ) → index ≤ j → j < index + count → word us j ≡ word ws j) → slots_at us index count ≡ slots_at ws index
     count
 unfolding slots_at
-same_slots ws us place zero h = refl
-same_slots ws us place (suc count) h =
-    let here : word us place ≡ word ws place = h place (omega arith) (omega arith) in
-    let rest : slots_at us (place + 1) count ≡ slots_at ws (place + 1) count =
-    same_slots ws us (place + 1) count (λ j low high. h j (omega (arith, low)) (omega (arith, high))) in
-    ap (λ (n : ℕ). value_in n ∷ slots_at us (place + 1) count) here
-    ∙ ap (λ (xs : List Value). value_in (word ws place) ∷ xs) rest
+same_slots ws us index zero h = refl
+same_slots ws us index (suc count) h =
+    let here : word us index ≡ word ws index = h index (omega arith) (omega arith) in
+    let rest : slots_at us (index + 1) count ≡ slots_at ws (index + 1) count =
+    same_slots ws us (index + 1) count (λ j low high. h j (omega (arith, low)) (omega (arith, high))) in
+    ap (λ (n : ℕ). value_in n ∷ slots_at us (index + 1) count) here
+    ∙ ap (λ (xs : List Value). value_in (word ws index) ∷ xs) rest
 
 pub same_object : (ws us : Words) (first : ℕ) →
     ((j : ℕ) → first ≤ j → j < first + 2 + count_in (word ws (first + 1)) → word us j ≡ word ws j) →
@@ -73,30 +73,30 @@ lies_changed ws us first o change l same c =
 
 -- ---- a slot
 
-pub set_slots : (ws : Words) (place count k w : ℕ) → k < count → place + k < length ws →
-    slots_at (slice_set ws (place + k) (Some w)) place count ≡ slice_set (slots_at ws place count) k (value_in w)
+pub set_slots : (ws : Words) (index count k w : ℕ) → k < count → index + k < length ws →
+    slots_at (slice_set ws (index + k) (Some w)) index count ≡ slice_set (slots_at ws index count) k (value_in w)
 unfolding slots_at
-set_slots ws place zero k w h lt = absurd (omega (arith, h))
-set_slots ws place (suc count) zero w h lt =
-    let here : word (slice_set ws (place + 0) (Some w)) (place + 0) ≡ w = word_here ws (place + 0) w lt in
-    let at : place + 0 ≡ place = omega arith in
-    let first : word (slice_set ws (place + 0) (Some w)) place ≡ w =
-    ap (word (slice_set ws (place + 0) (Some w))) (sym at) ∙ here in
-    let rest : slots_at (slice_set ws (place + 0) (Some w)) (place + 1) count ≡ slots_at ws (place + 1) count =
-    same_slots ws (slice_set ws (place + 0) (Some w)) (place + 1) count
-    (λ j low high. word_beside ws (place + 0) w lt j (λ e. omega (arith, e, low))) in
-    ap (λ (n : ℕ). value_in n ∷ slots_at (slice_set ws (place + 0) (Some w)) (place + 1) count) first
+set_slots ws index zero k w h lt = absurd (omega (arith, h))
+set_slots ws index (suc count) zero w h lt =
+    let here : word (slice_set ws (index + 0) (Some w)) (index + 0) ≡ w = word_here ws (index + 0) w lt in
+    let at : index + 0 ≡ index = omega arith in
+    let first : word (slice_set ws (index + 0) (Some w)) index ≡ w =
+    ap (word (slice_set ws (index + 0) (Some w))) (sym at) ∙ here in
+    let rest : slots_at (slice_set ws (index + 0) (Some w)) (index + 1) count ≡ slots_at ws (index + 1) count =
+    same_slots ws (slice_set ws (index + 0) (Some w)) (index + 1) count
+    (λ j low high. word_beside ws (index + 0) w lt j (λ e. omega (arith, e, low))) in
+    ap (λ (n : ℕ). value_in n ∷ slots_at (slice_set ws (index + 0) (Some w)) (index + 1) count) first
     ∙ ap (λ (xs : List Value). value_in w ∷ xs) rest
-set_slots ws place (suc count) (suc k) w h lt =
-    let at : place + suc k ≡ place + 1 + k = omega arith in
-    let beside : word (slice_set ws (place + suc k) (Some w)) place ≡ word ws place =
-    word_beside ws (place + suc k) w lt place (λ e. omega (arith, e)) in
-    let rest : slots_at (slice_set ws (place + suc k) (Some w)) (place + 1) count
-    ≡ slice_set (slots_at ws (place + 1) count) k (value_in w) =
-    ap (λ (n : ℕ). slots_at (slice_set ws n (Some w)) (place + 1) count) at
-    ∙ set_slots ws (place + 1) count k w (omega (arith, h)) (omega (arith, lt)) in
-    ap (λ (n : ℕ). value_in n ∷ slots_at (slice_set ws (place + suc k) (Some w)) (place + 1) count) beside
-    ∙ ap (λ (xs : List Value). value_in (word ws place) ∷ xs) rest
+set_slots ws index (suc count) (suc k) w h lt =
+    let at : index + suc k ≡ index + 1 + k = omega arith in
+    let beside : word (slice_set ws (index + suc k) (Some w)) index ≡ word ws index =
+    word_beside ws (index + suc k) w lt index (λ e. omega (arith, e)) in
+    let rest : slots_at (slice_set ws (index + suc k) (Some w)) (index + 1) count
+    ≡ slice_set (slots_at ws (index + 1) count) k (value_in w) =
+    ap (λ (n : ℕ). slots_at (slice_set ws n (Some w)) (index + 1) count) at
+    ∙ set_slots ws (index + 1) count k w (omega (arith, h)) (omega (arith, lt)) in
+    ap (λ (n : ℕ). value_in n ∷ slots_at (slice_set ws (index + suc k) (Some w)) (index + 1) count) beside
+    ∙ ap (λ (xs : List Value). value_in (word ws index) ∷ xs) rest
 
 module _ (ws : Words) (first k w : ℕ) (within : first + 2 + count_in (word ws (first + 1)) ≤ length ws)
     (lt : k < count_in (word ws (first + 1))) where

@@ -102,20 +102,20 @@ pub after_ceiling : (m : Past) (r ceiling : ℕ) →
 unfolding after
 after_ceiling m r ceiling = refl
 
-pub after_static : (m : Past) (place : ℕ) (value : Bor Value) →
-    after m (SetStatic place value) ≡ record m { contents = setting_static m.contents place value.now }
+pub after_static : (m : Past) (index : ℕ) (value : Bor Value) →
+    after m (SetStatic index value) ≡ record m { contents = setting_static m.contents index value.now }
 unfolding after
-after_static m place value = refl
+after_static m index value = refl
 
 pub counted_nothing : (store : ℕ) (statics : List Value) (ws : Words) → store ≤ 67108864 → length ws ≡ store / 8 →
     IsCounted store 0 0 statics ws (record { store = store; areas = []; objects = []; statics = statics })
 counted_nothing store statics ws most long =
     record { store = refl; most = most; words = long; areas = refl; objects = refl; statics = refl }
 
-pub static_kept : (ws : Words) (areas : List AreaRow) (objects : List ObjectRow) (m : Past) (place : ℕ)
+pub static_kept : (ws : Words) (areas : List AreaRow) (objects : List ObjectRow) (m : Past) (index : ℕ)
     (value : Value) →
-    IsKept ws areas objects m → IsKept ws areas objects (record m { contents = setting_static m.contents place value })
-static_kept ws areas objects m place value kept =
+    IsKept ws areas objects m → IsKept ws areas objects (record m { contents = setting_static m.contents index value })
+static_kept ws areas objects m index value kept =
     record {
       firsts = kept.firsts;
       laid = λ p o l. kept.laid p o (record { found = l.found; is_open = l.is_open });
@@ -145,15 +145,15 @@ static_kept ws areas objects m place value kept =
       live = kept.live;
     }
 
-pub counted_static : (bytes area_count object_count : ℕ) (values : List Value) (ws : Words) (m : Contents) (place : ℕ)
+pub counted_static : (bytes area_count object_count : ℕ) (values : List Value) (ws : Words) (m : Contents) (index : ℕ)
     (value : Value) → IsCounted bytes area_count object_count values ws m →
-    IsCounted bytes area_count object_count (slice_set values place value) ws (setting_static m place value)
-counted_static bytes area_count object_count values ws m place value c =
+    IsCounted bytes area_count object_count (slice_set values index value) ws (setting_static m index value)
+counted_static bytes area_count object_count values ws m index value c =
     record {
       store = c.store;
       most = c.most;
       words = c.words;
       areas = c.areas;
       objects = c.objects;
-      statics = ap (λ (xs : List Value). slice_set xs place value) c.statics;
+      statics = ap (λ (xs : List Value). slice_set xs index value) c.statics;
     }

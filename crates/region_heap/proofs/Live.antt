@@ -58,11 +58,11 @@ module _ (ws : Words) (areas : List AreaRow) (objects : List ObjectRow) (m : Pas
         let r : OfRow test 0 m.contents.objects m.firsts x =
         row_is test 0 m.contents.objects m.firsts i x (ap (λ (xs : List ObjectRow). slice_get xs i) (sym kept.listed) ∙
         e) in
-        let at : r.place ≡ x.number = omega (arith, r.number) in (
+        let at : r.index ≡ x.number = omega (arith, r.number) in (
           r.object,
           subst (λ (p : ℕ). IsLive m.contents p r.object) at (record { found = r.found; is_open = r.passes }),
           subst (λ (p : ℕ). slice_index m.firsts p ≡ x.first) at
-              (get_or_from_slice_get m.firsts r.place x.first 0 r.first_is),
+              (get_or_from_slice_get m.firsts r.index x.first 0 r.first_is),
         )
 
     -- a live object has a row
@@ -71,7 +71,7 @@ module _ (ws : Words) (areas : List AreaRow) (objects : List ObjectRow) (m : Pas
         let row : RowOf test 0 m.contents.objects m.firsts r =
         row_of_object test 0 m.contents.objects m.firsts r o kept.firsts l.found l.is_open in
         record {
-          place = row.i;
+          index = row.i;
           row = row.row;
           is = ap (λ (xs : List ObjectRow). slice_get xs row.i) kept.listed ∙ row.is;
           number = omega (arith, row.number);
@@ -83,7 +83,7 @@ module _ (ws : Words) (areas : List AreaRow) (objects : List ObjectRow) (m : Pas
         (o : Object) × IsLive m.contents r o × (slice_index m.firsts r ≡ first)
     found_live r first h =
         let x : (o : Object) × IsLive m.contents h.row.number o × (slice_index m.firsts h.row.number ≡ h.row.first) =
-        row_live h.place h.row h.is in (
+        row_live h.index h.row h.is in (
           x.0,
           subst (λ (p : ℕ). IsLive m.contents p x.0) h.number x.1,
           subst (λ (p : ℕ). slice_index m.firsts p ≡ h.row.first) h.number x.2 ∙ h.first_is,
@@ -98,7 +98,7 @@ module _ (ws : Words) (areas : List AreaRow) (objects : List ObjectRow) (m : Pas
     pub unfound : (r : ℕ) → IsNotListed objects r → (o : Object) → IsLive m.contents r o → ⊥
     unfound r none o l =
         let h : IsListed objects r (slice_index m.firsts r) = live_listed r o l in
-        none h.place h.row h.is h.number
+        none h.index h.row h.is h.number
 
     pub unfound_is : (r : ℕ) → IsNotListed objects r → None ≡ live_object m.contents r
     unfound_is r none = sym (not_live m.contents r (unfound r none))
@@ -111,4 +111,4 @@ module _ (ws : Words) (areas : List AreaRow) (objects : List ObjectRow) (m : Pas
         object_lies ws x.first r.0 (subst (λ (p : ℕ). LiesAt ws p r.0) r.2 (kept.laid x.number r.0 r.1)) most
 
     pub object_at_first : (r first : ℕ) → IsListed objects r first → length ws ≤ 8388608 → IsObject ws first
-    object_at_first r first h most = subst (λ (p : ℕ). IsObject ws p) h.first_is (are_objects most h.place h.row h.is)
+    object_at_first r first h most = subst (λ (p : ℕ). IsObject ws p) h.first_is (are_objects most h.index h.row h.is)

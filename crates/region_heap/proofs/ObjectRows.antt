@@ -31,18 +31,18 @@ module _ (test : ℕ → Bool) where
   -- ---- what a row is
 
   pub record OfRow (n : ℕ) (os : List Object) (fs : List ℕ) (x : ObjectRow) : Type 0 where
-    pub place : ℕ
+    pub index : ℕ
     pub object : Object
-    pub number : x.number ≡ n + place
-    pub found : slice_get os place ≡ Some object
+    pub number : x.number ≡ n + index
+    pub found : slice_get os index ≡ Some object
     pub passes : test object.area ≡ true
-    pub first_is : slice_get fs place ≡ Some x.first
+    pub first_is : slice_get fs index ≡ Some x.first
 
   deeper : (n : ℕ) (o : Object) (os : List Object) (f : ℕ) (fs : List ℕ) (x : ObjectRow) → OfRow (n + 1) os fs x →
       OfRow n (o ∷ os) (f ∷ fs) x
   deeper n o os f fs x r =
       record {
-        place = suc r.place;
+        index = suc r.index;
         object = r.object;
         number = omega (arith, r.number);
         found = r.found;
@@ -63,7 +63,7 @@ module _ (test : ℕ → Bool) where
           let same : row ≡ x = cc in
           let number : n ≡ x.number = ap (λ (y : ObjectRow). y.number) same in
           record {
-            place = 0;
+            index = 0;
             object = o;
             number = omega (arith, number);
             found = refl;

@@ -4,45 +4,45 @@ use Rattle.std.proofs.Common.{◌≡◌, ◌∙◌, ℕ, zero, suc, ◌+◌, ◌
 use Rattle.scj_base.specs.declared.values.Value.{Value}
 use Rattle.region_heap.specs.Words.{Words, count_in, number_or_zero, object_in, slots_at, value_in, word}
 
-pub count_slots : (ws : Words) (place count : ℕ) → length (slots_at ws place count) ≡ count
+pub count_slots : (ws : Words) (index count : ℕ) → length (slots_at ws index count) ≡ count
 unfolding slots_at
-count_slots ws place zero = refl
-count_slots ws place (suc count) = ap suc (count_slots ws (place + 1) count)
+count_slots ws index zero = refl
+count_slots ws index (suc count) = ap suc (count_slots ws (index + 1) count)
 
-pub slot_within : (ws : Words) (place count slot : ℕ) → slot < count →
-    slice_get (slots_at ws place count) slot ≡ Some (value_in (word ws (place + slot)))
+pub slot_within : (ws : Words) (index count slot : ℕ) → slot < count →
+    slice_get (slots_at ws index count) slot ≡ Some (value_in (word ws (index + slot)))
 unfolding slots_at
-slot_within ws place zero slot h = absurd (omega (arith, h))
-slot_within ws place (suc count) zero h =
-    let e : place ≡ place + 0 = omega arith in
+slot_within ws index zero slot h = absurd (omega (arith, h))
+slot_within ws index (suc count) zero h =
+    let e : index ≡ index + 0 = omega arith in
     ap (λ (n : ℕ). Some (value_in (word ws n))) e
-slot_within ws place (suc count) (suc slot) h =
-    let e : place + 1 + slot ≡ place + suc slot = omega arith in
-    slot_within ws (place + 1) count slot (omega (arith, h)) ∙ ap (λ (n : ℕ). Some (value_in (word ws n))) e
+slot_within ws index (suc count) (suc slot) h =
+    let e : index + 1 + slot ≡ index + suc slot = omega arith in
+    slot_within ws (index + 1) count slot (omega (arith, h)) ∙ ap (λ (n : ℕ). Some (value_in (word ws n))) e
 
-pub slot_behind : (ws : Words) (place count slot : ℕ) → count ≤ slot →
-    slice_get (slots_at ws place count) slot ≡ None
+pub slot_behind : (ws : Words) (index count slot : ℕ) → count ≤ slot →
+    slice_get (slots_at ws index count) slot ≡ None
 unfolding slots_at
-slot_behind ws place zero slot h = refl
-slot_behind ws place (suc count) zero h = absurd (omega (arith, h))
-slot_behind ws place (suc count) (suc slot) h = slot_behind ws (place + 1) count slot (omega (arith, h))
+slot_behind ws index zero slot h = refl
+slot_behind ws index (suc count) zero h = absurd (omega (arith, h))
+slot_behind ws index (suc count) (suc slot) h = slot_behind ws (index + 1) count slot (omega (arith, h))
 
 -- slots that are read one by one are the values
-pub slots_are : (ws : Words) (place : ℕ) (values : List Value) →
-    ((i : ℕ) → i < length values → slice_get values i ≡ Some (value_in (word ws (place + i)))) →
-    slots_at ws place (length values) ≡ values
+pub slots_are : (ws : Words) (index : ℕ) (values : List Value) →
+    ((i : ℕ) → i < length values → slice_get values i ≡ Some (value_in (word ws (index + i)))) →
+    slots_at ws index (length values) ≡ values
 unfolding slots_at
-slots_are ws place [] h = refl
-slots_are ws place (v ∷ vs) h =
-    let e : place + 0 ≡ place = omega arith in
-    let first : Some v ≡ Some (value_in (word ws place)) =
+slots_are ws index [] h = refl
+slots_are ws index (v ∷ vs) h =
+    let e : index + 0 ≡ index = omega arith in
+    let first : Some v ≡ Some (value_in (word ws index)) =
     h 0 (omega arith) ∙ ap (λ (n : ℕ). Some (value_in (word ws n))) e in
-    let v_is : value_in (word ws place) ≡ v = cc in
-    let rest : slots_at ws (place + 1) (length vs) ≡ vs =
-    slots_are ws (place + 1) vs (λ i lt.
-    let s : place + suc i ≡ place + 1 + i = omega arith in
+    let v_is : value_in (word ws index) ≡ v = cc in
+    let rest : slots_at ws (index + 1) (length vs) ≡ vs =
+    slots_are ws (index + 1) vs (λ i lt.
+    let s : index + suc i ≡ index + 1 + i = omega arith in
     h (suc i) (omega (arith, lt)) ∙ ap (λ (n : ℕ). Some (value_in (word ws n))) s) in
-    ap (λ (x : Value). x ∷ slots_at ws (place + 1) (length vs)) v_is ∙ ap (λ (xs : List Value). v ∷ xs) rest
+    ap (λ (x : Value). x ∷ slots_at ws (index + 1) (length vs)) v_is ∙ ap (λ (xs : List Value). v ∷ xs) rest
 
 -- ---- a slot of the object at a word
 

@@ -46,7 +46,7 @@ abbrev pub changing_object : Contents → ℕ → (Object → Object) → Conten
 changing_object m r change = record m { objects = changed change r m.objects }
 
 abbrev pub setting_static : Contents → ℕ → Value → Contents
-setting_static m place value = record m { statics = slice_set m.statics place value }
+setting_static m index value = record m { statics = slice_set m.statics index value }
 
 -- ---- what the code keeps: the objects of open areas
 

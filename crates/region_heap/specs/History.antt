@@ -32,4 +32,4 @@ after m (SetHidden r hidden) = record m {
       (hidden_slots hidden.now));
 }
 after m (SetCeiling r ceiling) = record m { contents = changing_object m.contents r (with_ceiling ceiling) }
-after m (SetStatic place value) = record m { contents = setting_static m.contents place value.now }
+after m (SetStatic index value) = record m { contents = setting_static m.contents index value.now }

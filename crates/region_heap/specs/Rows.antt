@@ -40,9 +40,9 @@ AreInOrder rows = (i j : ℕ) (x y : ObjectRow) → i < j → slice_get rows i �
 
 -- the object of a reference has this first word
 pub record IsListed (rows : List ObjectRow) (r first : ℕ) : Type 0 where
-  pub place : ℕ
+  pub index : ℕ
   pub row : ObjectRow
-  pub is : slice_get rows place ≡ Some row
+  pub is : slice_get rows index ≡ Some row
   pub number : row.number ≡ r
   pub first_is : row.first ≡ first
 

@@ -17,7 +17,7 @@ number_or_zero (Some n) = n
 
 -- the word at a place, if it is written
 abbrev pub word : Words → ℕ → ℕ
-word ws place = number_or_zero (get_or ws place None)
+word ws index = number_or_zero (get_or ws index None)
 
 -- ---- a slot
 
@@ -57,8 +57,8 @@ ceiling_in w = w / 2 ^ 32 % 256
 
 -- the values of so many slots from a word on
 unfoldable pub slots_at : Words → ℕ → ℕ → List Value
-slots_at ws place zero = []
-slots_at ws place (suc count) = value_in (word ws place) ∷ slots_at ws (place + 1) count
+slots_at ws index zero = []
+slots_at ws index (suc count) = value_in (word ws index) ∷ slots_at ws (index + 1) count
 
 -- the object whose first word it is
 unfoldable pub object_in : Words → ℕ → Object

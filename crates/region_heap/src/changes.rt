@@ -53,7 +53,7 @@ pub enum Change<'a> {
     },
     /// A static field is set.
     SetStatic {
-        place: usize,
+        index: usize,
         value: &'a Value,
     },
 }

@@ -24,10 +24,10 @@ pub(crate) fn row_of(areas: &[AreaRow], area: AreaId) -> Option<usize>
 }
 
 /// The row at a place, if there is one.
-pub(crate) fn row_at(areas: &[AreaRow], place: usize) -> Option<AreaRow>
-    ensures { result ≡ slice_get areas.now place }
+pub(crate) fn row_at(areas: &[AreaRow], index: usize) -> Option<AreaRow>
+    ensures { result ≡ slice_get areas.now index }
 {
-    match areas.get(place) {
+    match areas.get(index) {
         Some(row) => Some(*row),
         None => None,
     }

@@ -88,10 +88,10 @@ impl RegionHeap {
     }
 
     /// The static field at a place, if there is one.
-    pub fn static_field(&self, place: usize) -> Option<Value>
-        ensures { result ≡ slice_get self.now.statics place }
+    pub fn static_field(&self, index: usize) -> Option<Value>
+        ensures { result ≡ slice_get self.now.statics index }
     {
-        value_at(&self.statics, place)
+        value_at(&self.statics, index)
     }
 
     /// Sets a slot of an object. What isn't there stays away.
@@ -117,12 +117,12 @@ impl RegionHeap {
     }
 
     /// Sets the static field at a place, if there is one.
-    pub fn set_static(&mut self, place: usize, value: Value)
-        ensures { self.new ≡ setting_static self.old place value }
+    pub fn set_static(&mut self, index: usize, value: Value)
+        ensures { self.new ≡ setting_static self.old index value }
     {
-        set_value(&mut self.statics, place, value);
+        set_value(&mut self.statics, index, value);
         let change = Change::SetStatic {
-            place,
+            index,
             value: &value,
         };
         self.history = self.history.then(&change);

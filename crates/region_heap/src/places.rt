@@ -5,20 +5,20 @@ ghost use Rattle.std.specs.Prelude.{◌≡◌, slice_get, slice_set};
 use scj_base::Value;
 
 /// The value at a place, if there is one.
-pub(crate) fn value_at(values: &[Value], place: usize) -> Option<Value>
-    ensures { result ≡ slice_get values.now place }
+pub(crate) fn value_at(values: &[Value], index: usize) -> Option<Value>
+    ensures { result ≡ slice_get values.now index }
 {
-    match values.get(place) {
+    match values.get(index) {
         Some(value) => Some(*value),
         None => None,
     }
 }
 
 /// Sets the value at a place.
-pub(crate) fn set_value(values: &mut Vec<Value>, place: usize, value: Value)
-    ensures { values.new.items ≡ slice_set values.old.items place value }
+pub(crate) fn set_value(values: &mut Vec<Value>, index: usize, value: Value)
+    ensures { values.new.items ≡ slice_set values.old.items index value }
 {
-    if place < values.len() {
-        values[place] = value;
+    if index < values.len() {
+        values[index] = value;
     }
 }

@@ -275,35 +275,35 @@ acts_option : {A : Type 0} (n : ℕ) (s : State) (o : Option A) (x : Step) (f : 
 acts_option n s None x f h k = h
 acts_option n s (Some a) x f h k = k a
 
-acts_fault : (s : State) (n : ℕ) (activity : Activity) (place : Pos) (fault : RunFault) → Acts n s (fault_in s (ReleaseAt n) activity place fault)
+acts_fault : (s : State) (n : ℕ) (activity : Activity) (position : Pos) (fault : RunFault) → Acts n s (fault_in s (ReleaseAt n) activity position fault)
 unfolding fault_in
-acts_fault s n activity place fault = gets n s (closed_all s activity.frames) Ended (beside_closed_all s activity.frames)
+acts_fault s n activity position fault = gets n s (closed_all s activity.frames) Ended (beside_closed_all s activity.frames)
 
-acts_called : (code : Code) (s : State) (n : ℕ) (activity : Activity) (frames : List Frame) (place : Pos) (g : Frame) → Acts n s (called code s (ReleaseAt n) activity frames place g)
+acts_called : (code : Code) (s : State) (n : ℕ) (activity : Activity) (frames : List Frame) (position : Pos) (g : Frame) → Acts n s (called code s (ReleaseAt n) activity frames position g)
 unfolding called with_activity
-acts_called code s n activity frames place g =
-    acts_if n s (is_full frames) _ _ (acts_fault s n activity place _)
+acts_called code s n activity frames position g =
+    acts_if n s (is_full frames) _ _ (acts_fault s n activity position _)
     (acts_option n s (ceiling_entered code s g) _ _ (gets n s s _ (beside_same s))
-    (λ ceiling. acts_if n s (nat_lt ceiling activity.priority) _ _ (acts_fault s n activity place _) (gets n s s _ (beside_same s))))
+    (λ ceiling. acts_if n s (nat_lt ceiling activity.priority) _ _ (acts_fault s n activity position _) (gets n s s _ (beside_same s))))
 
-acts_opening : (s : State) (n : ℕ) (activity : Activity) (place : Pos) (scope : ℕ) (parent : Option ℕ) (bytes : ℕ) (next : State → ℕ → Step) → ((t : State) (a : ℕ) → IsBeside s t → Acts n s (next t a)) → Acts n s (opening s (ReleaseAt n) activity place scope parent bytes next)
+acts_opening : (s : State) (n : ℕ) (activity : Activity) (position : Pos) (scope : ℕ) (parent : Option ℕ) (bytes : ℕ) (next : State → ℕ → Step) → ((t : State) (a : ℕ) → IsBeside s t → Acts n s (next t a)) → Acts n s (opening s (ReleaseAt n) activity position scope parent bytes next)
 unfolding opening
-acts_opening s n activity place scope parent bytes next h =
+acts_opening s n activity position scope parent bytes next h =
     acts_if n s (has_store_for s bytes) _ _ (h (with_area s scope parent bytes) (length s.areas) (record { releases = refl; earlier = refl }))
-    (acts_fault s n activity place _)
+    (acts_fault s n activity position _)
 
-acts_allocating : (s : State) (n : ℕ) (activity : Activity) (place : Pos) (class area : ℕ) (slots : List Value) (next : State → ℕ → Step) → ((t : State) (r : ℕ) → IsBeside s t → Acts n s (next t r)) → Acts n s (allocating s (ReleaseAt n) activity place class area slots next)
+acts_allocating : (s : State) (n : ℕ) (activity : Activity) (position : Pos) (class area : ℕ) (slots : List Value) (next : State → ℕ → Step) → ((t : State) (r : ℕ) → IsBeside s t → Acts n s (next t r)) → Acts n s (allocating s (ReleaseAt n) activity position class area slots next)
 unfolding allocating
-acts_allocating s n activity place class area slots next h =
+acts_allocating s n activity position class area slots next h =
     acts_if n s (has_room s area (length slots)) _ _ (h (with_object s class area slots) (length s.objects) (record { releases = refl; earlier = refl }))
-    (acts_fault s n activity place _)
+    (acts_fault s n activity position _)
 
-acts_opened : (s : State) (n : ℕ) (activity : Activity) (frames : List Frame) (place : Pos) (g : Frame) (scope bytes : ℕ) → Acts n s (opened_in s (ReleaseAt n) activity frames place g scope bytes)
+acts_opened : (s : State) (n : ℕ) (activity : Activity) (frames : List Frame) (position : Pos) (g : Frame) (scope bytes : ℕ) → Acts n s (opened_in s (ReleaseAt n) activity frames position g scope bytes)
 unfolding opened_in with_activity
-acts_opened s n activity frames place g scope bytes =
-    acts_if n s (is_some (area_with_scope s scope activity.areas)) _ _ (acts_fault s n activity place _)
-    (acts_if n s (is_full frames) _ _ (acts_fault s n activity place _)
-    (acts_opening s n activity place scope (Some g.area) bytes _ (λ t a k. gets n s t _ k)))
+acts_opened s n activity frames position g scope bytes =
+    acts_if n s (is_some (area_with_scope s scope activity.areas)) _ _ (acts_fault s n activity position _)
+    (acts_if n s (is_full frames) _ _ (acts_fault s n activity position _)
+    (acts_opening s n activity position scope (Some g.area) bytes _ (λ t a k. gets n s t _ k)))
 
 acts_left : (s : State) (n : ℕ) (activity : Activity) (f : Frame) (below : List Frame) (value : Option Value) → Acts n s (frame_left s (ReleaseAt n) activity f below value)
 unfolding frame_left job_ended with_activity
@@ -364,12 +364,12 @@ then_acts n s t status k =
       earlier = k.earlier;
     }
 
-acts_registered : (code : Code) (s : State) (n : ℕ) (activity : Activity) (place : Pos) (r : ℕ) (o : Object) (after : State) → OneActs n s after → Acts n s (registered code s (ReleaseAt n) activity place r o after)
+acts_registered : (code : Code) (s : State) (n : ℕ) (activity : Activity) (position : Pos) (r : ℕ) (o : Object) (after : State) → OneActs n s after → Acts n s (registered code s (ReleaseAt n) activity position r o after)
 unfolding registered
-acts_registered code s n activity place r o after a =
-    acts_if n s (not (is_init s.phase)) _ _ (acts_fault s n activity place _)
+acts_registered code s n activity position r o after a =
+    acts_if n s (not (is_init s.phase)) _ _ (acts_fault s n activity position _)
     (acts_if n s (is_some (handler_number s.registry r)) _ _ a
-    (acts_if n s (not (nat_lt (length s.registry) most_handlers)) _ _ (acts_fault s n activity place _)
+    (acts_if n s (not (nat_lt (length s.registry) most_handlers)) _ _ (acts_fault s n activity position _)
     (record { releases = a.releases; earlier = a.earlier })))
 
 pub record ActsIf (n : ℕ) (s : State) (o : Option Step) : Type 0 where
@@ -392,34 +392,34 @@ acts_mapped : {A : Type 0} (n : ℕ) (s : State) (o : Option A) (f : A → Step)
 acts_mapped n s None f h = acts_none n s
 acts_mapped n s (Some a) f h = acts_some n s (f a) (h a)
 
-acts_applied : (code : Code) (s : State) (n : ℕ) (activity : Activity) (below : List Frame) (place : Pos) (effect : Effect) → ActsIf n s (applied code s (ReleaseAt n) activity below place effect)
+acts_applied : (code : Code) (s : State) (n : ℕ) (activity : Activity) (below : List Frame) (position : Pos) (effect : Effect) → ActsIf n s (applied code s (ReleaseAt n) activity below position effect)
 unfolding applied with_activity
-acts_applied code s n activity below place (Goes f) = acts_some n s _ (gets n s s _ (beside_same s))
-acts_applied code s n activity below place (Prints f label value) = acts_some n s _ (gets n s s _ (beside_same s))
-acts_applied code s n activity below place (Makes f class slots) =
-    acts_some n s _ (acts_allocating s n activity place class f.area slots _ (λ t r k. gets n s t _ k))
-acts_applied code s n activity below place (Stores f r slot value) =
+acts_applied code s n activity below position (Goes f) = acts_some n s _ (gets n s s _ (beside_same s))
+acts_applied code s n activity below position (Prints f label value) = acts_some n s _ (gets n s s _ (beside_same s))
+acts_applied code s n activity below position (Makes f class slots) =
+    acts_some n s _ (acts_allocating s n activity position class f.area slots _ (λ t r k. gets n s t _ k))
+acts_applied code s n activity below position (Stores f r slot value) =
     acts_some n s _ (gets n s (record s { objects = _ }) _ (record { releases = refl; earlier = refl }))
-acts_applied code s n activity below place (StoresStatic f k value) =
+acts_applied code s n activity below position (StoresStatic f k value) =
     acts_some n s _ (gets n s (record s { statics = _ }) _ (record { releases = refl; earlier = refl }))
-acts_applied code s n activity below place (SetsHidden f r values) =
+acts_applied code s n activity below position (SetsHidden f r values) =
     acts_some n s _ (gets n s (record s { objects = _ }) _ (record { releases = refl; earlier = refl }))
-acts_applied code s n activity below place (SetsCeiling f r ceiling) = acts_some n s _ (acts_fault s n activity place _)
-acts_applied code s n activity below place (Calls f g) = acts_some n s _ (acts_called code s n activity (f ∷ below) place g)
-acts_applied code s n activity below place (Opens f g scope bytes) = acts_some n s _ (acts_opened s n activity (f ∷ below) place g scope bytes)
-acts_applied code s n activity below place (Leaves f value) = acts_some n s _ (acts_left s n activity f below value)
-acts_applied code s n activity below place (AsksRegistration f r) =
-    acts_mapped n s (object_at s r) _ (λ o. acts_registered code s n activity place r o (with_frame s (ReleaseAt n) activity f below) (gets n s s _ (beside_same s)))
-acts_applied code s n activity below place (AsksRelease f r) =
+acts_applied code s n activity below position (SetsCeiling f r ceiling) = acts_some n s _ (acts_fault s n activity position _)
+acts_applied code s n activity below position (Calls f g) = acts_some n s _ (acts_called code s n activity (f ∷ below) position g)
+acts_applied code s n activity below position (Opens f g scope bytes) = acts_some n s _ (acts_opened s n activity (f ∷ below) position g scope bytes)
+acts_applied code s n activity below position (Leaves f value) = acts_some n s _ (acts_left s n activity f below value)
+acts_applied code s n activity below position (AsksRegistration f r) =
+    acts_mapped n s (object_at s r) _ (λ o. acts_registered code s n activity position r o (with_frame s (ReleaseAt n) activity f below) (gets n s s _ (beside_same s)))
+acts_applied code s n activity below position (AsksRelease f r) =
     let t : State = with_frame s (ReleaseAt n) activity f below in
     let k : Grows t (released t r).state = grows_released t r in
     acts_some n s _ (then_acts n s (released t r).state (Started (record activity { frames = f ∷ below }))
     (record { releases = more_goes n t.releases (released t r).state.releases k.releases; earlier = k.earlier }))
-acts_applied code s n activity below place (AsksTermination f r) =
+acts_applied code s n activity below position (AsksTermination f r) =
     let t : State = with_frame s (ReleaseAt n) activity f below in
     acts_some n s _ (then_acts n s (termination_asked t r).state (Started (record activity { frames = f ∷ below })) (acts_asked n t r))
-acts_applied code s n activity below place (Faults fault) = acts_some n s _ (acts_fault s n activity place fault)
-acts_applied code s n activity below place Stuck = acts_none n s
+acts_applied code s n activity below position (Faults fault) = acts_some n s _ (acts_fault s n activity position fault)
+acts_applied code s n activity below position Stuck = acts_none n s
 
 acts_frame : (code : Code) (rows : List ReadingRow) (s : State) (n : ℕ) (activity : Activity) → ActsIf n s (frame_op code rows s (ReleaseAt n) activity)
 unfolding frame_op
@@ -433,23 +433,23 @@ acts_frame code rows s n activity = go activity.frames
     go [] = acts_none n s
     go (f ∷ below) = act f below f.rest
 
-acts_start : (code : Code) (s : State) (place : ℕ) (r : Release) → ActsIf place s (start_op code s place r)
+acts_start : (code : Code) (s : State) (index : ℕ) (r : Release) → ActsIf index s (start_op code s index r)
 unfolding start_op started_with with_activity
-acts_start code s place r =
-    acts_bind place s (handler_row s.registry r.handler) _ (λ row. acts_bind place s (defined_by_chain code.program row.class) _ (λ scope.
-    acts_bind place s (body_named code.program row.class (codes "handleAsyncEvent")) _ (λ body.
-    acts_some place s _ (acts_opening s place no_activity (class_place code.program row.class) scope (innermost s.activity.areas) row.bytes _
-    (λ t a k. gets place s t _ k)))))
+acts_start code s index r =
+    acts_bind index s (handler_row s.registry r.handler) _ (λ row. acts_bind index s (defined_by_chain code.program row.class) _ (λ scope.
+    acts_bind index s (body_named code.program row.class (codes "handleAsyncEvent")) _ (λ body.
+    acts_some index s _ (acts_opening s index no_activity (class_place code.program row.class) scope (innermost s.activity.areas) row.bytes _
+    (λ t a k. gets index s t _ k)))))
 
-acts_release : (code : Code) (rows : List ReadingRow) (s : State) (place : ℕ) (r : Release) → ActsIf place s (release_op_of code rows s place r)
+acts_release : (code : Code) (rows : List ReadingRow) (s : State) (index : ℕ) (r : Release) → ActsIf index s (release_op_of code rows s index r)
 unfolding release_op_of
-acts_release code rows s place r = go r.status
+acts_release code rows s index r = go r.status
   where
-    go : (p : ReleaseStatus) → ActsIf place s (elim p [ Waits ↦ start_op code s place r | Started activity ↦ frame_op code rows s (ReleaseAt place) activity | Ended ↦ None | Dropped ↦ None ])
-    go Waits = acts_start code s place r
-    go (Started activity) = acts_frame code rows s place activity
-    go Ended = acts_none place s
-    go Dropped = acts_none place s
+    go : (p : ReleaseStatus) → ActsIf index s (elim p [ Waits ↦ start_op code s index r | Started activity ↦ frame_op code rows s (ReleaseAt index) activity | Ended ↦ None | Dropped ↦ None ])
+    go Waits = acts_start code s index r
+    go (Started activity) = acts_frame code rows s index activity
+    go Ended = acts_none index s
+    go Dropped = acts_none index s
 
 -- the operation of a release leaves the others, but that waiting ones may be dropped and more wait
 pub acts_ref_op : (code : Code) (rows : List ReadingRow) (s : State) (n : ℕ) → ActsIf n s (ref_op code rows s (ReleaseAt n))
@@ -481,8 +481,8 @@ grows_fired code s fire = go (fired_handler code s fire.handler)
     go None = grows_same s
     go (Some handler) = grows_taken s handler
 
-grows_fired_at : (code : Code) (fires : List Fire) (s : State) (place : ℕ) → Grows s (fired_at code fires s place).state
-grows_fired_at code fires s place = go (slice_get fires place)
+grows_fired_at : (code : Code) (fires : List Fire) (s : State) (index : ℕ) → Grows s (fired_at code fires s index).state
+grows_fired_at code fires s index = go (slice_get fires index)
   where
     go : (o : Option Fire) → Grows s (elim o as (λ z. Step) [ None ↦ silently s | Some fire ↦ fired code s fire ]).state
     go None = grows_same s

@@ -47,35 +47,35 @@ unfolding closed
 same_closed s None = record { releases = refl; earlier = refl }
 same_closed s (Some a) = record { releases = refl; earlier = refl }
 
-same_fault : (s : State) (activity : Activity) (place : Pos) (fault : RunFault) → Same s (fault_in s TheSequencer activity place fault)
+same_fault : (s : State) (activity : Activity) (position : Pos) (fault : RunFault) → Same s (fault_in s TheSequencer activity position fault)
 unfolding fault_in
-same_fault s activity place fault = record { releases = refl; earlier = refl }
+same_fault s activity position fault = record { releases = refl; earlier = refl }
 
-same_called : (code : Code) (s : State) (activity : Activity) (frames : List Frame) (place : Pos) (g : Frame) → Same s (called code s TheSequencer activity frames place g)
+same_called : (code : Code) (s : State) (activity : Activity) (frames : List Frame) (position : Pos) (g : Frame) → Same s (called code s TheSequencer activity frames position g)
 unfolding called with_activity
-same_called code s activity frames place g =
-    same_if s (is_full frames) _ _ (same_fault s activity place _)
+same_called code s activity frames position g =
+    same_if s (is_full frames) _ _ (same_fault s activity position _)
     (same_option s (ceiling_entered code s g) _ _ (record { releases = refl; earlier = refl })
-    (λ ceiling. same_if s (nat_lt ceiling activity.priority) _ _ (same_fault s activity place _) (record { releases = refl; earlier = refl })))
+    (λ ceiling. same_if s (nat_lt ceiling activity.priority) _ _ (same_fault s activity position _) (record { releases = refl; earlier = refl })))
 
-same_opening : (s : State) (activity : Activity) (place : Pos) (scope : ℕ) (parent : Option ℕ) (bytes : ℕ) (next : State → ℕ → Step) → ((t : State) (a : ℕ) → HasSame s t → Same s (next t a)) → Same s (opening s TheSequencer activity place scope parent bytes next)
+same_opening : (s : State) (activity : Activity) (position : Pos) (scope : ℕ) (parent : Option ℕ) (bytes : ℕ) (next : State → ℕ → Step) → ((t : State) (a : ℕ) → HasSame s t → Same s (next t a)) → Same s (opening s TheSequencer activity position scope parent bytes next)
 unfolding opening
-same_opening s activity place scope parent bytes next h =
+same_opening s activity position scope parent bytes next h =
     same_if s (has_store_for s bytes) _ _ (h (with_area s scope parent bytes) (length s.areas) (record { releases = refl; earlier = refl }))
-    (same_fault s activity place _)
+    (same_fault s activity position _)
 
-same_allocating : (s : State) (activity : Activity) (place : Pos) (class area : ℕ) (slots : List Value) (next : State → ℕ → Step) → ((t : State) (r : ℕ) → HasSame s t → Same s (next t r)) → Same s (allocating s TheSequencer activity place class area slots next)
+same_allocating : (s : State) (activity : Activity) (position : Pos) (class area : ℕ) (slots : List Value) (next : State → ℕ → Step) → ((t : State) (r : ℕ) → HasSame s t → Same s (next t r)) → Same s (allocating s TheSequencer activity position class area slots next)
 unfolding allocating
-same_allocating s activity place class area slots next h =
+same_allocating s activity position class area slots next h =
     same_if s (has_room s area (length slots)) _ _ (h (with_object s class area slots) (length s.objects) (record { releases = refl; earlier = refl }))
-    (same_fault s activity place _)
+    (same_fault s activity position _)
 
-same_opened : (s : State) (activity : Activity) (frames : List Frame) (place : Pos) (g : Frame) (scope bytes : ℕ) → Same s (opened_in s TheSequencer activity frames place g scope bytes)
+same_opened : (s : State) (activity : Activity) (frames : List Frame) (position : Pos) (g : Frame) (scope bytes : ℕ) → Same s (opened_in s TheSequencer activity frames position g scope bytes)
 unfolding opened_in with_activity
-same_opened s activity frames place g scope bytes =
-    same_if s (is_some (area_with_scope s scope activity.areas)) _ _ (same_fault s activity place _)
-    (same_if s (is_full frames) _ _ (same_fault s activity place _)
-    (same_opening s activity place scope (Some g.area) bytes _ (λ t a k. record { releases = k.releases; earlier = k.earlier })))
+same_opened s activity frames position g scope bytes =
+    same_if s (is_some (area_with_scope s scope activity.areas)) _ _ (same_fault s activity position _)
+    (same_if s (is_full frames) _ _ (same_fault s activity position _)
+    (same_opening s activity position scope (Some g.area) bytes _ (λ t a k. record { releases = k.releases; earlier = k.earlier })))
 
 same_left : (s : State) (activity : Activity) (f : Frame) (below : List Frame) (value : Option Value) → Same s (frame_left s TheSequencer activity f below value)
 unfolding frame_left job_ended with_activity
@@ -108,12 +108,12 @@ same_asked s r e =
         else silently (record s { is_end_asked = true })))
         (sym e) (record { releases = refl; earlier = refl })
 
-same_registered : (code : Code) (s : State) (activity : Activity) (place : Pos) (r : ℕ) (o : Object) (after : State) → HasSame s after → Same s (registered code s TheSequencer activity place r o after)
+same_registered : (code : Code) (s : State) (activity : Activity) (position : Pos) (r : ℕ) (o : Object) (after : State) → HasSame s after → Same s (registered code s TheSequencer activity position r o after)
 unfolding registered
-same_registered code s activity place r o after a =
-    same_if s (not (is_init s.phase)) _ _ (same_fault s activity place _)
+same_registered code s activity position r o after a =
+    same_if s (not (is_init s.phase)) _ _ (same_fault s activity position _)
     (same_if s (is_some (handler_number s.registry r)) _ _ a
-    (same_if s (not (nat_lt (length s.registry) most_handlers)) _ _ (same_fault s activity place _)
+    (same_if s (not (nat_lt (length s.registry) most_handlers)) _ _ (same_fault s activity position _)
     (record { releases = a.releases; earlier = a.earlier })))
 
 pub record SameIf (s : State) (o : Option Step) : Type 0 where
@@ -136,31 +136,31 @@ same_mapped : {A : Type 0} (s : State) (o : Option A) (f : A → Step) → ((a :
 same_mapped s None f h = same_none s
 same_mapped s (Some a) f h = same_some s (f a) (h a)
 
-same_applied : (code : Code) (s : State) → is_exec s.phase ≡ false → (activity : Activity) (below : List Frame) (place : Pos) (effect : Effect) → SameIf s (applied code s TheSequencer activity below place effect)
+same_applied : (code : Code) (s : State) → is_exec s.phase ≡ false → (activity : Activity) (below : List Frame) (position : Pos) (effect : Effect) → SameIf s (applied code s TheSequencer activity below position effect)
 unfolding applied with_activity
-same_applied code s e activity below place (Goes f) = same_some s _ (record { releases = refl; earlier = refl })
-same_applied code s e activity below place (Prints f label value) = same_some s _ (record { releases = refl; earlier = refl })
-same_applied code s e activity below place (Makes f class slots) =
-    same_some s _ (same_allocating s activity place class f.area slots _ (λ t r k. record { releases = k.releases; earlier = k.earlier }))
-same_applied code s e activity below place (Stores f r slot value) = same_some s _ (record { releases = refl; earlier = refl })
-same_applied code s e activity below place (StoresStatic f k value) = same_some s _ (record { releases = refl; earlier = refl })
-same_applied code s e activity below place (SetsHidden f r values) = same_some s _ (record { releases = refl; earlier = refl })
-same_applied code s e activity below place (SetsCeiling f r ceiling) = same_some s _ (record { releases = refl; earlier = refl })
-same_applied code s e activity below place (Calls f g) = same_some s _ (same_called code s activity (f ∷ below) place g)
-same_applied code s e activity below place (Opens f g scope bytes) = same_some s _ (same_opened s activity (f ∷ below) place g scope bytes)
-same_applied code s e activity below place (Leaves f value) = same_some s _ (same_left s activity f below value)
-same_applied code s e activity below place (AsksRegistration f r) =
-    same_mapped s (object_at s r) _ (λ o. same_registered code s activity place r o (with_frame s TheSequencer activity f below) (record { releases = refl; earlier = refl }))
-same_applied code s e activity below place (AsksRelease f r) =
+same_applied code s e activity below position (Goes f) = same_some s _ (record { releases = refl; earlier = refl })
+same_applied code s e activity below position (Prints f label value) = same_some s _ (record { releases = refl; earlier = refl })
+same_applied code s e activity below position (Makes f class slots) =
+    same_some s _ (same_allocating s activity position class f.area slots _ (λ t r k. record { releases = k.releases; earlier = k.earlier }))
+same_applied code s e activity below position (Stores f r slot value) = same_some s _ (record { releases = refl; earlier = refl })
+same_applied code s e activity below position (StoresStatic f k value) = same_some s _ (record { releases = refl; earlier = refl })
+same_applied code s e activity below position (SetsHidden f r values) = same_some s _ (record { releases = refl; earlier = refl })
+same_applied code s e activity below position (SetsCeiling f r ceiling) = same_some s _ (record { releases = refl; earlier = refl })
+same_applied code s e activity below position (Calls f g) = same_some s _ (same_called code s activity (f ∷ below) position g)
+same_applied code s e activity below position (Opens f g scope bytes) = same_some s _ (same_opened s activity (f ∷ below) position g scope bytes)
+same_applied code s e activity below position (Leaves f value) = same_some s _ (same_left s activity f below value)
+same_applied code s e activity below position (AsksRegistration f r) =
+    same_mapped s (object_at s r) _ (λ o. same_registered code s activity position r o (with_frame s TheSequencer activity f below) (record { releases = refl; earlier = refl }))
+same_applied code s e activity below position (AsksRelease f r) =
     let t : State = with_frame s TheSequencer activity f below in
     let k : Same t (released t r) = same_released t r e in
     same_some s _ (record { releases = k.releases; earlier = k.earlier })
-same_applied code s e activity below place (AsksTermination f r) =
+same_applied code s e activity below position (AsksTermination f r) =
     let t : State = with_frame s TheSequencer activity f below in
     let k : Same t (termination_asked t r) = same_asked t r e in
     same_some s _ (record { releases = k.releases; earlier = k.earlier })
-same_applied code s e activity below place (Faults fault) = same_some s _ (same_fault s activity place fault)
-same_applied code s e activity below place Stuck = same_none s
+same_applied code s e activity below position (Faults fault) = same_some s _ (same_fault s activity position fault)
+same_applied code s e activity below position Stuck = same_none s
 
 same_frame : (code : Code) (rows : List ReadingRow) (s : State) → is_exec s.phase ≡ false → (activity : Activity) → SameIf s (frame_op code rows s TheSequencer activity)
 unfolding frame_op
@@ -174,15 +174,15 @@ same_frame code rows s e activity = go activity.frames
     go [] = same_none s
     go (f ∷ below) = act f below f.rest
 
-same_area : (s : State) (place : Pos) (scope bytes : ℕ) → Same s (area_opened s place scope bytes)
+same_area : (s : State) (position : Pos) (scope bytes : ℕ) → Same s (area_opened s position scope bytes)
 unfolding area_opened
-same_area s place scope bytes =
-    same_opening s s.activity place scope (innermost s.activity.areas) bytes _ (λ t a k. record { releases = k.releases; earlier = k.earlier })
+same_area s position scope bytes =
+    same_opening s s.activity position scope (innermost s.activity.areas) bytes _ (λ t a k. record { releases = k.releases; earlier = k.earlier })
 
-same_safelet : (code : Code) (s : State) (place : Pos) (class area : ℕ) → Same s (safelet_made code s place class area)
+same_safelet : (code : Code) (s : State) (position : Pos) (class area : ℕ) → Same s (safelet_made code s position class area)
 unfolding safelet_made
-same_safelet code s place class area =
-    same_allocating s s.activity place class area (new_slots code.program class) _ (λ t r k. record { releases = k.releases; earlier = k.earlier })
+same_safelet code s position class area =
+    same_allocating s s.activity position class area (new_slots code.program class) _ (λ t r k. record { releases = k.releases; earlier = k.earlier })
 
 same_body : (code : Code) (s : State) (r : ℕ) (body : Body) → SameIf s (body_called code s r body)
 unfolding body_called

@@ -215,7 +215,7 @@ unfolding acts by_priority turn_taken turn_acts acting
 operate_exec code rows s op exec e = go (chosen s) refl
   where
     turn_of : Option ℕ → Turn
-    turn_of o = elim o as (λ z. Turn) [ None ↦ IdleTurn | Some place ↦ TurnOf place ]
+    turn_of o = elim o as (λ z. Turn) [ None ↦ IdleTurn | Some index ↦ TurnOf index ]
 
     acted : (o : Option ℕ) → chosen s ≡ o → then_try (turn_taken s (turn_of o)) (turn_acts code rows (turn_of o)) ≡ Some op
     acted o f =

@@ -11,13 +11,13 @@ use Rattle.response_bounds.specs.Rows.{row_at}
 
 -- what a row adds in the units before a place
 abbrev pub added_before : Declared → ℕ → ℕ → ℕ → ℕ
-added_before row from place k = if nat_lt k place then added_in row (from + k) else 0
+added_before row from index k = if nat_lt k index then added_in row (from + k) else 0
 
-added_more : (old now : List ℕ) (row : Declared) (from place next v : ℕ) → place < length now →
-    v ≤ slice_index now place + row.cost → (from + place) % row.gap ≡ 0 → place < next →
-    ((k : ℕ) → slice_index now k ≤ slice_index old k + added_before row from place k) →
-    (k : ℕ) → slice_index (slice_set now place v) k ≤ slice_index old k + added_before row from next k
-added_more old now row from place next v l u divides m h k = go (cases_eq k place)
+added_more : (old now : List ℕ) (row : Declared) (from index next v : ℕ) → index < length now →
+    v ≤ slice_index now index + row.cost → (from + index) % row.gap ≡ 0 → index < next →
+    ((k : ℕ) → slice_index now k ≤ slice_index old k + added_before row from index k) →
+    (k : ℕ) → slice_index (slice_set now index v) k ≤ slice_index old k + added_before row from next k
+added_more old now row from index next v l u divides m h k = go (cases_eq k index)
   where
     less : (a b : ℕ) → a < b → nat_lt a b ≡ true
     less a b l = grind (arith, nat_tests)
@@ -28,19 +28,19 @@ added_more old now row from place next v l u divides m h k = go (cases_eq k plac
     none : (k : ℕ) → k ≡ 0 → (k == 0) ≡ true
     none k e = grind (arith, nat_tests)
 
-    before : added_before row from place place ≡ 0
-    before = ap (λ b. if b then added_in row (from + place) else 0) (not_less place)
+    before : added_before row from index index ≡ 0
+    before = ap (λ b. if b then added_in row (from + index) else 0) (not_less index)
 
-    after : added_before row from next place ≡ row.cost
+    after : added_before row from next index ≡ row.cost
     after =
-        ap (λ b. if b then added_in row (from + place) else 0) (less place next m)
-        ∙ ap (λ b. if b then row.cost else 0) (none ((from + place) % row.gap) divides)
+        ap (λ b. if b then added_in row (from + index) else 0) (less index next m)
+        ∙ ap (λ b. if b then row.cost else 0) (none ((from + index) % row.gap) divides)
 
-    more : (k : ℕ) → added_before row from place k ≤ added_before row from next k
-    more k = by (nat_lt k place) (nat_lt k next) (further k place next m)
+    more : (k : ℕ) → added_before row from index k ≤ added_before row from next k
+    more k = by (nat_lt k index) (nat_lt k next) (further k index next m)
       where
-        further : (k place next : ℕ) → place < next → nat_lt k place ≡ true → nat_lt k next ≡ true
-        further k place next m e = grind (arith, nat_tests)
+        further : (k index next : ℕ) → index < next → nat_lt k index ≡ true → nat_lt k next ≡ true
+        further k index next m e = grind (arith, nat_tests)
 
         by : (a b : Bool) → (a ≡ true → b ≡ true) →
             (if a then added_in row (from + k) else 0) ≤ (if b then added_in row (from + k) else 0)
@@ -48,42 +48,42 @@ added_more old now row from place next v l u divides m h k = go (cases_eq k plac
         by true false f = absurd (cc (f refl))
         by false b f = omega arith
 
-    go : (k ≡ place) ⊎ (k ≡ place → ⊥) →
-        slice_index (slice_set now place v) k ≤ slice_index old k + added_before row from next k
-    go (inl e) = subst (λ j. slice_index (slice_set now place v) j ≤ slice_index old j + added_before row from next j) (sym e) here
+    go : (k ≡ index) ⊎ (k ≡ index → ⊥) →
+        slice_index (slice_set now index v) k ≤ slice_index old k + added_before row from next k
+    go (inl e) = subst (λ j. slice_index (slice_set now index v) j ≤ slice_index old j + added_before row from next j) (sym e) here
       where
-        here : slice_index (slice_set now place v) place ≤ slice_index old place + added_before row from next place
+        here : slice_index (slice_set now index v) index ≤ slice_index old index + added_before row from next index
         here =
-            let a : slice_index (slice_set now place v) place ≡ v = get_or-set_same now place v 0 l in
-            let b : slice_index now place ≤ slice_index old place + added_before row from place place = h place in
+            let a : slice_index (slice_set now index v) index ≡ v = get_or-set_same now index v 0 l in
+            let b : slice_index now index ≤ slice_index old index + added_before row from index index = h index in
             omega (arith, a, b, before, after, u)
     go (inr e) =
-        let a : slice_index (slice_set now place v) k ≡ slice_index now k = get_or-set_other now place k v 0 e in
-        let b : slice_index now k ≤ slice_index old k + added_before row from place k = h k in
-        let d : added_before row from place k ≤ added_before row from next k = more k in
+        let a : slice_index (slice_set now index v) k ≡ slice_index now k = get_or-set_other now index k v 0 e in
+        let b : slice_index now k ≤ slice_index old k + added_before row from index k = h k in
+        let d : added_before row from index k ≤ added_before row from next k = more k in
         omega (arith, a, b, d)
 
 next_divides : (a g : ℕ) → 1 ≤ g → a % g ≡ 0 → (a + g) % g ≡ 0
 next_divides a g some e = search (arith, some, e)
 
 -- a step of the strides of a row
-pub stride : (old now : List ℕ) (row : Declared) (from place cell v : ℕ) → place < length now → length now ≡ length old →
-    1 ≤ row.gap → cell ≡ slice_index_or now place cell → v ≤ cell + row.cost → (from + place) % row.gap ≡ 0 →
-    ((k : ℕ) → slice_index now k ≤ slice_index old k + added_before row from place k) →
-    (length (slice_set now place v) ≡ length old) × ((from + (place + row.gap)) % row.gap ≡ 0)
-    × ((k : ℕ) → slice_index (slice_set now place v) k ≤ slice_index old k + added_before row from (place + row.gap) k)
-stride old now row from place cell v l same some read u divides h = (
-  length-set now place v ∙ same,
-  subst (λ k. k % row.gap ≡ 0) (moved from place row.gap) (next_divides (from + place) row.gap some divides),
-  added_more old now row from place (place + row.gap) v l fits divides (omega (arith, some)) h,
+pub stride : (old now : List ℕ) (row : Declared) (from index cell v : ℕ) → index < length now → length now ≡ length old →
+    1 ≤ row.gap → cell ≡ slice_index_or now index cell → v ≤ cell + row.cost → (from + index) % row.gap ≡ 0 →
+    ((k : ℕ) → slice_index now k ≤ slice_index old k + added_before row from index k) →
+    (length (slice_set now index v) ≡ length old) × ((from + (index + row.gap)) % row.gap ≡ 0)
+    × ((k : ℕ) → slice_index (slice_set now index v) k ≤ slice_index old k + added_before row from (index + row.gap) k)
+stride old now row from index cell v l same some read u divides h = (
+  length-set now index v ∙ same,
+  subst (λ k. k % row.gap ≡ 0) (moved from index row.gap) (next_divides (from + index) row.gap some divides),
+  added_more old now row from index (index + row.gap) v l fits divides (omega (arith, some)) h,
 )
   where
     moved : (a b g : ℕ) → a + b + g ≡ a + (b + g)
     moved a b g = omega arith
 
-    fits : v ≤ slice_index now place + row.cost
+    fits : v ≤ slice_index now index + row.cost
     fits =
-        let a : slice_index_or now place cell ≡ slice_index now place = get_or_default now place cell 0 l in
+        let a : slice_index_or now index cell ≡ slice_index now index = get_or_default now index cell 0 l in
         omega (arith, a, read, u)
 
 pub row_read : (rows : List Declared) (k : ℕ) (d : Declared) → k < length rows → slice_index_or rows k d ≡ row_at rows k

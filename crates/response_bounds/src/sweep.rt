@@ -39,10 +39,10 @@ fn add_row(added: &mut Vec<u64>, row: &Declared, from: u64)
     ensures at_most { (k : ℕ) → slice_index added.new.items k
         ≤ slice_index added.old.items k + added_in row.now (from + k) }
 {
-    let mut place = first_place(row.gap, from);
-    while place < added.len() {
-        added[place] = added[place].saturating_add(row.cost);
-        place += row.gap as usize;
+    let mut index = first_place(row.gap, from);
+    while index < added.len() {
+        added[index] = added[index].saturating_add(row.cost);
+        index += row.gap as usize;
     }
 }
 
@@ -82,12 +82,12 @@ fn look_on(added: &[u64], from: u64, work: u64) -> u64
         (y : ℕ) → from ≤ y → y < result → y < demand y }
 {
     let mut sum = work.saturating_add(added[0]);
-    let mut place: usize = 1;
-    while place < added.len() && from + (place as u64) < sum {
-        sum = sum.saturating_add(added[place]);
-        place += 1;
+    let mut index: usize = 1;
+    while index < added.len() && from + (index as u64) < sum {
+        sum = sum.saturating_add(added[index]);
+        index += 1;
     }
-    from + place as u64
+    from + index as u64
 }
 
 /// More units, where so many don't serve, and fewer than those don't, either.

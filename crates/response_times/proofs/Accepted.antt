@@ -135,5 +135,5 @@ module _ (forest : Forest) (accepted : IsAcceptedProgram forest) (plan : Plan) w
   pub as_claimed : (rows : List Declared) (claims : List Response) (n : ℕ) → AreDeclared rows →
       are_bounds rows claims ≡ true → Within rows (code_of forest) plan n →
       RespondsAsClaimed claims (code_of forest) plan n
-  as_claimed rows claims n declared right within i x t place r claimed =
-      responses rows n declared within i x t place r (claimed_bound rows claims i x right claimed)
+  as_claimed rows claims n declared right within i x t index r claimed =
+      responses rows n declared within i x t index r (claimed_bound rows claims i x right claimed)

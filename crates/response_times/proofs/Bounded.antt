@@ -85,20 +85,20 @@ module _ (rows : List Declared) (gaps : (j : ℕ) → j < length rows → 1 ≤ 
       follows code plan u rows e (λ t k. missions t (omega (arith, k, l))) (λ t k. order u e t k)
       (λ t k exec. within.handlers t (omega (arith, k, l)) exec)
 
-  ready_same : (u t place : ℕ) → t < u → IsReadyIn code plan t place →
+  ready_same : (u t index : ℕ) → t < u → IsReadyIn code plan t index →
       ((s : ℕ) → t ≤ s → s < u → length (at_choice code plan t).releases ≤ length (at_choice code plan s).releases) →
-      ready_unit code plan u place ≡ t
+      ready_unit code plan u index ≡ t
   unfolding ready_unit
-  ready_same u t place l ready longer =
-      let a : count_below (λ s. not (nat_lt place (length (at_choice code plan s).releases))) u ≤ t =
-      count_upto (λ s. not (nat_lt place (length (at_choice code plan s).releases))) u t
-      (λ s k j. present place (length (at_choice code plan s).releases) (far s (longer s k j))) in
-      let b : t ≤ count_below (λ s. not (nat_lt place (length (at_choice code plan s).releases))) u = least t l ready.is_new in
+  ready_same u t index l ready longer =
+      let a : count_below (λ s. not (nat_lt index (length (at_choice code plan s).releases))) u ≤ t =
+      count_upto (λ s. not (nat_lt index (length (at_choice code plan s).releases))) u t
+      (λ s k j. present index (length (at_choice code plan s).releases) (far s (longer s k j))) in
+      let b : t ≤ count_below (λ s. not (nat_lt index (length (at_choice code plan s).releases))) u = least t l ready.is_new in
       omega (arith, a, b)
     where
       far : (s : ℕ) → length (at_choice code plan t).releases ≤ length (at_choice code plan s).releases →
-          place < length (at_choice code plan s).releases
-      far s k = let h : place < length (at_choice code plan t).releases = ready.is_there in omega (arith, k, h)
+          index < length (at_choice code plan s).releases
+      far s k = let h : index < length (at_choice code plan t).releases = ready.is_there in omega (arith, k, h)
 
       present : (x k : ℕ) → x < k → not (nat_lt x k) ≡ false
       present x k l = grind (arith, nat_tests)
@@ -106,13 +106,13 @@ module _ (rows : List Declared) (gaps : (j : ℕ) → j < length rows → 1 ≤ 
       missing : (x k : ℕ) → k ≤ x → not (nat_lt x k) ≡ true
       missing x k l = grind (arith, nat_tests)
 
-      least : (t : ℕ) → t < u → ((s : ℕ) → s < t → length (at_choice code plan s).releases ≤ place) →
-          t ≤ count_below (λ s. not (nat_lt place (length (at_choice code plan s).releases))) u
+      least : (t : ℕ) → t < u → ((s : ℕ) → s < t → length (at_choice code plan s).releases ≤ index) →
+          t ≤ count_below (λ s. not (nat_lt index (length (at_choice code plan s).releases))) u
       least zero l new = omega arith
       least (suc t) l new =
-          let a : t < count_below (λ s. not (nat_lt place (length (at_choice code plan s).releases))) u =
-          count_past (λ s. not (nat_lt place (length (at_choice code plan s).releases))) u t (omega (arith, l))
-          (λ s k. missing place (length (at_choice code plan s).releases) (new s (omega (arith, k)))) in
+          let a : t < count_below (λ s. not (nat_lt index (length (at_choice code plan s).releases))) u =
+          count_past (λ s. not (nat_lt index (length (at_choice code plan s).releases))) u t (omega (arith, l))
+          (λ s k. missing index (length (at_choice code plan s).releases) (new s (omega (arith, k)))) in
           omega (arith, a)
 
   -- lengths grow
@@ -131,43 +131,43 @@ module _ (rows : List Declared) (gaps : (j : ℕ) → j < length rows → 1 ≤ 
 
   pub responds : RespondsInTime rows code plan n
   unfolding mission_schedule row_of_release
-  responds i x t place r bound ready there of upto = go (cases_Bool (may_act (at_choice code plan (t + x)) place))
+  responds i x t index r bound ready there of upto = go (cases_Bool (may_act (at_choice code plan (t + x)) index))
     where
-      ended : (u : ℕ) → u ≡ t + x → may_act (at_choice code plan u) place ≡ true → ⊥
+      ended : (u : ℕ) → u ≡ t + x → may_act (at_choice code plan u) index ≡ true → ⊥
       ended u same e =
           let from : 1 ≤ x = bound.from in
           let l : u ≤ n = omega (arith, same, upto) in
-          let alive : has_ended (run code plan by_priority u) ≡ false = living u place l e in
-          let first : (at_choice code plan u).earlier_releases ≤ place = (missions u l).from place e in
-          let exec : is_exec (at_choice code plan u).phase ≡ true = (missions u l).exec place e in
-          let y : IsLeft (at_choice code plan u) place = is_left (at_choice code plan u) place e in
-          let within_list : place < length (at_choice code plan u).releases =
-          slice_get_within (at_choice code plan u).releases place y.release y.is_there in
-          let k : ℕ = place - (at_choice code plan u).earlier_releases in
-          let back : (at_choice code plan u).earlier_releases + (place - (at_choice code plan u).earlier_releases) ≡ place = omega (arith, first) in
-          let h : (v : Release) × (slice_get (at_choice code plan u).releases place ≡ Some v) × (v.handler ≡ r.handler) =
-          handler_to u t place r l (omega (arith, same)) alive there in
+          let alive : has_ended (run code plan by_priority u) ≡ false = living u index l e in
+          let first : (at_choice code plan u).earlier_releases ≤ index = (missions u l).from index e in
+          let exec : is_exec (at_choice code plan u).phase ≡ true = (missions u l).exec index e in
+          let y : IsLeft (at_choice code plan u) index = is_left (at_choice code plan u) index e in
+          let within_list : index < length (at_choice code plan u).releases =
+          slice_get_within (at_choice code plan u).releases index y.release y.is_there in
+          let k : ℕ = index - (at_choice code plan u).earlier_releases in
+          let back : (at_choice code plan u).earlier_releases + (index - (at_choice code plan u).earlier_releases) ≡ index = omega (arith, first) in
+          let h : (v : Release) × (slice_get (at_choice code plan u).releases index ≡ Some v) × (v.handler ≡ r.handler) =
+          handler_to u t index r l (omega (arith, same)) alive there in
           let number : h.0.handler ≡ suc i = omega (arith, h.2, of) in
-          let is_row : row_of_release (at_choice code plan u) place ≡ i =
+          let is_row : row_of_release (at_choice code plan u) index ≡ i =
           ap (λ (o : Option Release). elim o as (λ z. ℕ) [ None ↦ 0 | Some r ↦ pred r.handler ]) h.1 ∙ ap pred number in
-          let when : ready_unit code plan u place ≡ t =
-          ready_same u t place (omega (arith, same, from)) ready (λ s a b. longer_to u l alive t s a b) in
-          let time : ready_unit code plan u ((at_choice code plan u).earlier_releases + (place - (at_choice code plan u).earlier_releases)) ≡ t =
+          let when : ready_unit code plan u index ≡ t =
+          ready_same u t index (omega (arith, same, from)) ready (λ s a b. longer_to u l alive t s a b) in
+          let time : ready_unit code plan u ((at_choice code plan u).earlier_releases + (index - (at_choice code plan u).earlier_releases)) ≡ t =
           ap (ready_unit code plan u) back ∙ when in
-          let out : may_act (at_choice code plan (ready_unit code plan u ((at_choice code plan u).earlier_releases + (place - (at_choice code plan u).earlier_releases)) + x))
-          ((at_choice code plan u).earlier_releases + (place - (at_choice code plan u).earlier_releases)) ≡ false =
+          let out : may_act (at_choice code plan (ready_unit code plan u ((at_choice code plan u).earlier_releases + (index - (at_choice code plan u).earlier_releases)) + x))
+          ((at_choice code plan u).earlier_releases + (index - (at_choice code plan u).earlier_releases)) ≡ false =
           ends_in_time rows u (mission_schedule code plan u) (follows_upto u l alive) (within.keeps u l exec) gaps
-          i x (place - (at_choice code plan u).earlier_releases) bound (omega (arith, first, within_list))
+          i x (index - (at_choice code plan u).earlier_releases) bound (omega (arith, first, within_list))
           (ap (row_of_release (at_choice code plan u)) back ∙ is_row) (omega (arith, time, same)) in
-          let at : ready_unit code plan u ((at_choice code plan u).earlier_releases + (place - (at_choice code plan u).earlier_releases)) + x ≡ u =
+          let at : ready_unit code plan u ((at_choice code plan u).earlier_releases + (index - (at_choice code plan u).earlier_releases)) + x ≡ u =
           omega (arith, time, same) in
-          let no : may_act (at_choice code plan u) place ≡ false =
+          let no : may_act (at_choice code plan u) index ≡ false =
           ap (λ j. may_act (at_choice code plan u) j) (sym back)
-          ∙ (ap (λ j. may_act (at_choice code plan j) ((at_choice code plan u).earlier_releases + (place - (at_choice code plan u).earlier_releases))) (sym at) ∙ out) in
+          ∙ (ap (λ j. may_act (at_choice code plan j) ((at_choice code plan u).earlier_releases + (index - (at_choice code plan u).earlier_releases))) (sym at) ∙ out) in
           cc (e, no)
 
-      go : (may_act (at_choice code plan (t + x)) place ≡ true) ⊎ (may_act (at_choice code plan (t + x)) place ≡ false) →
-          may_act (at_choice code plan (t + x)) place ≡ false
+      go : (may_act (at_choice code plan (t + x)) index ≡ true) ⊎ (may_act (at_choice code plan (t + x)) index ≡ false) →
+          may_act (at_choice code plan (t + x)) index ≡ false
       go (inr e) = e
       go (inl e) = absurd (ended (t + x) refl e)
 

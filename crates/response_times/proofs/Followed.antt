@@ -55,8 +55,8 @@ candidate_cases s q r c e = go r.status refl
     of : ReleaseStatus → Option Candidate
     of status =
         elim status [
-          | Waits ↦ Some (record { place = q; priority = handler_priority s r.handler; is_started = false })
-          | Started activity ↦ Some (record { place = q; priority = activity.priority; is_started = true })
+          | Waits ↦ Some (record { index = q; priority = handler_priority s r.handler; is_started = false })
+          | Started activity ↦ Some (record { index = q; priority = activity.priority; is_started = true })
           | Ended ↦ None
           | Dropped ↦ None
         ]
@@ -66,8 +66,8 @@ candidate_cases s q r c e = go r.status refl
 
     go : (status : ReleaseStatus) → r.status ≡ status → ((r.status ≡ Waits) × (c.priority ≡ handler_priority s r.handler))
         ⊎ ((a : Activity) × (r.status ≡ Started a) × (c.priority ≡ a.priority))
-    go Waits f = inl (f, prio (record { place = q; priority = handler_priority s r.handler; is_started = false }) (ap of f))
-    go (Started a) f = inr (a, f, prio (record { place = q; priority = a.priority; is_started = true }) (ap of f))
+    go Waits f = inl (f, prio (record { index = q; priority = handler_priority s r.handler; is_started = false }) (ap of f))
+    go (Started a) f = inr (a, f, prio (record { index = q; priority = a.priority; is_started = true }) (ap of f))
     go Ended f = absurd (cc (e, ap of f))
     go Dropped f = absurd (cc (e, ap of f))
 
@@ -90,10 +90,10 @@ not_dropped s q r e f h = go (candidate_cases s q l.release l.candidate_of l.is_
 may_waits : (s : State) (q : ℕ) (r : Release) → slice_get s.releases q ≡ Some r → r.status ≡ Waits → may_act s q ≡ true
 unfolding candidate
 may_waits s q r e f =
-    may_from s q r (record { place = q; priority = handler_priority s r.handler; is_started = false }) e
+    may_from s q r (record { index = q; priority = handler_priority s r.handler; is_started = false }) e
     (ap (λ (status : ReleaseStatus). elim status as (λ z. Option Candidate) [
-      | Waits ↦ Some (record { place = q; priority = handler_priority s r.handler; is_started = false })
-      | Started activity ↦ Some (record { place = q; priority = activity.priority; is_started = true })
+      | Waits ↦ Some (record { index = q; priority = handler_priority s r.handler; is_started = false })
+      | Started activity ↦ Some (record { index = q; priority = activity.priority; is_started = true })
       | Ended ↦ None
       | Dropped ↦ None
     ]) f)
@@ -101,10 +101,10 @@ may_waits s q r e f =
 may_started : (s : State) (q : ℕ) (r : Release) (a : Activity) → slice_get s.releases q ≡ Some r → r.status ≡ Started a → may_act s q ≡ true
 unfolding candidate
 may_started s q r a e f =
-    may_from s q r (record { place = q; priority = a.priority; is_started = true }) e
+    may_from s q r (record { index = q; priority = a.priority; is_started = true }) e
     (ap (λ (status : ReleaseStatus). elim status as (λ z. Option Candidate) [
-      | Waits ↦ Some (record { place = q; priority = handler_priority s r.handler; is_started = false })
-      | Started activity ↦ Some (record { place = q; priority = activity.priority; is_started = true })
+      | Waits ↦ Some (record { index = q; priority = handler_priority s r.handler; is_started = false })
+      | Started activity ↦ Some (record { index = q; priority = activity.priority; is_started = true })
       | Ended ↦ None
       | Dropped ↦ None
     ]) f)

@@ -149,7 +149,7 @@ one_chosen s q e = go (most_urgent (candidates_from s 0 s.releases)) refl (is_le
   where
     go : (o : Option Candidate) → most_urgent (candidates_from s 0 s.releases) ≡ o → IsLeft s q →
         (x : ℕ) × (chosen s ≡ Some x)
-    go (Some c) f l = (c.place, ap (λ (o : Option Candidate). option_map (λ (c : Candidate). c.place) o) f)
+    go (Some c) f l = (c.index, ap (λ (o : Option Candidate). option_map (λ (c : Candidate). c.index) o) f)
     go None f l =
         let none : candidate s (0 + q) l.release ≡ None =
         none_left s 0 q s.releases l.release (no_candidate (candidates_from s 0 s.releases) f) l.is_there in

@@ -23,21 +23,21 @@ use Rattle.response_bounds.specs.Schedule.{Schedule, KeepsRows}
 
 -- the active priority of a release that waits or is started
 unfoldable pub active_priority : State → ℕ → ℕ
-active_priority s place =
-    elim (slice_get s.releases place >>= candidate s place) [ None ↦ 0 | Some c ↦ c.priority ]
+active_priority s index =
+    elim (slice_get s.releases index >>= candidate s index) [ None ↦ 0 | Some c ↦ c.priority ]
 
 -- the unit in which a release is ready: the first for whose choice it is there. So it is the unit of its arrival, and
 -- one later where an operation of the unit made it. Of the units before n those are counted where it isn't there.
 unfoldable pub ready_unit : Code → Plan → ℕ → ℕ → ℕ
-ready_unit code plan n place = count_below (λ t. not (nat_lt place (length (at_choice code plan t).releases))) n
+ready_unit code plan n index = count_below (λ t. not (nat_lt index (length (at_choice code plan t).releases))) n
 
 -- the place in the mission whose first release has the given place
 abbrev pub shifted : ℕ → ℕ → Option ℕ
-shifted first place = if nat_lt place first then None else Some (place - first)
+shifted first index = if nat_lt index first then None else Some (index - first)
 
 -- handler k has row k - 1
 unfoldable pub row_of_release : State → ℕ → ℕ
-row_of_release s place = elim (slice_get s.releases place) [ None ↦ 0 | Some r ↦ pred r.handler ]
+row_of_release s index = elim (slice_get s.releases index) [ None ↦ 0 | Some r ↦ pred r.handler ]
 
 -- the mission of unit n, in the units before n
 unfoldable pub mission_schedule : Code → Plan → ℕ → Schedule
@@ -70,24 +70,24 @@ pub record Within (rows : List Declared) (code : Code) (plan : Plan) (n : ℕ) :
 -- ---- the promise
 
 -- the release at a place is ready in unit t: it is there for its choice, and for none before
-pub record IsReadyIn (code : Code) (plan : Plan) (t place : ℕ) : Type 0 where
-  pub is_there : place < length (at_choice code plan t).releases
-  pub is_new : (s : ℕ) → s < t → length (at_choice code plan s).releases ≤ place
+pub record IsReadyIn (code : Code) (plan : Plan) (t index : ℕ) : Type 0 where
+  pub is_there : index < length (at_choice code plan t).releases
+  pub is_new : (s : ℕ) → s < t → length (at_choice code plan s).releases ≤ index
 
 -- each release of a handler with a bound of x units has ended or was dropped x units after it was ready, if the run has
 -- had that many units
 abbrev pub RespondsInTime : List Declared → Code → Plan → ℕ → Type 0
 RespondsInTime rows code plan n =
-    (i x t place : ℕ) (r : Release) → IsBound rows i x → IsReadyIn code plan t place →
-    slice_get (at_choice code plan t).releases place ≡ Some r → r.handler ≡ i + 1 → t + x ≤ n →
-    may_act (at_choice code plan (t + x)) place ≡ false
+    (i x t index : ℕ) (r : Release) → IsBound rows i x → IsReadyIn code plan t index →
+    slice_get (at_choice code plan t).releases index ≡ Some r → r.handler ≡ i + 1 → t + x ≤ n →
+    may_act (at_choice code plan (t + x)) index ≡ false
 
 -- the same of the bounds that are claimed
 abbrev pub RespondsAsClaimed : List Response → Code → Plan → ℕ → Type 0
 RespondsAsClaimed claims code plan n =
-    (i x t place : ℕ) (r : Release) → slice_get claims i ≡ Some (Bound x) → IsReadyIn code plan t place →
-    slice_get (at_choice code plan t).releases place ≡ Some r → r.handler ≡ i + 1 → t + x ≤ n →
-    may_act (at_choice code plan (t + x)) place ≡ false
+    (i x t index : ℕ) (r : Release) → slice_get claims i ≡ Some (Bound x) → IsReadyIn code plan t index →
+    slice_get (at_choice code plan t).releases index ≡ Some r → r.handler ≡ i + 1 → t + x ≤ n →
+    may_act (at_choice code plan (t + x)) index ≡ false
 
 -- ---- of any program
 

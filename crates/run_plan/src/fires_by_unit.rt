@@ -154,16 +154,16 @@ fn due_at(fires: &[Fire], at: u64) -> &[Fire]
     requires { IsNonDecreasingBy (λ (fire : FireRow). fire.at) fires.now }
     ensures { result.now ≡ filter (λ (fire : FireRow). fire.at == at) fires.now }
 {
-    let place = fires.partition_point(|fire| fire.at < at);
-    due_from(fires, place, at)
+    let index = fires.partition_point(|fire| fire.at < at);
+    due_from(fires, index, at)
 }
 
 /// The fires of the unit that come first from a place on.
-fn due_from(fires: &[Fire], place: usize, unit: u64) -> &[Fire]
-    requires { place ≤ length fires.now }
-    ensures { result.now ≡ take_while (λ (fire : FireRow). fire.at == unit) (drop place fires.now) }
+fn due_from(fires: &[Fire], index: usize, unit: u64) -> &[Fire]
+    requires { index ≤ length fires.now }
+    ensures { result.now ≡ take_while (λ (fire : FireRow). fire.at == unit) (drop index fires.now) }
 {
-    let (_, rest) = fires.split_at(place);
+    let (_, rest) = fires.split_at(index);
     &rest[..count_at(rest, unit)]
 }
 

@@ -11,22 +11,22 @@ use Rattle.scj_model.specs.Arrivals.{numbers_where}
 use Rattle.run_releases.proofs.Changes.{changed_nowhere, changed_there}
 
 -- the rows from a place on are these
-pub record IsFrom {A : Type 0} (rows : List A) (place : ℕ) (xs : List A) : Type 0 where
-  pub at : (k : ℕ) → slice_get rows (place + k) ≡ slice_get xs k
+pub record IsFrom {A : Type 0} (rows : List A) (index : ℕ) (xs : List A) : Type 0 where
+  pub at : (k : ℕ) → slice_get rows (index + k) ≡ slice_get xs k
 
 module _ {A : Type 0} where
   pub from_first : (rows : List A) → IsFrom rows 0 rows
   from_first rows = record { at = λ k. ap (slice_get rows) (let e : 0 + k ≡ k = omega arith in e) }
 
-  pub is_first : {rows : List A} {place : ℕ} {x : A} {xs : List A} → IsFrom rows place (x ∷ xs) →
-      slice_get rows place ≡ Some x
-  is_first {rows} {place} h = ap (slice_get rows) (let e : place ≡ place + 0 = omega arith in e) ∙ h.at 0
+  pub is_first : {rows : List A} {index : ℕ} {x : A} {xs : List A} → IsFrom rows index (x ∷ xs) →
+      slice_get rows index ≡ Some x
+  is_first {rows} {index} h = ap (slice_get rows) (let e : index ≡ index + 0 = omega arith in e) ∙ h.at 0
 
-  pub are_next : {rows : List A} {place : ℕ} {x : A} {xs : List A} → IsFrom rows place (x ∷ xs) →
-      IsFrom rows (place + 1) xs
-  are_next {rows} {place} h =
+  pub are_next : {rows : List A} {index : ℕ} {x : A} {xs : List A} → IsFrom rows index (x ∷ xs) →
+      IsFrom rows (index + 1) xs
+  are_next {rows} {index} h =
       record {
-        at = λ k. ap (slice_get rows) (let e : (place + 1) + k ≡ place + suc k = omega arith in e)
+        at = λ k. ap (slice_get rows) (let e : (index + 1) + k ≡ index + suc k = omega arith in e)
             ∙ h.at (suc k);
       }
 
@@ -43,27 +43,27 @@ module _ {A : Type 0} where
       ∙ (sym (append_assoc (if test y then n ∷ [] else []) (numbers_where test (n + 1) xs) (((n + 1) + length xs) ∷ []))
       ∙ ap (λ k. ((if test y then n ∷ [] else []) ++ numbers_where test (n + 1) xs) ++ k ∷ []) next)
 
-  pub numbers_set : (test : A → Bool) (n place : ℕ) (xs : List A) (x y : A) → slice_get xs place ≡ Some x →
+  pub numbers_set : (test : A → Bool) (n index : ℕ) (xs : List A) (x y : A) → slice_get xs index ≡ Some x →
       test y ≡ test x →
-      numbers_where test n (slice_set xs place y) ≡ numbers_where test n xs
+      numbers_where test n (slice_set xs index y) ≡ numbers_where test n xs
   unfolding numbers_where
-  numbers_set test n place [] x y e same = refl
+  numbers_set test n index [] x y e same = refl
   numbers_set test n zero (z ∷ xs) x y e same =
       let s : z ≡ x = cc in
       let t : test y ≡ test z = same ∙ ap test (sym s) in
       ap (λ b. (if b then n ∷ [] else []) ++ numbers_where test (n + 1) xs) t
-  numbers_set test n (suc place) (z ∷ xs) x y e same =
-      ap (λ zs. (if test z then n ∷ [] else []) ++ zs) (numbers_set test (n + 1) place xs x y e same)
+  numbers_set test n (suc index) (z ∷ xs) x y e same =
+      ap (λ zs. (if test z then n ∷ [] else []) ++ zs) (numbers_set test (n + 1) index xs x y e same)
 
-  pub numbers_changed : (test : A → Bool) (f : A → A) (place : ℕ) (xs : List A) →
-      ((x : A) → slice_get xs place ≡ Some x → test (f x) ≡ test x) →
-      numbers_where test 0 (changed f place xs) ≡ numbers_where test 0 xs
-  numbers_changed test f place xs same = go (slice_get xs place) refl
+  pub numbers_changed : (test : A → Bool) (f : A → A) (index : ℕ) (xs : List A) →
+      ((x : A) → slice_get xs index ≡ Some x → test (f x) ≡ test x) →
+      numbers_where test 0 (changed f index xs) ≡ numbers_where test 0 xs
+  numbers_changed test f index xs same = go (slice_get xs index) refl
     where
-      go : (o : Option A) → slice_get xs place ≡ o → numbers_where test 0 (changed f place xs) ≡ numbers_where test 0 xs
-      go None e = ap (numbers_where test 0) (changed_nowhere f place xs e)
+      go : (o : Option A) → slice_get xs index ≡ o → numbers_where test 0 (changed f index xs) ≡ numbers_where test 0 xs
+      go None e = ap (numbers_where test 0) (changed_nowhere f index xs e)
       go (Some x) e =
-          ap (numbers_where test 0) (changed_there f place xs x e) ∙ numbers_set test 0 place xs x (f x) e (same x e)
+          ap (numbers_where test 0) (changed_there f index xs x e) ∙ numbers_set test 0 index xs x (f x) e (same x e)
 
   -- a number below all of them isn't among them
   numbers_above : (test : A → Bool) (m n : ℕ) (xs : List A) → m < n →
@@ -83,13 +83,13 @@ module _ {A : Type 0} where
       go other rest false = rest
 
   -- nor is one past the end
-  numbers_below : (test : A → Bool) (m n place : ℕ) (xs : List A) → m ≡ n + place → slice_get xs place ≡ None →
+  numbers_below : (test : A → Bool) (m n index : ℕ) (xs : List A) → m ≡ n + index → slice_get xs index ≡ None →
       filter (λ other. not (other == m)) (numbers_where test n xs) ≡ numbers_where test n xs
   unfolding numbers_where
-  numbers_below test m n place [] at none = refl
+  numbers_below test m n index [] at none = refl
   numbers_below test m n zero (x ∷ xs) at none = absurd (cc)
-  numbers_below test m n (suc place) (x ∷ xs) at none =
-      go (grind (arith, nat_tests)) (numbers_below test m (n + 1) place xs (omega (arith, at)) none) (test x)
+  numbers_below test m n (suc index) (x ∷ xs) at none =
+      go (grind (arith, nat_tests)) (numbers_below test m (n + 1) index xs (omega (arith, at)) none) (test x)
     where
       go : not (n == m) ≡ true → filter (λ other. not (other == m)) (numbers_where test (n + 1) xs) ≡ numbers_where test
           (n + 1) xs →
@@ -100,11 +100,11 @@ module _ {A : Type 0} where
           (filter (λ other. not (other == m)) (numbers_where test (n + 1) xs))) other ∙ ap (λ zs. n ∷ zs) rest
       go other rest false = rest
 
-  pub numbers_without : (test : A → Bool) (m n place : ℕ) (xs : List A) (y : A) → m ≡ n + place → test y ≡ false →
-      place < length xs →
-      numbers_where test n (slice_set xs place y) ≡ filter (λ other. not (other == m)) (numbers_where test n xs)
+  pub numbers_without : (test : A → Bool) (m n index : ℕ) (xs : List A) (y : A) → m ≡ n + index → test y ≡ false →
+      index < length xs →
+      numbers_where test n (slice_set xs index y) ≡ filter (λ other. not (other == m)) (numbers_where test n xs)
   unfolding numbers_where
-  numbers_without test m n place [] y at e there = absurd (omega (arith, there))
+  numbers_without test m n index [] y at e there = absurd (omega (arith, there))
   numbers_without test m n zero (x ∷ xs) y at e there =
       go (grind (arith, nat_tests)) (numbers_above test m (n + 1) xs (omega (arith, at))) (test x)
     where
@@ -121,50 +121,50 @@ module _ {A : Type 0} where
           ∙ ap (λ b. cond (not b) (n ∷ filter (λ other. not (other == m)) (numbers_where test (n + 1) xs))
           (filter (λ other. not (other == m)) (numbers_where test (n + 1) xs))) (sym same))
       go same rest false = here ∙ sym rest
-  numbers_without test m n (suc place) (x ∷ xs) y at e there =
+  numbers_without test m n (suc index) (x ∷ xs) y at e there =
       go (grind (arith, nat_tests))
-      (numbers_without test m (n + 1) place xs y (omega (arith, at)) e (omega (arith, there))) (test x)
+      (numbers_without test m (n + 1) index xs y (omega (arith, at)) e (omega (arith, there))) (test x)
     where
-      go : not (n == m) ≡ true → numbers_where test (n + 1) (slice_set xs place y) ≡ filter (λ other. not (other == m))
+      go : not (n == m) ≡ true → numbers_where test (n + 1) (slice_set xs index y) ≡ filter (λ other. not (other == m))
           (numbers_where test (n + 1) xs) →
-          (b : Bool) → (if b then n ∷ [] else []) ++ numbers_where test (n + 1) (slice_set xs place y)
+          (b : Bool) → (if b then n ∷ [] else []) ++ numbers_where test (n + 1) (slice_set xs index y)
           ≡ filter (λ other. not (other == m)) ((if b then n ∷ [] else []) ++ numbers_where test (n + 1) xs)
       go other rest true = ap (λ zs. n ∷ zs) rest
           ∙ ap (λ b. cond b (n ∷ filter (λ other. not (other == m)) (numbers_where test (n + 1) xs))
           (filter (λ other. not (other == m)) (numbers_where test (n + 1) xs))) (sym other)
       go other rest false = rest
 
-  pub numbers_ended : (test : A → Bool) (f : A → A) (place : ℕ) (xs : List A) → ((x : A) → test (f x) ≡ false) →
-      numbers_where test 0 (changed f place xs) ≡ filter (λ other. not (other == place)) (numbers_where test 0 xs)
-  numbers_ended test f place xs ends = go (slice_get xs place) refl
+  pub numbers_ended : (test : A → Bool) (f : A → A) (index : ℕ) (xs : List A) → ((x : A) → test (f x) ≡ false) →
+      numbers_where test 0 (changed f index xs) ≡ filter (λ other. not (other == index)) (numbers_where test 0 xs)
+  numbers_ended test f index xs ends = go (slice_get xs index) refl
     where
-      go : (o : Option A) → slice_get xs place ≡ o → numbers_where test 0 (changed f place xs) ≡ filter
-          (λ other. not (other == place)) (numbers_where test 0 xs)
+      go : (o : Option A) → slice_get xs index ≡ o → numbers_where test 0 (changed f index xs) ≡ filter
+          (λ other. not (other == index)) (numbers_where test 0 xs)
       go None e =
-          ap (numbers_where test 0) (changed_nowhere f place xs e)
-          ∙ sym (numbers_below test place 0 place xs (omega arith) e)
+          ap (numbers_where test 0) (changed_nowhere f index xs e)
+          ∙ sym (numbers_below test index 0 index xs (omega arith) e)
       go (Some x) e =
-          ap (numbers_where test 0) (changed_there f place xs x e)
-          ∙ numbers_without test place 0 place xs (f x) (omega arith) (ends x) (slice_get_within xs place x e)
+          ap (numbers_where test 0) (changed_there f index xs x e)
+          ∙ numbers_without test index 0 index xs (f x) (omega arith) (ends x) (slice_get_within xs index x e)
 
   -- ---- what is read by the places
 
   -- a test that holds of none but those
   pub any_there : (test chosen : A → Bool) (rows : List A) (n : ℕ) (xs : List A) → IsFrom rows n xs →
       ((x : A) → test x ≡ false → chosen x ≡ false) →
-      list_any (λ place. holds (slice_get rows place) chosen) (numbers_where test n xs) ≡ list_any chosen xs
+      list_any (λ index. holds (slice_get rows index) chosen) (numbers_where test n xs) ≡ list_any chosen xs
   unfolding numbers_where
   any_there test chosen rows n [] h none = refl
   any_there test chosen rows n (x ∷ xs) h none =
       go (any_there test chosen rows (n + 1) xs (are_next h) none) (test x) refl
     where
-      go : list_any (λ place. holds (slice_get rows place) chosen) (numbers_where test (n + 1) xs) ≡ list_any chosen
+      go : list_any (λ index. holds (slice_get rows index) chosen) (numbers_where test (n + 1) xs) ≡ list_any chosen
           xs →
-          (b : Bool) → test x ≡ b → list_any (λ place. holds (slice_get rows place) chosen)
+          (b : Bool) → test x ≡ b → list_any (λ index. holds (slice_get rows index) chosen)
           ((if b then n ∷ [] else []) ++ numbers_where test (n + 1) xs) ≡ (chosen x || list_any chosen xs)
       go rest true e =
           ap
-          (λ o. holds o chosen || list_any (λ place. holds (slice_get rows place) chosen)
+          (λ o. holds o chosen || list_any (λ index. holds (slice_get rows index) chosen)
           (numbers_where test (n + 1) xs)) (is_first h) ∙ ap (λ b. chosen x || b) rest
       go rest false e = rest ∙ ap (λ b. b || list_any chosen xs) (sym (none x e))
 
@@ -172,7 +172,7 @@ module _ {A : Type 0} where
   pub told_there : {B : Type 0} (test : A → Bool) (tell : A → List B) (at : ℕ → List B) (rows : List A) (n : ℕ)
       (xs : List A) → IsFrom rows n xs →
       ((x : A) → test x ≡ false → tell x ≡ []) →
-      ((place : ℕ) (x : A) → slice_get rows place ≡ Some x → at place ≡ tell x) →
+      ((index : ℕ) (x : A) → slice_get rows index ≡ Some x → at index ≡ tell x) →
       flat_map at (numbers_where test n xs) ≡ flat_map tell xs
   unfolding numbers_where
   told_there test tell at rows n [] h none same = refl
@@ -188,7 +188,7 @@ module _ {A : Type 0} where
   -- those that stay when all elements are others
   pub kept_there : (test : A → Bool) (f : A → A) (rows : List A) (n : ℕ) (xs : List A) → IsFrom rows n (map f xs) →
       ((x : A) → test x ≡ false → test (f x) ≡ false) →
-      filter (λ place. holds (slice_get rows place) test) (numbers_where test n xs) ≡ numbers_where test n (map f xs)
+      filter (λ index. holds (slice_get rows index) test) (numbers_where test n xs) ≡ numbers_where test n (map f xs)
   unfolding numbers_where
   kept_there test f rows n [] h none = refl
   kept_there test f rows n (x ∷ xs) h none = go (kept_there test f rows (n + 1) xs (are_next h) none) (test x) refl
@@ -196,22 +196,22 @@ module _ {A : Type 0} where
       first : holds (slice_get rows n) test ≡ test (f x)
       first = ap (λ o. holds o test) (is_first h)
 
-      here : filter (λ place. holds (slice_get rows place) test) (numbers_where test (n + 1) xs) ≡ numbers_where test
+      here : filter (λ index. holds (slice_get rows index) test) (numbers_where test (n + 1) xs) ≡ numbers_where test
           (n + 1) (map f xs) →
-          (b : Bool) → cond b (n ∷ filter (λ place. holds (slice_get rows place) test) (numbers_where test (n + 1) xs))
-          (filter (λ place. holds (slice_get rows place) test) (numbers_where test (n + 1) xs))
+          (b : Bool) → cond b (n ∷ filter (λ index. holds (slice_get rows index) test) (numbers_where test (n + 1) xs))
+          (filter (λ index. holds (slice_get rows index) test) (numbers_where test (n + 1) xs))
           ≡ (if b then n ∷ [] else []) ++ numbers_where test (n + 1) (map f xs)
       here rest true = ap (λ zs. n ∷ zs) rest
       here rest false = rest
 
-      go : filter (λ place. holds (slice_get rows place) test) (numbers_where test (n + 1) xs) ≡ numbers_where test
+      go : filter (λ index. holds (slice_get rows index) test) (numbers_where test (n + 1) xs) ≡ numbers_where test
           (n + 1) (map f xs) →
-          (b : Bool) → test x ≡ b → filter (λ place. holds (slice_get rows place) test)
+          (b : Bool) → test x ≡ b → filter (λ index. holds (slice_get rows index) test)
           ((if b then n ∷ [] else []) ++ numbers_where test (n + 1) xs)
           ≡ (if test (f x) then n ∷ [] else []) ++ numbers_where test (n + 1) (map f xs)
       go rest true e =
-          ap (λ b. cond b (n ∷ filter (λ place. holds (slice_get rows place) test) (numbers_where test (n + 1) xs))
-          (filter (λ place. holds (slice_get rows place) test) (numbers_where test (n + 1) xs))) first
+          ap (λ b. cond b (n ∷ filter (λ index. holds (slice_get rows index) test) (numbers_where test (n + 1) xs))
+          (filter (λ index. holds (slice_get rows index) test) (numbers_where test (n + 1) xs))) first
           ∙ here rest (test (f x))
       go rest false e = rest ∙ ap (λ b. (if b then n ∷ [] else []) ++ numbers_where test (n + 1) (map f xs))
           (sym (none x e))
@@ -230,7 +230,7 @@ module _ {A : Type 0} where
 
   pub changed_all : (test : A → Bool) (f : A → A) (n : ℕ) (ys xs : List A) → n ≡ length ys →
       ((x : A) → test x ≡ false → f x ≡ x) →
-      fold (λ (some : List A) (place : ℕ). changed f place some) (ys ++ xs) (numbers_where test n xs) ≡ ys ++ map f xs
+      fold (λ (some : List A) (index : ℕ). changed f index some) (ys ++ xs) (numbers_where test n xs) ≡ ys ++ map f xs
   unfolding numbers_where
   changed_all test f n ys [] at same = refl
   changed_all test f n ys (x ∷ xs) at same =
@@ -239,17 +239,17 @@ module _ {A : Type 0} where
       put_in : (zs : List A) → (ys ++ f x ∷ []) ++ zs ≡ ys ++ f x ∷ zs
       put_in zs = append_assoc ys (f x ∷ []) zs
 
-      go : fold (λ (some : List A) (place : ℕ). changed f place some) ((ys ++ f x ∷ []) ++ xs)
+      go : fold (λ (some : List A) (index : ℕ). changed f index some) ((ys ++ f x ∷ []) ++ xs)
           (numbers_where test (n + 1) xs) ≡ (ys ++ f x ∷ []) ++ map f xs →
-          (b : Bool) → test x ≡ b → fold (λ (some : List A) (place : ℕ). changed f place some) (ys ++ x ∷ xs)
+          (b : Bool) → test x ≡ b → fold (λ (some : List A) (index : ℕ). changed f index some) (ys ++ x ∷ xs)
           ((if b then n ∷ [] else []) ++ numbers_where test (n + 1) xs) ≡ ys ++ f x ∷ map f xs
       go rest true e =
-          ap (λ place. fold (λ (some : List A) (place : ℕ). changed f place some) (changed f place (ys ++ x ∷ xs))
+          ap (λ index. fold (λ (some : List A) (index : ℕ). changed f index some) (changed f index (ys ++ x ∷ xs))
           (numbers_where test (n + 1) xs)) at
-          ∙ (ap (λ zs. fold (λ (some : List A) (place : ℕ). changed f place some) zs (numbers_where test (n + 1) xs))
+          ∙ (ap (λ zs. fold (λ (some : List A) (index : ℕ). changed f index some) zs (numbers_where test (n + 1) xs))
           (changed_here f ys x xs ∙ sym (put_in xs))
           ∙ (rest ∙ put_in (map f xs)))
       go rest false e =
-          ap (λ zs. fold (λ (some : List A) (place : ℕ). changed f place some) zs (numbers_where test (n + 1) xs))
+          ap (λ zs. fold (λ (some : List A) (index : ℕ). changed f index some) zs (numbers_where test (n + 1) xs))
           (ap (λ z. ys ++ z ∷ xs) (sym (same x e)) ∙ sym (put_in xs))
           ∙ (rest ∙ put_in (map f xs))

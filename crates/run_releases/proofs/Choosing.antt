@@ -59,30 +59,30 @@ one_before registry rows places left after found within next e =
 pub all_chosen : (registry : List HandlerRow) (rows : List StoredRelease) (places : List ℕ) (left : ℕ)
     (found : Option Candidate) →
     left ≤ 0 → found ≡ most_urgent (candidates_at registry rows (drop left places)) →
-    option_map (λ (c : Candidate). c.place) found ≡ chosen_among registry rows places
+    option_map (λ (c : Candidate). c.index) found ≡ chosen_among registry rows places
 unfolding chosen_among
 all_chosen registry rows places left found none e =
     let first : left ≡ 0 = omega arith in
-    ap (option_map (λ (c : Candidate). c.place))
+    ap (option_map (λ (c : Candidate). c.index))
     (e ∙ ap (λ n. most_urgent (candidates_at registry rows (drop n places))) first)
 
 -- ---- the candidates of a state
 
-seen_candidate : (code : Listing) (s : State) (place handler number : ℕ) (status : StoredStatus) →
-    candidate s place (record { handler = handler; number = number; status = status_seen code status })
-    ≡ candidate_by s.registry place handler status
+seen_candidate : (code : Listing) (s : State) (index handler number : ℕ) (status : StoredStatus) →
+    candidate s index (record { handler = handler; number = number; status = status_seen code status })
+    ≡ candidate_by s.registry index handler status
 unfolding candidate
-seen_candidate code s place handler number Waits = refl
-seen_candidate code s place handler number (Started activity) = refl
-seen_candidate code s place handler number Ended = refl
-seen_candidate code s place handler number Dropped = refl
+seen_candidate code s index handler number Waits = refl
+seen_candidate code s index handler number (Started activity) = refl
+seen_candidate code s index handler number Ended = refl
+seen_candidate code s index handler number Dropped = refl
 
-over_is_none : (registry : List HandlerRow) (place handler : ℕ) (status : StoredStatus) → is_live status ≡ false →
-    candidate_by registry place handler status ≡ None
-over_is_none registry place handler Waits over = cc
-over_is_none registry place handler (Started activity) over = cc
-over_is_none registry place handler Ended over = refl
-over_is_none registry place handler Dropped over = refl
+over_is_none : (registry : List HandlerRow) (index handler : ℕ) (status : StoredStatus) → is_live status ≡ false →
+    candidate_by registry index handler status ≡ None
+over_is_none registry index handler Waits over = cc
+over_is_none registry index handler (Started activity) over = cc
+over_is_none registry index handler Ended over = refl
+over_is_none registry index handler Dropped over = refl
 
 candidates_seen : (code : Listing) (s : State) (rows : List StoredRelease) (n : ℕ) (xs : List StoredRelease) →
     IsFrom rows n xs →
@@ -117,9 +117,9 @@ candidates_seen code s rows n (x ∷ xs) h =
         ∙ here rest
 
 pub chosen_seen : (code : Listing) (s : State) (rows : List StoredRelease) →
-    chosen_among s.registry rows (live_places rows) ≡ option_map (λ (c : Candidate). c.place)
+    chosen_among s.registry rows (live_places rows) ≡ option_map (λ (c : Candidate). c.index)
     (most_urgent (candidates_from s 0 (map (release_seen code) rows)))
 unfolding chosen_among live_places
 chosen_seen code s rows =
-    ap (λ cs. option_map (λ (c : Candidate). c.place) (most_urgent cs))
+    ap (λ cs. option_map (λ (c : Candidate). c.index) (most_urgent cs))
     (candidates_seen code s rows 0 rows (from_first rows))

@@ -102,7 +102,7 @@ over_is_same Dropped over = refl
 
 -- a change at each live place is one of all
 pub dropped_everywhere : (rows : List StoredRelease) →
-    fold (λ (some : List StoredRelease) (place : ℕ). changed dropped_row place some) rows (live_places rows)
+    fold (λ (some : List StoredRelease) (index : ℕ). changed dropped_row index some) rows (live_places rows)
     ≡ map dropped_row rows
 unfolding live_places
 dropped_everywhere rows =
@@ -134,48 +134,48 @@ dropped_counted live taken waiting earlier rows c =
 
 -- ---- one is put under way or ends
 
-taken_left : (earlier place : ℕ) (rows : List StoredRelease) (f : StoredRelease → StoredRelease) →
+taken_left : (earlier index : ℕ) (rows : List StoredRelease) (f : StoredRelease → StoredRelease) →
     ((r : StoredRelease) → (f r).handler ≡ r.handler) →
-    (k : ℕ) → count_of earlier rows k ≡ count_of earlier (changed f place rows) k
+    (k : ℕ) → count_of earlier rows k ≡ count_of earlier (changed f index rows) k
 unfolding count_of
-taken_left earlier place rows f same k =
-    sym (sum_kept (λ (r : StoredRelease). cond (is_of k r) 1 0) f earlier place rows
+taken_left earlier index rows f same k =
+    sym (sum_kept (λ (r : StoredRelease). cond (is_of k r) 1 0) f earlier index rows
     (λ r. ap (λ n. cond (n == k) 1 0) (same r)))
 
 -- a live release is put under way
-pub put_counted : (live taken waiting : List ℕ) (earlier : ℕ) (rows : List StoredRelease) (place : ℕ)
+pub put_counted : (live taken waiting : List ℕ) (earlier : ℕ) (rows : List StoredRelease) (index : ℕ)
     (status : StoredStatus) →
-    is_live_at rows place ≡ true → is_live status ≡ true → waits status ≡ false →
+    is_live_at rows index ≡ true → is_live status ≡ true → waits status ≡ false →
     AreCounted live taken waiting earlier rows →
-    AreCounted live taken (one_less (waiting_handler rows earlier place) waiting) earlier
-    (changed (with_status status) place rows)
+    AreCounted live taken (one_less (waiting_handler rows earlier index) waiting) earlier
+    (changed (with_status status) index rows)
 unfolding live_places
-put_counted live taken waiting earlier rows place status was is none c =
+put_counted live taken waiting earlier rows index status was is none c =
     record {
       all_live =
           c.all_live
           ∙ sym
-          (numbers_changed row_is_live (with_status status) place rows
+          (numbers_changed row_is_live (with_status status) index rows
           (λ r e. is ∙ sym (ap (λ o. holds o row_is_live) (sym e) ∙ was)));
-      each_taken = λ k. c.each_taken k ∙ taken_left earlier place rows (with_status status) (λ r. refl) k;
-      each_waiting = waiting_left earlier place rows status waiting none c.each_waiting;
-      behind = omega (arith, c.behind, length_changed (with_status status) place rows);
+      each_taken = λ k. c.each_taken k ∙ taken_left earlier index rows (with_status status) (λ r. refl) k;
+      each_waiting = waiting_left earlier index rows status waiting none c.each_waiting;
+      behind = omega (arith, c.behind, length_changed (with_status status) index rows);
     }
 
 -- a release ends
-pub ended_counted : (live taken waiting : List ℕ) (earlier : ℕ) (rows : List StoredRelease) (place : ℕ) →
+pub ended_counted : (live taken waiting : List ℕ) (earlier : ℕ) (rows : List StoredRelease) (index : ℕ) →
     AreCounted live taken waiting earlier rows →
-    AreCounted (filter (λ other. not (other == place)) live) taken
-    (one_less (waiting_handler rows earlier place) waiting) earlier (changed (with_status Ended) place rows)
+    AreCounted (filter (λ other. not (other == index)) live) taken
+    (one_less (waiting_handler rows earlier index) waiting) earlier (changed (with_status Ended) index rows)
 unfolding live_places
-ended_counted live taken waiting earlier rows place c =
+ended_counted live taken waiting earlier rows index c =
     record {
       all_live =
-          ap (filter (λ other. not (other == place))) c.all_live
-          ∙ sym (numbers_ended row_is_live (with_status Ended) place rows (λ r. refl));
-      each_taken = λ k. c.each_taken k ∙ taken_left earlier place rows (with_status Ended) (λ r. refl) k;
-      each_waiting = waiting_left earlier place rows Ended waiting refl c.each_waiting;
-      behind = omega (arith, c.behind, length_changed (with_status Ended) place rows);
+          ap (filter (λ other. not (other == index))) c.all_live
+          ∙ sym (numbers_ended row_is_live (with_status Ended) index rows (λ r. refl));
+      each_taken = λ k. c.each_taken k ∙ taken_left earlier index rows (with_status Ended) (λ r. refl) k;
+      each_waiting = waiting_left earlier index rows Ended waiting refl c.each_waiting;
+      behind = omega (arith, c.behind, length_changed (with_status Ended) index rows);
     }
 
 -- ---- the activity of one is taken out
@@ -192,16 +192,16 @@ emptied_live (Started activity) = refl
 emptied_live Ended = refl
 emptied_live Dropped = refl
 
-pub emptied_counted : (live taken waiting : List ℕ) (earlier : ℕ) (rows : List StoredRelease) (place : ℕ) →
-    AreCounted live taken waiting earlier rows → AreCounted live taken waiting earlier (changed emptied_row place rows)
+pub emptied_counted : (live taken waiting : List ℕ) (earlier : ℕ) (rows : List StoredRelease) (index : ℕ) →
+    AreCounted live taken waiting earlier rows → AreCounted live taken waiting earlier (changed emptied_row index rows)
 unfolding live_places waiting_count
-emptied_counted live taken waiting earlier rows place c =
+emptied_counted live taken waiting earlier rows index c =
     record {
-      all_live = c.all_live ∙ sym (numbers_changed row_is_live emptied_row place rows (λ r e. emptied_live r.status));
-      each_taken = λ k. c.each_taken k ∙ taken_left earlier place rows emptied_row (λ r. refl) k;
+      all_live = c.all_live ∙ sym (numbers_changed row_is_live emptied_row index rows (λ r e. emptied_live r.status));
+      each_taken = λ k. c.each_taken k ∙ taken_left earlier index rows emptied_row (λ r. refl) k;
       each_waiting = λ k.
           c.each_waiting k
-          ∙ sym (sum_kept (λ (r : StoredRelease). cond (waits_for k r) 1 0) emptied_row earlier place rows
+          ∙ sym (sum_kept (λ (r : StoredRelease). cond (waits_for k r) 1 0) emptied_row earlier index rows
           (λ r. ap (λ b. cond ((r.handler == k) && b) 1 0) (emptied_waits r.status)));
-      behind = omega (arith, c.behind, length_changed emptied_row place rows);
+      behind = omega (arith, c.behind, length_changed emptied_row index rows);
     }

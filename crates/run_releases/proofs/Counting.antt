@@ -66,42 +66,42 @@ count_mapped test before f same (x ∷ xs) =
 
 -- ---- a number that rises or falls by one
 
-pub one_more_at : (numbers : List ℕ) (place number k : ℕ) → place < length numbers →
-    number ≡ slice_index numbers place + 1 →
-    slice_index (slice_set numbers place number) k ≡ slice_index numbers k + cond (place == k) 1 0
-one_more_at numbers place number k there e = go (place == k) refl
+pub one_more_at : (numbers : List ℕ) (index number k : ℕ) → index < length numbers →
+    number ≡ slice_index numbers index + 1 →
+    slice_index (slice_set numbers index number) k ≡ slice_index numbers k + cond (index == k) 1 0
+one_more_at numbers index number k there e = go (index == k) refl
   where
-    go : (b : Bool) → (place == k) ≡ b →
-        slice_index (slice_set numbers place number) k ≡ slice_index numbers k + cond b 1 0
+    go : (b : Bool) → (index == k) ≡ b →
+        slice_index (slice_set numbers index number) k ≡ slice_index numbers k + cond b 1 0
     go true t =
-        let s : k ≡ place = grind (arith, nat_tests) in
-        rw s (get_or-set_same numbers place number 0 there ∙ e)
+        let s : k ≡ index = grind (arith, nat_tests) in
+        rw s (get_or-set_same numbers index number 0 there ∙ e)
     go false t =
-        let s : k ≢ place = (λ same. grind (arith, nat_tests)) in
-        get_or-set_other numbers place k number 0 s ∙ omega arith
+        let s : k ≢ index = (λ same. grind (arith, nat_tests)) in
+        get_or-set_other numbers index k number 0 s ∙ omega arith
 
-pub one_less_at : (numbers : List ℕ) (place k : ℕ) → 0 < slice_index numbers place →
-    slice_index (slice_set numbers place (slice_index numbers place - 1)) k + cond (place == k) 1 0
+pub one_less_at : (numbers : List ℕ) (index k : ℕ) → 0 < slice_index numbers index →
+    slice_index (slice_set numbers index (slice_index numbers index - 1)) k + cond (index == k) 1 0
     ≡ slice_index numbers k
-one_less_at numbers place k some = go (place == k) refl
+one_less_at numbers index k some = go (index == k) refl
   where
-    there : place < length numbers
-    there = inside (nat_lt place (length numbers)) refl
+    there : index < length numbers
+    there = inside (nat_lt index (length numbers)) refl
       where
-        inside : (b : Bool) → nat_lt place (length numbers) ≡ b → place < length numbers
+        inside : (b : Bool) → nat_lt index (length numbers) ≡ b → index < length numbers
         inside true t = grind (arith, nat_tests)
         inside false t =
-            let past : length numbers ≤ place = grind (arith, nat_tests) in
-            let none : slice_index numbers place ≡ 0 = get_or_past numbers place 0 past in
+            let past : length numbers ≤ index = grind (arith, nat_tests) in
+            let none : slice_index numbers index ≡ 0 = get_or_past numbers index 0 past in
             absurd (omega (arith, none, some))
 
-    go : (b : Bool) → (place == k) ≡ b →
-        slice_index (slice_set numbers place (slice_index numbers place - 1)) k + cond b 1 0 ≡ slice_index numbers k
+    go : (b : Bool) → (index == k) ≡ b →
+        slice_index (slice_set numbers index (slice_index numbers index - 1)) k + cond b 1 0 ≡ slice_index numbers k
     go true t =
-        let s : k ≡ place = grind (arith, nat_tests) in
-        let h : slice_index (slice_set numbers place (slice_index numbers place - 1)) place ≡ slice_index numbers place
-        - 1 = get_or-set_same numbers place (slice_index numbers place - 1) 0 there in
+        let s : k ≡ index = grind (arith, nat_tests) in
+        let h : slice_index (slice_set numbers index (slice_index numbers index - 1)) index ≡ slice_index numbers index
+        - 1 = get_or-set_same numbers index (slice_index numbers index - 1) 0 there in
         rw s (omega (arith, h, some))
     go false t =
-        let s : k ≢ place = (λ same. grind (arith, nat_tests)) in
-        ap (λ n. n + 0) (get_or-set_other numbers place k (slice_index numbers place - 1) 0 s) ∙ omega arith
+        let s : k ≢ index = (λ same. grind (arith, nat_tests)) in
+        ap (λ n. n + 0) (get_or-set_other numbers index k (slice_index numbers index - 1) 0 s) ∙ omega arith

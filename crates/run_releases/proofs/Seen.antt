@@ -204,19 +204,19 @@ unfolding live_places tell_of
 told_seen code s rs unit =
     told_there row_is_live (tell_row unit) (tell_at rs.rows unit) rs.rows 0 rs.rows (from_first rs.rows)
     (λ r over. ap (λ b. if b then Drop unit r.handler r.number ∷ [] else []) (over_waits_not r.status over))
-    (λ place r e. ap
+    (λ index r e. ap
     (λ (o : Option StoredRelease). elim o as (λ z. List Event) [ None ↦ [] | Some x ↦ tell_row unit x ]) e)
     ∙ all_told code unit rs.rows
 
 -- ---- activities
 
-pub activity_seen_at : (code : Listing) (s : State) (rs : StoredReleases) (place : ℕ) →
-    option_map (activity_seen code) (activity_in rs.rows place) ≡ activity_of (with_releases code s rs)
-    (ReleaseAt place)
+pub activity_seen_at : (code : Listing) (s : State) (rs : StoredReleases) (index : ℕ) →
+    option_map (activity_seen code) (activity_in rs.rows index) ≡ activity_of (with_releases code s rs)
+    (ReleaseAt index)
 unfolding activity_of activity_in_status
-activity_seen_at code s rs place = go (slice_get rs.rows place)
+activity_seen_at code s rs index = go (slice_get rs.rows index)
     ∙ ap (λ (o : Option Release). o >>= (λ r. activity_in_status r.status))
-    (sym (slice_get-map (release_seen code) rs.rows place))
+    (sym (slice_get-map (release_seen code) rs.rows index))
   where
     within : (status : StoredStatus) → option_map (activity_seen code) (activity_within status) ≡ activity_in_status
         (status_seen code status)
@@ -231,29 +231,29 @@ activity_seen_at code s rs place = go (slice_get rs.rows place)
     go None = refl
     go (Some r) = within r.status
 
-pub status_seen_at : (code : Listing) (s : State) (rs : StoredReleases) (place : ℕ) (status : StoredStatus) →
-    state_with_status (with_releases code s rs) place (status_seen code status) ≡ with_releases code s
-    (status_set place status rs)
-status_seen_at code s rs place status =
+pub status_seen_at : (code : Listing) (s : State) (rs : StoredReleases) (index : ℕ) (status : StoredStatus) →
+    state_with_status (with_releases code s rs) index (status_seen code status) ≡ with_releases code s
+    (status_set index status rs)
+status_seen_at code s rs index status =
     ap (with_list (with_releases code s rs))
     (sym (map_changed (release_seen code) (with_status status)
-    (λ (r : Release). record r { status = status_seen code status }) place rs.rows (λ r. refl)))
+    (λ (r : Release). record r { status = status_seen code status }) index rs.rows (λ r. refl)))
 
-pub put_seen : (code : Listing) (s : State) (rs : StoredReleases) (place : ℕ) (activity : StoredActivity) →
-    with_activity (with_releases code s rs) (ReleaseAt place) (activity_seen code activity) ≡ with_releases code s
-    (status_set place (Started activity) rs)
+pub put_seen : (code : Listing) (s : State) (rs : StoredReleases) (index : ℕ) (activity : StoredActivity) →
+    with_activity (with_releases code s rs) (ReleaseAt index) (activity_seen code activity) ≡ with_releases code s
+    (status_set index (Started activity) rs)
 unfolding with_activity
-put_seen code s rs place activity = status_seen_at code s rs place (Started activity)
+put_seen code s rs index activity = status_seen_at code s rs index (Started activity)
 
 -- the activity that was taken out is put back as if it had never been away
-pub put_back_seen : (code : Listing) (s : State) (rs : StoredReleases) (place : ℕ) (activity : StoredActivity) →
-    with_activity (with_releases code s (emptied_at place rs)) (ReleaseAt place) (activity_seen code activity)
-    ≡ with_activity (with_releases code s rs) (ReleaseAt place) (activity_seen code activity)
-put_back_seen code s rs place activity =
-    put_seen code s (emptied_at place rs) place activity
+pub put_back_seen : (code : Listing) (s : State) (rs : StoredReleases) (index : ℕ) (activity : StoredActivity) →
+    with_activity (with_releases code s (emptied_at index rs)) (ReleaseAt index) (activity_seen code activity)
+    ≡ with_activity (with_releases code s rs) (ReleaseAt index) (activity_seen code activity)
+put_back_seen code s rs index activity =
+    put_seen code s (emptied_at index rs) index activity
     ∙ (ap (λ rows. with_list (with_releases code s rs) (map (release_seen code) rows))
-    (changed_twice (with_status (Started activity)) emptied_row place rs.rows)
-    ∙ sym (put_seen code s rs place activity))
+    (changed_twice (with_status (Started activity)) emptied_row index rs.rows)
+    ∙ sym (put_seen code s rs index activity))
 
 -- ---- what is asked of all
 

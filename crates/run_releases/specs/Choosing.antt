@@ -16,19 +16,19 @@ priority_of registry handler = elim (handler_row registry handler) [ None ↦ 0 
 
 -- a waiting release of this handler, or one that is under way, as a candidate
 abbrev pub candidate_by : List HandlerRow → ℕ → ℕ → StoredStatus → Option Candidate
-candidate_by registry place handler Waits =
-    Some (record { place = place; priority = priority_of registry handler; is_started = false })
-candidate_by registry place handler (Started activity) =
-    Some (record { place = place; priority = activity.priority; is_started = true })
-candidate_by registry place handler Ended = None
-candidate_by registry place handler Dropped = None
+candidate_by registry index handler Waits =
+    Some (record { index = index; priority = priority_of registry handler; is_started = false })
+candidate_by registry index handler (Started activity) =
+    Some (record { index = index; priority = activity.priority; is_started = true })
+candidate_by registry index handler Ended = None
+candidate_by registry index handler Dropped = None
 
 abbrev pub candidate_at : List HandlerRow → List StoredRelease → ℕ → Option Candidate
-candidate_at registry rows place =
-    slice_get rows place >>= (λ (r : StoredRelease). candidate_by registry place r.handler r.status)
+candidate_at registry rows index =
+    slice_get rows index >>= (λ (r : StoredRelease). candidate_by registry index r.handler r.status)
 
 unfoldable pub candidates_at : List HandlerRow → List StoredRelease → List ℕ → List Candidate
-candidates_at registry rows places = flat_map (λ place. option_to_list (candidate_at registry rows place)) places
+candidates_at registry rows places = flat_map (λ index. option_to_list (candidate_at registry rows index)) places
 
 -- the more urgent one of a candidate and of the most urgent one behind it
 abbrev pub preferred : Option Candidate → Option Candidate → Option Candidate
@@ -39,4 +39,4 @@ preferred (Some c) (Some later) = Some (if is_more_urgent later c then later els
 -- the place of the most urgent one among those at these places
 unfoldable pub chosen_among : List HandlerRow → List StoredRelease → List ℕ → Option ℕ
 chosen_among registry rows places =
-    option_map (λ (c : Candidate). c.place) (most_urgent (candidates_at registry rows places))
+    option_map (λ (c : Candidate). c.index) (most_urgent (candidates_at registry rows places))

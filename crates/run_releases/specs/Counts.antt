@@ -25,16 +25,16 @@ pub record AreCounted (live taken waiting : List ℕ) (earlier : ℕ) (rows : Li
 -- ---- what is read by a place, and of a place that isn't there nothing
 
 abbrev pub is_live_at : List StoredRelease → ℕ → Bool
-is_live_at rows place = holds (slice_get rows place) row_is_live
+is_live_at rows index = holds (slice_get rows index) row_is_live
 
 abbrev pub is_under_way_at : List StoredRelease → ℕ → Bool
-is_under_way_at rows place = holds (slice_get rows place) (λ (r : StoredRelease). is_under_way r.status)
+is_under_way_at rows index = holds (slice_get rows index) (λ (r : StoredRelease). is_under_way r.status)
 
 -- the handler for which the release waits, if it is of this mission
 abbrev pub waiting_handler : List StoredRelease → ℕ → ℕ → Option ℕ
-waiting_handler rows earlier place =
-    if nat_lt place earlier then None
-    else (slice_get rows place >>= (λ (r : StoredRelease). if waits r.status then Some r.handler else None))
+waiting_handler rows earlier index =
+    if nat_lt index earlier then None
+    else (slice_get rows index >>= (λ (r : StoredRelease). if waits r.status then Some r.handler else None))
 
 -- the counts when the release waits no more
 abbrev pub one_less : Option ℕ → List ℕ → List ℕ
@@ -46,4 +46,4 @@ abbrev pub tell_row : ℕ → StoredRelease → List Event
 tell_row unit r = if waits r.status then Drop unit r.handler r.number ∷ [] else []
 
 abbrev pub tell_at : List StoredRelease → ℕ → ℕ → List Event
-tell_at rows unit place = elim (slice_get rows place) [ None ↦ [] | Some r ↦ tell_row unit r ]
+tell_at rows unit index = elim (slice_get rows index) [ None ↦ [] | Some r ↦ tell_row unit r ]

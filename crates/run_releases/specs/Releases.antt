@@ -55,11 +55,11 @@ all_dropped rs = record rs { rows = map dropped_row rs.rows }
 
 -- the release at a place with another status
 abbrev pub status_set : ℕ → StoredStatus → StoredReleases → StoredReleases
-status_set place status rs = record rs { rows = changed (with_status status) place rs.rows }
+status_set index status rs = record rs { rows = changed (with_status status) index rs.rows }
 
 -- the activity of the release at a place, if it is under way, and the releases without it
 abbrev pub activity_in : List StoredRelease → ℕ → Option StoredActivity
-activity_in rows place = slice_get rows place >>= (λ (r : StoredRelease). activity_within r.status)
+activity_in rows index = slice_get rows index >>= (λ (r : StoredRelease). activity_within r.status)
 
 abbrev pub emptied_at : ℕ → StoredReleases → StoredReleases
-emptied_at place rs = record rs { rows = changed emptied_row place rs.rows }
+emptied_at index rs = record rs { rows = changed emptied_row index rs.rows }

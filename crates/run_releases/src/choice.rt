@@ -11,7 +11,7 @@ use std::marker::Model;
 /// A live release: its place, its active priority, and whether it is under way.
 #[derive(Clone, Copy)]
 struct Candidate {
-    place: usize,
+    index: usize,
     priority: u8,
     is_started: bool,
 }
@@ -21,9 +21,9 @@ impl Model for Candidate {
 
     ghost Value = { CandidateOfModel };
 
-    ghost view = { λ a. record { place = a.place; priority = a.priority; is_started = a.is_started } };
+    ghost view = { λ a. record { index = a.index; priority = a.priority; is_started = a.is_started } };
 
-    ghost inverse = { λ x. record { place = x.place; priority = x.priority; is_started = x.is_started } };
+    ghost inverse = { λ x. record { index = x.index; priority = x.priority; is_started = x.is_started } };
 }
 
 impl Candidate {
@@ -50,17 +50,17 @@ fn priority_by(registry: &[HandlerRow], handler: u8) -> u8
 }
 
 /// The release as a candidate, if it is live.
-fn candidate_of(registry: &[HandlerRow], place: usize, release: &Release) -> Option<Candidate>
-    ensures { result ≡ candidate_by registry.now place release.now.handler release.now.status }
+fn candidate_of(registry: &[HandlerRow], index: usize, release: &Release) -> Option<Candidate>
+    ensures { result ≡ candidate_by registry.now index release.now.handler release.now.status }
 {
     match &release.status {
         ReleaseStatus::Waits => Some(Candidate {
-            place,
+            index,
             priority: priority_by(registry, release.handler),
             is_started: false,
         }),
         ReleaseStatus::Started(activity) => Some(Candidate {
-            place,
+            index,
             priority: activity.priority,
             is_started: true,
         }),
@@ -69,11 +69,11 @@ fn candidate_of(registry: &[HandlerRow], place: usize, release: &Release) -> Opt
 }
 
 /// The release at a place as a candidate.
-fn candidate_there(registry: &[HandlerRow], rows: &[Release], place: usize) -> Option<Candidate>
-    ensures { result ≡ candidate_at registry.now rows.now place }
+fn candidate_there(registry: &[HandlerRow], rows: &[Release], index: usize) -> Option<Candidate>
+    ensures { result ≡ candidate_at registry.now rows.now index }
 {
-    match rows.get(place) {
-        Some(release) => candidate_of(registry, place, release),
+    match rows.get(index) {
+        Some(release) => candidate_of(registry, index, release),
         None => None,
     }
 }
@@ -104,7 +104,7 @@ pub(crate) fn choose(registry: &[HandlerRow], rows: &[Release], places: &[usize]
         found = preferred(candidate_there(registry, rows, places[left]), found);
     }
     match found {
-        Some(candidate) => Some(candidate.place),
+        Some(candidate) => Some(candidate.index),
         None => None,
     }
 }

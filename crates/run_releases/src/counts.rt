@@ -6,31 +6,31 @@ ghost use Rattle.run_releases.specs.Counts.{one_less};
 use scj_base::Memory;
 
 /// The number at a place.
-pub(crate) fn number_at(numbers: &[u64], place: usize) -> u64
-    ensures { result ≡ slice_index numbers.now place }
+pub(crate) fn number_at(numbers: &[u64], index: usize) -> u64
+    ensures { result ≡ slice_index numbers.now index }
 {
-    if place < numbers.len() {
-        numbers[place]
+    if index < numbers.len() {
+        numbers[index]
     } else {
         0
     }
 }
 
 /// Sets the number at a place that is there.
-pub(crate) fn set_number(numbers: &mut Vec<u64>, place: usize, number: u64)
-    ensures { numbers.new.items ≡ slice_set numbers.old.items place number }
+pub(crate) fn set_number(numbers: &mut Vec<u64>, index: usize, number: u64)
+    ensures { numbers.new.items ≡ slice_set numbers.old.items index number }
 {
-    if place < numbers.len() {
-        numbers[place] = number;
+    if index < numbers.len() {
+        numbers[index] = number;
     }
 }
 
 /// Sees to it that a place is there. Each number stays.
-pub(crate) fn reach(numbers: &mut Vec<u64>, place: usize) -> Result<(), Memory>
+pub(crate) fn reach(numbers: &mut Vec<u64>, index: usize) -> Result<(), Memory>
     ensures same { (k : ℕ) → slice_index numbers.new.items k ≡ slice_index numbers.old.items k }
-    ensures there { OnOk result (place < length numbers.new.items) }
+    ensures there { OnOk result (index < length numbers.new.items) }
 {
-    while numbers.len() <= place {
+    while numbers.len() <= index {
         numbers.push(0)?;
     }
     Ok(())
@@ -52,9 +52,9 @@ pub(crate) fn take_one(numbers: &mut Vec<u64>, handler: Option<u8>)
 {
     match handler {
         Some(handler) => {
-            let place = handler as usize;
-            let number = number_at(numbers, place).saturating_sub(1);
-            set_number(numbers, place, number);
+            let index = handler as usize;
+            let number = number_at(numbers, index).saturating_sub(1);
+            set_number(numbers, index, number);
         },
         None => {},
     }

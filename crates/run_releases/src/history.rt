@@ -77,14 +77,14 @@ impl Releases {
             (tell_taken s.unit handler number)) }
         ensures err { OnErr result (self.new ≡ self.old) }
     {
-        let place = handler as usize;
-        let waiting = number_at(&self.waiting, place);
+        let index = handler as usize;
+        let waiting = number_at(&self.waiting, index);
         if waiting >= MOST_WAITING {
             return Ok(None);
         }
-        let number = one_more(number_at(&self.taken, place))?;
-        reach(&mut self.taken, place)?;
-        reach(&mut self.waiting, place)?;
+        let number = one_more(number_at(&self.taken, index))?;
+        reach(&mut self.taken, index)?;
+        reach(&mut self.waiting, index)?;
         push_release(
             &mut self.rows,
             &mut self.live,
@@ -94,8 +94,8 @@ impl Releases {
                 status: ReleaseStatus::Waits,
             },
         )?;
-        set_number(&mut self.taken, place, number);
-        set_number(&mut self.waiting, place, waiting + 1);
+        set_number(&mut self.taken, index, number);
+        set_number(&mut self.waiting, index, waiting + 1);
         Ok(Some(number))
     }
 
@@ -126,54 +126,54 @@ impl Releases {
     }
 
     /// The release at a place, if there is one.
-    pub fn release(&self, place: usize) -> Option<&Release>
-        ensures { option_copied result ≡ slice_get self.now.rows place }
+    pub fn release(&self, index: usize) -> Option<&Release>
+        ensures { option_copied result ≡ slice_get self.now.rows index }
     {
-        self.rows.get(place)
+        self.rows.get(index)
     }
 
     /// The activity of the release at a place, if it is under way. An empty one stays there.
-    pub fn take_activity(&mut self, place: usize, alloc: Global) -> Option<Activity>
-        ensures taken { result ≡ activity_in self.old.rows place }
-        ensures left { self.new ≡ emptied_at place self.old }
+    pub fn take_activity(&mut self, index: usize, alloc: Global) -> Option<Activity>
+        ensures taken { result ≡ activity_in self.old.rows index }
+        ensures left { self.new ≡ emptied_at index self.old }
         ensures seen { (code : Listing) (s : State) → option_map (activity_seen code) result ≡ activity_of
-            (with_releases code s self.old) (ReleaseAt place) }
+            (with_releases code s self.old) (ReleaseAt index) }
     {
-        take_from(&mut self.rows, place, Activity::empty(alloc))
+        take_from(&mut self.rows, index, Activity::empty(alloc))
     }
 
     /// The release at a place, which waits or is under way, has this activity.
-    pub fn put_activity(&mut self, place: usize, activity: Activity) -> Result<(), Memory>
-        ensures put { OnOk result (self.new ≡ status_set place (ReleaseStatus.Started activity) self.old) }
+    pub fn put_activity(&mut self, index: usize, activity: Activity) -> Result<(), Memory>
+        ensures put { OnOk result (self.new ≡ status_set index (ReleaseStatus.Started activity) self.old) }
         ensures seen { (code : Listing) (s : State) →
             OnOk result
-            (with_activity (with_releases code s self.old) (ReleaseAt place) (activity_seen code activity)
+            (with_activity (with_releases code s self.old) (ReleaseAt index) (activity_seen code activity)
             ≡ with_releases code s self.new) }
         ensures err { OnErr result (self.new ≡ self.old) }
     {
-        if !is_live_there(&self.rows, place) {
+        if !is_live_there(&self.rows, index) {
             return Err(Memory);
         }
         take_one(
             &mut self.waiting,
-            waiting_there(&self.rows, self.earlier, place),
+            waiting_there(&self.rows, self.earlier, index),
         );
-        set_status(&mut self.rows, place, ReleaseStatus::Started(activity));
+        set_status(&mut self.rows, index, ReleaseStatus::Started(activity));
         Ok(())
     }
 
     /// The release at a place has come to its end.
-    pub fn end(&mut self, place: usize)
-        ensures ended { self.new ≡ status_set place ReleaseStatus.Ended self.old }
+    pub fn end(&mut self, index: usize)
+        ensures ended { self.new ≡ status_set index ReleaseStatus.Ended self.old }
         ensures seen { (code : Listing) (s : State) →
-            state_with_status (with_releases code s self.old) place EndedSeen ≡ with_releases code s self.new }
+            state_with_status (with_releases code s self.old) index EndedSeen ≡ with_releases code s self.new }
     {
         take_one(
             &mut self.waiting,
-            waiting_there(&self.rows, self.earlier, place),
+            waiting_there(&self.rows, self.earlier, index),
         );
-        forget(&mut self.live, place);
-        set_status(&mut self.rows, place, ReleaseStatus::Ended);
+        forget(&mut self.live, index);
+        set_status(&mut self.rows, index, ReleaseStatus::Ended);
     }
 
     /// Whether some release is under way.

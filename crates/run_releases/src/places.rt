@@ -15,27 +15,27 @@ use scj_base::Memory;
 use scj_model::Event;
 
 /// The release at a place.
-fn row_there(rows: &[Release], place: usize) -> Option<&Release>
-    ensures { option_copied result ≡ slice_get rows.now place }
+fn row_there(rows: &[Release], index: usize) -> Option<&Release>
+    ensures { option_copied result ≡ slice_get rows.now index }
 {
-    rows.get(place)
+    rows.get(index)
 }
 
 /// Whether the release waits or is under way.
-pub(crate) fn is_live_there(rows: &[Release], place: usize) -> bool
-    ensures { result ≡ is_live_at rows.now place }
+pub(crate) fn is_live_there(rows: &[Release], index: usize) -> bool
+    ensures { result ≡ is_live_at rows.now index }
 {
-    match rows.get(place) {
+    match rows.get(index) {
         Some(release) => release.is_live(),
         None => false,
     }
 }
 
 /// Whether the release is under way.
-fn is_started_there(rows: &[Release], place: usize) -> bool
-    ensures { result ≡ is_under_way_at rows.now place }
+fn is_started_there(rows: &[Release], index: usize) -> bool
+    ensures { result ≡ is_under_way_at rows.now index }
 {
-    match rows.get(place) {
+    match rows.get(index) {
         Some(release) => release.is_started(),
         None => false,
     }
@@ -45,8 +45,8 @@ fn is_started_there(rows: &[Release], place: usize) -> bool
 pub(crate) fn any_started(rows: &[Release], places: &[usize]) -> bool
     ensures { result ≡ list_any (is_under_way_at rows.now) places.now }
 {
-    for place in places {
-        if is_started_there(rows, *place) {
+    for index in places {
+        if is_started_there(rows, *index) {
             return true;
         }
     }
@@ -54,13 +54,13 @@ pub(crate) fn any_started(rows: &[Release], places: &[usize]) -> bool
 }
 
 /// The handler for which the release waits, if it isn't one of the first so many.
-pub(crate) fn waiting_there(rows: &[Release], earlier: usize, place: usize) -> Option<u8>
-    ensures { result ≡ waiting_handler rows.now earlier place }
+pub(crate) fn waiting_there(rows: &[Release], earlier: usize, index: usize) -> Option<u8>
+    ensures { result ≡ waiting_handler rows.now earlier index }
 {
-    if place < earlier {
+    if index < earlier {
         return None;
     }
-    match rows.get(place) {
+    match rows.get(index) {
         Some(release) => if release.is_waiting() {
             Some(release.handler)
         } else {
@@ -91,42 +91,42 @@ pub(crate) fn push_release(
 }
 
 /// Gives the release another status.
-pub(crate) fn set_status(rows: &mut Vec<Release>, place: usize, status: ReleaseStatus)
-    ensures { rows.new.items ≡ changed (with_status status) place rows.old.items }
+pub(crate) fn set_status(rows: &mut Vec<Release>, index: usize, status: ReleaseStatus)
+    ensures { rows.new.items ≡ changed (with_status status) index rows.old.items }
 {
-    if let Some(release) = rows.get_mut(place) {
+    if let Some(release) = rows.get_mut(index) {
         release.set_status(status);
     }
 }
 
 /// The activity of the release, if it is under way, which then has an empty one.
-pub(crate) fn take_from(rows: &mut Vec<Release>, place: usize, empty: Activity) -> Option<Activity>
+pub(crate) fn take_from(rows: &mut Vec<Release>, index: usize, empty: Activity) -> Option<Activity>
     requires { empty ≡ empty_activity }
-    ensures taken { result ≡ activity_in rows.old.items place }
-    ensures left { rows.new.items ≡ changed emptied_row place rows.old.items }
+    ensures taken { result ≡ activity_in rows.old.items index }
+    ensures left { rows.new.items ≡ changed emptied_row index rows.old.items }
 {
-    match rows.get_mut(place) {
+    match rows.get_mut(index) {
         Some(release) => release.take_activity(empty),
         None => None,
     }
 }
 
 /// Lets the release go if it waits.
-fn drop_there(rows: &mut Vec<Release>, place: usize)
-    ensures { rows.new.items ≡ changed dropped_row place rows.old.items }
+fn drop_there(rows: &mut Vec<Release>, index: usize)
+    ensures { rows.new.items ≡ changed dropped_row index rows.old.items }
 {
-    if let Some(release) = rows.get_mut(place) {
+    if let Some(release) = rows.get_mut(index) {
         release.drop_waiting();
     }
 }
 
 /// Lets those of these releases go that wait.
 pub(crate) fn drop_all(rows: &mut Vec<Release>, places: &[usize])
-    ensures { rows.new.items ≡ fold (λ (some : List StoredRelease) (place : ℕ). changed dropped_row place some)
+    ensures { rows.new.items ≡ fold (λ (some : List StoredRelease) (index : ℕ). changed dropped_row index some)
         rows.old.items places.now }
 {
-    for place in places {
-        drop_there(rows, *place);
+    for index in places {
+        drop_there(rows, *index);
     }
 }
 
@@ -147,13 +147,13 @@ fn tell_release(release: &Release, unit: u64, told: &mut Vec<Event>) -> Result<(
 /// The same of the release at a place.
 fn tell_there(
     rows: &[Release],
-    place: usize,
+    index: usize,
     unit: u64,
     told: &mut Vec<Event>,
 ) -> Result<(), Memory>
-    ensures { OnOk result (told.new.items ≡ told.old.items ++ tell_at rows.now unit place) }
+    ensures { OnOk result (told.new.items ≡ told.old.items ++ tell_at rows.now unit index) }
 {
-    match row_there(rows, place) {
+    match row_there(rows, index) {
         Some(release) => tell_release(release, unit, told),
         None => Ok(()),
     }
@@ -168,8 +168,8 @@ pub(crate) fn tell_all(
 ) -> Result<(), Memory>
     ensures { OnOk result (told.new.items ≡ told.old.items ++ flat_map (tell_at rows.now unit) places.now) }
 {
-    for place in places {
-        tell_there(rows, *place, unit, told)?;
+    for index in places {
+        tell_there(rows, *index, unit, told)?;
     }
     Ok(())
 }
@@ -178,12 +178,12 @@ pub(crate) fn tell_all(
 pub(crate) fn keep_live(rows: &[Release], places: &mut Vec<usize>)
     ensures { places.new.items ≡ filter (is_live_at rows.now) places.old.items }
 {
-    places.retain(|place| is_live_there(rows, *place));
+    places.retain(|index| is_live_there(rows, *index));
 }
 
 /// Takes a place away.
-pub(crate) fn forget(places: &mut Vec<usize>, place: usize)
-    ensures { places.new.items ≡ filter (λ other. not (other == place)) places.old.items }
+pub(crate) fn forget(places: &mut Vec<usize>, index: usize)
+    ensures { places.new.items ≡ filter (λ other. not (other == index)) places.old.items }
 {
-    places.retain(|other| *other != place);
+    places.retain(|other| *other != index);
 }

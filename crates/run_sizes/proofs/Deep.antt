@@ -30,7 +30,7 @@ turn_few : (code : Code) (rows : List ReadingRow) (turn : Turn) (s : State) → 
     FewIf (turn_acts code rows turn s)
 unfolding turn_acts
 turn_few code rows IdleTurn s h = gives_some FewFrames _ h
-turn_few code rows (TurnOf place) s h = few_ref_op code rows s (ReleaseAt place) h
+turn_few code rows (TurnOf index) s h = few_ref_op code rows s (ReleaseAt index) h
 
 chosen_few : (code : Code) (rows : List ReadingRow) (s : State) (turn : Turn) → FewFrames s →
     FewIf (then_try (turn_taken s turn) (turn_acts code rows turn))
@@ -105,9 +105,9 @@ fired_few code s fire h = go (fired_handler code s fire.handler)
     go None = h
     go (Some handler) = few_taken s handler h
 
-fired_at_few : (code : Code) (fires : List Fire) (s : State) (place : ℕ) → FewFrames s →
-    FewAfter (fired_at code fires s place)
-fired_at_few code fires s place h = go (slice_get fires place)
+fired_at_few : (code : Code) (fires : List Fire) (s : State) (index : ℕ) → FewFrames s →
+    FewAfter (fired_at code fires s index)
+fired_at_few code fires s index h = go (slice_get fires index)
   where
     go : (f : Option Fire) → FewAfter (elim f as (λ x. Step) [ None ↦ silently s | Some fire ↦ fired code s fire ])
     go None = h
@@ -127,12 +127,12 @@ unfolding activity_of
 by_job s h TheSequencer activity e =
     let same : s.activity ≡ activity = cc in
     subst (λ (a : Activity). length a.frames ≤ 64) same h.sequencer
-by_job s h (ReleaseAt place) activity e = go (slice_get s.releases place) refl e
+by_job s h (ReleaseAt index) activity e = go (slice_get s.releases index) refl e
   where
-    go : (o : Option Release) → slice_get s.releases place ≡ o → (o >>= (λ r. activity_in r.status)) ≡ Some activity →
+    go : (o : Option Release) → slice_get s.releases index ≡ o → (o >>= (λ r. activity_in r.status)) ≡ Some activity →
         length activity.frames ≤ 64
     go None f q = absurd (cc)
-    go (Some r) f q = rows_got s.releases place r h.releases f activity q
+    go (Some r) f q = rows_got s.releases index r h.releases f activity q
 
 pub few_frames : (code : Code) (plan : Plan) (policy : Policy) (moment : Moment) (s : State) →
     Reached code plan policy moment s → FewFrames s

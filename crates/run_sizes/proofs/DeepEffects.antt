@@ -26,25 +26,25 @@ use Rattle.run_sizes.proofs.DeepSteps.{FewAfter, FewFrames, few_active, few_afte
 
 -- ---- steps
 
-few_called : (code : Code) (s : State) (job : Job) (activity : Activity) (frames : List Frame) (place : Pos)
-    (g : Frame) → FewFrames s → FewAfter (called code s job activity frames place g)
+few_called : (code : Code) (s : State) (job : Job) (activity : Activity) (frames : List Frame) (position : Pos)
+    (g : Frame) → FewFrames s → FewAfter (called code s job activity frames position g)
 unfolding called
-few_called code s job activity frames place g h =
-    few_if (is_full frames) _ _ (λ e. few_fault s job activity place _ h) (λ e.
+few_called code s job activity frames position g h =
+    few_if (is_full frames) _ _ (λ e. few_fault s job activity position _ h) (λ e.
     few_option (ceiling_entered code s g) _ _
     (few_active s job (record activity { frames = g ∷ frames }) h (one_more_frame frames g e)) (λ ceiling.
-    few_if (nat_lt ceiling activity.priority) _ _ (λ f. few_fault s job activity place _ h) (λ f.
+    few_if (nat_lt ceiling activity.priority) _ _ (λ f. few_fault s job activity position _ h) (λ f.
     few_active s job
     (record activity { frames = record g { saved = Some activity.priority } ∷ frames; priority = ceiling }) h
     (one_more_frame frames (record g { saved = Some activity.priority }) e))))
 
-few_opened : (s : State) (job : Job) (activity : Activity) (frames : List Frame) (place : Pos) (g : Frame)
-    (scope bytes : ℕ) → FewFrames s → FewAfter (opened_in s job activity frames place g scope bytes)
+few_opened : (s : State) (job : Job) (activity : Activity) (frames : List Frame) (position : Pos) (g : Frame)
+    (scope bytes : ℕ) → FewFrames s → FewAfter (opened_in s job activity frames position g scope bytes)
 unfolding opened_in
-few_opened s job activity frames place g scope bytes h =
-    few_if (is_some (area_with_scope s scope activity.areas)) _ _ (λ e. few_fault s job activity place _ h) (λ e.
-    few_if (is_full frames) _ _ (λ f. few_fault s job activity place _ h) (λ f.
-    few_opening s job activity place scope (Some g.area) bytes _ h (λ t a k.
+few_opened s job activity frames position g scope bytes h =
+    few_if (is_some (area_with_scope s scope activity.areas)) _ _ (λ e. few_fault s job activity position _ h) (λ e.
+    few_if (is_full frames) _ _ (λ f. few_fault s job activity position _ h) (λ f.
+    few_opening s job activity position scope (Some g.area) bytes _ h (λ t a k.
     few_active t job
     (record activity { frames = record g { area = a; opened = Some a } ∷ frames; areas = a ∷ activity.areas }) k
     (one_more_frame frames (record g { area = a; opened = Some a }) f))))
@@ -94,13 +94,13 @@ few_asked s r h =
     (λ f. record { sequencer = h.sequencer; releases = h.releases }))
     (λ e. record { sequencer = h.sequencer; releases = h.releases })
 
-few_registered : (code : Code) (s : State) (job : Job) (activity : Activity) (place : Pos) (r : ℕ) (o : Object)
-    (after : State) → FewFrames s → FewFrames after → FewAfter (registered code s job activity place r o after)
+few_registered : (code : Code) (s : State) (job : Job) (activity : Activity) (position : Pos) (r : ℕ) (o : Object)
+    (after : State) → FewFrames s → FewFrames after → FewAfter (registered code s job activity position r o after)
 unfolding registered
-few_registered code s job activity place r o after h k =
-    few_if (not (is_init s.phase)) _ _ (λ e. few_fault s job activity place _ h) (λ e.
+few_registered code s job activity position r o after h k =
+    few_if (not (is_init s.phase)) _ _ (λ e. few_fault s job activity position _ h) (λ e.
     few_if (is_some (handler_number s.registry r)) _ _ (λ f. k) (λ f.
-    few_if (not (nat_lt (length s.registry) most_handlers)) _ _ (λ g. few_fault s job activity place _ h) (λ g.
+    few_if (not (nat_lt (length s.registry) most_handlers)) _ _ (λ g. few_fault s job activity position _ h) (λ g.
     record { sequencer = k.sequencer; releases = k.releases })))
 
 -- ---- steps that may have no result
@@ -125,54 +125,54 @@ few_either true x y h k = h
 few_either false x y h k = k
 
 -- an effect of the highest frame of a job that has so many below it
-few_applied : (code : Code) (s : State) (job : Job) (activity : Activity) (below : List Frame) (place : Pos)
-    (effect : Effect) → FewFrames s → length below < 64 → FewIf (applied code s job activity below place effect)
+few_applied : (code : Code) (s : State) (job : Job) (activity : Activity) (below : List Frame) (position : Pos)
+    (effect : Effect) → FewFrames s → length below < 64 → FewIf (applied code s job activity below position effect)
 unfolding applied
-few_applied code s job activity below place (Goes f) h few =
+few_applied code s job activity below position (Goes f) h few =
     gives_some FewFrames _ (few_framed s job activity f below h few)
-few_applied code s job activity below place (Prints f label value) h few =
+few_applied code s job activity below position (Prints f label value) h few =
     gives_some FewFrames _ (few_framed s job activity f below h few)
-few_applied code s job activity below place (Makes f class slots) h few =
+few_applied code s job activity below position (Makes f class slots) h few =
     gives_some FewFrames _
-    (few_allocating s job activity place class f.area slots _ h (λ t r k.
+    (few_allocating s job activity position class f.area slots _ h (λ t r k.
     few_framed t job activity (record f { operands = At r ∷ f.operands }) below k few))
-few_applied code s job activity below place (Stores f r slot value) h few =
+few_applied code s job activity below position (Stores f r slot value) h few =
     gives_some FewFrames _
     (few_framed (with_slot s r slot value) job activity f below
     (record { sequencer = h.sequencer; releases = h.releases }) few)
-few_applied code s job activity below place (StoresStatic f k value) h few =
+few_applied code s job activity below position (StoresStatic f k value) h few =
     gives_some FewFrames _
     (few_framed (record s { statics = slice_set s.statics k value }) job activity f below
     (record { sequencer = h.sequencer; releases = h.releases }) few)
-few_applied code s job activity below place (SetsHidden f r values) h few =
+few_applied code s job activity below position (SetsHidden f r values) h few =
     gives_some FewFrames _
     (few_framed (record s { objects = changed (with_first values) r s.objects }) job activity f below
     (record { sequencer = h.sequencer; releases = h.releases }) few)
-few_applied code s job activity below place (SetsCeiling f r ceiling) h few =
+few_applied code s job activity below position (SetsCeiling f r ceiling) h few =
     few_either (is_sequencer job) _ _
     (gives_some FewFrames _
     (few_framed (record s { objects = changed (with_ceiling ceiling) r s.objects }) job activity f below
     (record { sequencer = h.sequencer; releases = h.releases }) few))
-    (gives_some FewFrames _ (few_fault s job activity place _ h))
-few_applied code s job activity below place (Calls f g) h few =
-    gives_some FewFrames _ (few_called code s job activity (f ∷ below) place g h)
-few_applied code s job activity below place (Opens f g scope bytes) h few =
-    gives_some FewFrames _ (few_opened s job activity (f ∷ below) place g scope bytes h)
-few_applied code s job activity below place (Leaves f value) h few =
+    (gives_some FewFrames _ (few_fault s job activity position _ h))
+few_applied code s job activity below position (Calls f g) h few =
+    gives_some FewFrames _ (few_called code s job activity (f ∷ below) position g h)
+few_applied code s job activity below position (Opens f g scope bytes) h few =
+    gives_some FewFrames _ (few_opened s job activity (f ∷ below) position g scope bytes h)
+few_applied code s job activity below position (Leaves f value) h few =
     gives_some FewFrames _ (few_left s job activity f below value h few)
-few_applied code s job activity below place (AsksRegistration f r) h few =
+few_applied code s job activity below position (AsksRegistration f r) h few =
     few_mapped (object_at s r) _ (λ o.
-    few_registered code s job activity place r o (with_frame s job activity f below) h
+    few_registered code s job activity position r o (with_frame s job activity f below) h
     (few_framed s job activity f below h few))
-few_applied code s job activity below place (AsksRelease f r) h few =
+few_applied code s job activity below position (AsksRelease f r) h few =
     gives_some FewFrames _
     (few_released (with_frame s job activity f below) r (few_framed s job activity f below h few))
-few_applied code s job activity below place (AsksTermination f r) h few =
+few_applied code s job activity below position (AsksTermination f r) h few =
     gives_some FewFrames _
     (few_asked (with_frame s job activity f below) r (few_framed s job activity f below h few))
-few_applied code s job activity below place (Faults fault) h few =
-    gives_some FewFrames _ (few_fault s job activity place fault h)
-few_applied code s job activity below place Stuck h few = no_step
+few_applied code s job activity below position (Faults fault) h few =
+    gives_some FewFrames _ (few_fault s job activity position fault h)
+few_applied code s job activity below position Stuck h few = no_step
 
 -- ---- operations of jobs
 
@@ -201,31 +201,31 @@ few_frame code rows s job activity h few = go activity.frames few
     go [] k = no_step
     go (f ∷ below) k = act f below f.rest (omega (arith, k))
 
-few_start : (code : Code) (s : State) (place : ℕ) (r : Release) → FewFrames s → FewIf (start_op code s place r)
+few_start : (code : Code) (s : State) (index : ℕ) (r : Release) → FewFrames s → FewIf (start_op code s index r)
 unfolding start_op started_with
-few_start code s place r h =
+few_start code s index r h =
     few_bind (handler_row s.registry r.handler) _ (λ row e.
     few_bind (defined_by_chain code.program row.class) _ (λ scope f.
     few_bind (body_named code.program row.class (codes "handleAsyncEvent")) _ (λ body g.
     gives_some FewFrames _
-    (few_opening s (ReleaseAt place) no_activity (class_place code.program row.class) scope
-    (innermost s.activity.areas) row.bytes _ h (λ t a k. few_first t (ReleaseAt place) _ _ _ k)))))
+    (few_opening s (ReleaseAt index) no_activity (class_place code.program row.class) scope
+    (innermost s.activity.areas) row.bytes _ h (λ t a k. few_first t (ReleaseAt index) _ _ _ k)))))
 
-few_release : (code : Code) (rows : List ReadingRow) (s : State) (place : ℕ) (r : Release) → FewFrames s →
+few_release : (code : Code) (rows : List ReadingRow) (s : State) (index : ℕ) (r : Release) → FewFrames s →
     ((a : Activity) → activity_in r.status ≡ Some a → length a.frames ≤ 64) →
-    FewIf (release_op_of code rows s place r)
+    FewIf (release_op_of code rows s index r)
 unfolding release_op_of activity_in
-few_release code rows s place r h k = go r.status k
+few_release code rows s index r h k = go r.status k
   where
     go : (p : ReleaseStatus) → ((a : Activity) → activity_in p ≡ Some a → length a.frames ≤ 64) →
         FewIf (elim p [
-          | Waits ↦ start_op code s place r
-          | Started activity ↦ frame_op code rows s (ReleaseAt place) activity
+          | Waits ↦ start_op code s index r
+          | Started activity ↦ frame_op code rows s (ReleaseAt index) activity
           | Ended ↦ None
           | Dropped ↦ None
         ])
-    go Waits k = few_start code s place r h
-    go (Started activity) k = few_frame code rows s (ReleaseAt place) activity h (k activity refl)
+    go Waits k = few_start code s index r h
+    go (Started activity) k = few_frame code rows s (ReleaseAt index) activity h (k activity refl)
     go Ended k = no_step
     go Dropped k = no_step
 
@@ -240,17 +240,17 @@ few_method code s r name h =
     few_bind (object_at s r) _ (λ o e.
     few_bind (body_named code.program o.class name) _ (λ body f. few_body code s r body h))
 
-few_area : (s : State) (place : Pos) (scope bytes : ℕ) → FewFrames s → FewAfter (area_opened s place scope bytes)
+few_area : (s : State) (position : Pos) (scope bytes : ℕ) → FewFrames s → FewAfter (area_opened s position scope bytes)
 unfolding area_opened
-few_area s place scope bytes h =
-    few_opening s TheSequencer s.activity place scope (innermost s.activity.areas) bytes _ h
+few_area s position scope bytes h =
+    few_opening s TheSequencer s.activity position scope (innermost s.activity.areas) bytes _ h
     (λ t a k. record { sequencer = h.sequencer; releases = k.releases })
 
-few_safelet : (code : Code) (s : State) (place : Pos) (class area : ℕ) → FewFrames s →
-    FewAfter (safelet_made code s place class area)
+few_safelet : (code : Code) (s : State) (position : Pos) (class area : ℕ) → FewFrames s →
+    FewAfter (safelet_made code s position class area)
 unfolding safelet_made
-few_safelet code s place class area h =
-    few_allocating s TheSequencer s.activity place class area (new_slots code.program class) _ h
+few_safelet code s position class area h =
+    few_allocating s TheSequencer s.activity position class area (new_slots code.program class) _ h
     (λ t r k. record { sequencer = k.sequencer; releases = k.releases })
 
 few_sequencer_op : (code : Code) (s : State) (op : SeqOp) → FewFrames s → FewIf (sequencer_op code s op)

@@ -126,11 +126,11 @@ few_ended_at : (s : State) (n : ℕ) → FewFrames s →
 few_ended_at s n h =
     rows_changed (λ (r : Release). record r { status = Ended }) n s.releases h.releases (λ r. row_ended r)
 
-pub few_fault : (s : State) (job : Job) (activity : Activity) (place : Pos) (fault : RunFault) → FewFrames s →
-    FewAfter (fault_in s job activity place fault)
+pub few_fault : (s : State) (job : Job) (activity : Activity) (position : Pos) (fault : RunFault) → FewFrames s →
+    FewAfter (fault_in s job activity position fault)
 unfolding fault_in
-few_fault s TheSequencer activity place fault h = record { sequencer = h.sequencer; releases = h.releases }
-few_fault s (ReleaseAt n) activity place fault h =
+few_fault s TheSequencer activity position fault h = record { sequencer = h.sequencer; releases = h.releases }
+few_fault s (ReleaseAt n) activity position fault h =
     let k : FewFrames (closed_all s activity.frames) = few_closed_all s activity.frames h in
     record { sequencer = k.sequencer; releases = few_ended_at (closed_all s activity.frames) n k }
 
@@ -144,26 +144,26 @@ few_job_ended s (ReleaseAt n) activity value h few =
 pub few_after_close : (s : State) (a : Option ℕ) → FewFrames s → FewFrames (closed s a)
 few_after_close s a h = few_closed s a h
 
-pub few_opening : (s : State) (job : Job) (activity : Activity) (place : Pos) (scope : ℕ) (parent : Option ℕ)
+pub few_opening : (s : State) (job : Job) (activity : Activity) (position : Pos) (scope : ℕ) (parent : Option ℕ)
     (bytes : ℕ) (next : State → ℕ → Step) → FewFrames s →
     ((t : State) (a : ℕ) → FewFrames t → FewAfter (next t a)) →
-    FewAfter (opening s job activity place scope parent bytes next)
+    FewAfter (opening s job activity position scope parent bytes next)
 unfolding opening
-few_opening s job activity place scope parent bytes next h k =
+few_opening s job activity position scope parent bytes next h k =
     few_if (has_store_for s bytes) _ _
     (λ e. k (with_area s scope parent bytes) (length s.areas)
     (record { sequencer = h.sequencer; releases = h.releases }))
-    (λ e. few_fault s job activity place _ h)
+    (λ e. few_fault s job activity position _ h)
 
-pub few_allocating : (s : State) (job : Job) (activity : Activity) (place : Pos) (class area : ℕ) (slots : List Value)
+pub few_allocating : (s : State) (job : Job) (activity : Activity) (position : Pos) (class area : ℕ) (slots : List Value)
     (next : State → ℕ → Step) → FewFrames s → ((t : State) (r : ℕ) → FewFrames t → FewAfter (next t r)) →
-    FewAfter (allocating s job activity place class area slots next)
+    FewAfter (allocating s job activity position class area slots next)
 unfolding allocating
-few_allocating s job activity place class area slots next h k =
+few_allocating s job activity position class area slots next h k =
     few_if (has_room s area (length slots)) _ _
     (λ e. k (with_object s class area slots) (length s.objects)
     (record { sequencer = h.sequencer; releases = h.releases }))
-    (λ e. few_fault s job activity place _ h)
+    (λ e. few_fault s job activity position _ h)
 
 -- frames that aren't full have room for one more
 pub one_more_frame : (frames : List Frame) (g : Frame) → is_full frames ≡ false → length (g ∷ frames) ≤ 64

@@ -46,13 +46,13 @@ pub grows_option : {A : Type 0} (more : ℕ) (s : State) (o : Option A) (x : Ste
 grows_option more s None x f g h = g
 grows_option more s (Some a) x f g h = h a
 
-pub length_changed : {A : Type 0} (f : A → A) (place : ℕ) (xs : List A) → length (changed f place xs) ≡ length xs
-length_changed {A} f place xs = go (slice_get xs place)
+pub length_changed : {A : Type 0} (f : A → A) (index : ℕ) (xs : List A) → length (changed f index xs) ≡ length xs
+length_changed {A} f index xs = go (slice_get xs index)
   where
     go : (o : Option A) →
-        length (elim o as (λ z. List A) [ None ↦ xs | Some y ↦ slice_set xs place (f y) ]) ≡ length xs
+        length (elim o as (λ z. List A) [ None ↦ xs | Some y ↦ slice_set xs index (f y) ]) ≡ length xs
     go None = refl
-    go (Some y) = length-set xs place (f y)
+    go (Some y) = length-set xs index (f y)
 
 -- ---- what makes nothing
 
@@ -73,17 +73,17 @@ grows_closed_all s [] = unchanged s s refl refl
 grows_closed_all s (f ∷ fs) =
     then_grows 0 s (closed s f.opened) _ (grows_closed s f.opened) (grows_closed_all (closed s f.opened) fs)
 
-pub grows_fault : (s : State) (job : Job) (activity : Activity) (place : Pos) (fault : RunFault) →
-    GrowsTo 0 s (fault_in s job activity place fault)
+pub grows_fault : (s : State) (job : Job) (activity : Activity) (position : Pos) (fault : RunFault) →
+    GrowsTo 0 s (fault_in s job activity position fault)
 unfolding fault_in
-grows_fault s TheSequencer activity place fault = unchanged s _ refl refl
-grows_fault s (ReleaseAt n) activity place fault =
+grows_fault s TheSequencer activity position fault = unchanged s _ refl refl
+grows_fault s (ReleaseAt n) activity position fault =
     grows_then 0 s (closed_all s activity.frames) _ (grows_closed_all s activity.frames)
     (unchanged (closed_all s activity.frames) _ refl refl)
 
-pub faulted : (s : State) (job : Job) (activity : Activity) (place : Pos) (fault : RunFault) →
-    GrowsTo 1 s (fault_in s job activity place fault)
-faulted s job activity place fault = by_one s _ (grows_fault s job activity place fault)
+pub faulted : (s : State) (job : Job) (activity : Activity) (position : Pos) (fault : RunFault) →
+    GrowsTo 1 s (fault_in s job activity position fault)
+faulted s job activity position fault = by_one s _ (grows_fault s job activity position fault)
 
 pub grows_ended : (s : State) (job : Job) (activity : Activity) (value : Option Value) →
     GrowsTo 0 s (job_ended s job activity value)
@@ -93,13 +93,13 @@ grows_ended s (ReleaseAt n) activity value = unchanged s _ refl refl
 
 -- ---- effects
 
-pub grows_called : (code : Code) (s : State) (job : Job) (activity : Activity) (frames : List Frame) (place : Pos)
-    (g : Frame) → GrowsTo 0 s (called code s job activity frames place g)
+pub grows_called : (code : Code) (s : State) (job : Job) (activity : Activity) (frames : List Frame) (position : Pos)
+    (g : Frame) → GrowsTo 0 s (called code s job activity frames position g)
 unfolding called
-grows_called code s job activity frames place g =
-    grows_if 0 s (is_full frames) _ _ (grows_fault s job activity place _)
+grows_called code s job activity frames position g =
+    grows_if 0 s (is_full frames) _ _ (grows_fault s job activity position _)
     (grows_option 0 s (ceiling_entered code s g) _ _ (grows_active s job _)
-    (λ ceiling. grows_if 0 s (nat_lt ceiling activity.priority) _ _ (grows_fault s job activity place _)
+    (λ ceiling. grows_if 0 s (nat_lt ceiling activity.priority) _ _ (grows_fault s job activity position _)
     (grows_active s job _)))
 
 one_area : (s : State) (scope : ℕ) (parent : Option ℕ) (bytes : ℕ) → Grows 1 s (with_area s scope parent bytes)
@@ -120,33 +120,33 @@ one_object s class area slots =
       areas = omega arith;
     }
 
-pub grows_opening : (s : State) (job : Job) (activity : Activity) (place : Pos) (scope : ℕ) (parent : Option ℕ) (bytes : ℕ)
+pub grows_opening : (s : State) (job : Job) (activity : Activity) (position : Pos) (scope : ℕ) (parent : Option ℕ) (bytes : ℕ)
     (next : State → ℕ → Step) → ((t : State) (a : ℕ) → GrowsTo 0 t (next t a)) →
-    GrowsTo 1 s (opening s job activity place scope parent bytes next)
+    GrowsTo 1 s (opening s job activity position scope parent bytes next)
 unfolding opening
-grows_opening s job activity place scope parent bytes next h =
+grows_opening s job activity position scope parent bytes next h =
     grows_if 1 s (has_store_for s bytes) _ _
     (grows_then 1 s (with_area s scope parent bytes) _ (one_area s scope parent bytes)
     (h (with_area s scope parent bytes) (length s.areas)))
-    (faulted s job activity place _)
+    (faulted s job activity position _)
 
-pub grows_allocating : (s : State) (job : Job) (activity : Activity) (place : Pos) (class area : ℕ) (slots : List Value)
+pub grows_allocating : (s : State) (job : Job) (activity : Activity) (position : Pos) (class area : ℕ) (slots : List Value)
     (next : State → ℕ → Step) → ((t : State) (r : ℕ) → GrowsTo 0 t (next t r)) →
-    GrowsTo 1 s (allocating s job activity place class area slots next)
+    GrowsTo 1 s (allocating s job activity position class area slots next)
 unfolding allocating
-grows_allocating s job activity place class area slots next h =
+grows_allocating s job activity position class area slots next h =
     grows_if 1 s (has_room s area (length slots)) _ _
     (grows_then 1 s (with_object s class area slots) _ (one_object s class area slots)
     (h (with_object s class area slots) (length s.objects)))
-    (faulted s job activity place _)
+    (faulted s job activity position _)
 
-pub grows_opened : (s : State) (job : Job) (activity : Activity) (frames : List Frame) (place : Pos) (g : Frame)
-    (scope bytes : ℕ) → GrowsTo 1 s (opened_in s job activity frames place g scope bytes)
+pub grows_opened : (s : State) (job : Job) (activity : Activity) (frames : List Frame) (position : Pos) (g : Frame)
+    (scope bytes : ℕ) → GrowsTo 1 s (opened_in s job activity frames position g scope bytes)
 unfolding opened_in
-grows_opened s job activity frames place g scope bytes =
-    grows_if 1 s (is_some (area_with_scope s scope activity.areas)) _ _ (faulted s job activity place _)
-    (grows_if 1 s (is_full frames) _ _ (faulted s job activity place _)
-    (grows_opening s job activity place scope (Some g.area) bytes _ (λ t a. grows_active t job _)))
+grows_opened s job activity frames position g scope bytes =
+    grows_if 1 s (is_some (area_with_scope s scope activity.areas)) _ _ (faulted s job activity position _)
+    (grows_if 1 s (is_full frames) _ _ (faulted s job activity position _)
+    (grows_opening s job activity position scope (Some g.area) bytes _ (λ t a. grows_active t job _)))
 
 pub grows_left : (s : State) (job : Job) (activity : Activity) (f : Frame) (below : List Frame) (value : Option Value) →
     GrowsTo 0 s (frame_left s job activity f below value)
@@ -183,11 +183,11 @@ grows_asked s r =
     (grows_if 0 s (is_exec s.phase) _ _ (unchanged s _ refl refl) (unchanged s _ refl refl))
     (unchanged s _ refl refl)
 
-pub grows_registered : (code : Code) (s : State) (job : Job) (activity : Activity) (place : Pos) (r : ℕ) (o : Object)
-    (after : State) → Grows 0 s after → GrowsTo 0 s (registered code s job activity place r o after)
+pub grows_registered : (code : Code) (s : State) (job : Job) (activity : Activity) (position : Pos) (r : ℕ) (o : Object)
+    (after : State) → Grows 0 s after → GrowsTo 0 s (registered code s job activity position r o after)
 unfolding registered
-grows_registered code s job activity place r o after g =
-    grows_if 0 s (not (is_init s.phase)) _ _ (grows_fault s job activity place _)
+grows_registered code s job activity position r o after g =
+    grows_if 0 s (not (is_init s.phase)) _ _ (grows_fault s job activity position _)
     (grows_if 0 s (is_some (handler_number s.registry r)) _ _ g
-    (grows_if 0 s (not (nat_lt (length s.registry) most_handlers)) _ _ (grows_fault s job activity place _)
+    (grows_if 0 s (not (nat_lt (length s.registry) most_handlers)) _ _ (grows_fault s job activity position _)
     (grows_then 0 s after _ g (unchanged after _ refl refl))))

@@ -47,53 +47,53 @@ pub either_grows : (more : ℕ) (s : State) (b : Bool) (x y : Option Step) → G
 either_grows more s true x y g h = g
 either_grows more s false x y g h = h
 
-grows_applied : (code : Code) (s : State) (job : Job) (activity : Activity) (below : List Frame) (place : Pos)
-    (effect : Effect) → GrowsIf 1 s (applied code s job activity below place effect)
+grows_applied : (code : Code) (s : State) (job : Job) (activity : Activity) (below : List Frame) (position : Pos)
+    (effect : Effect) → GrowsIf 1 s (applied code s job activity below position effect)
 unfolding applied
-grows_applied code s job activity below place (Goes f) = some_grows 1 s _ (by_one s _ (grows_active s job _))
-grows_applied code s job activity below place (Prints f label value) =
+grows_applied code s job activity below position (Goes f) = some_grows 1 s _ (by_one s _ (grows_active s job _))
+grows_applied code s job activity below position (Prints f label value) =
     some_grows 1 s _ (by_one s _ (grows_active s job _))
-grows_applied code s job activity below place (Makes f class slots) =
+grows_applied code s job activity below position (Makes f class slots) =
     some_grows 1 s _
-    (grows_allocating s job activity place class f.area slots _ (λ t r. grows_active t job _))
-grows_applied code s job activity below place (Stores f r slot value) =
+    (grows_allocating s job activity position class f.area slots _ (λ t r. grows_active t job _))
+grows_applied code s job activity below position (Stores f r slot value) =
     some_grows 1 s _
     (by_one s _ (then_grows 0 s _ _ (unchanged s _
     (length_changed (λ (o : Object). record o { slots = slice_set o.slots slot value }) r s.objects) refl)
     (grows_active _ job _)))
-grows_applied code s job activity below place (StoresStatic f k value) =
+grows_applied code s job activity below position (StoresStatic f k value) =
     some_grows 1 s _ (by_one s _ (then_grows 0 s _ _ (unchanged s _ refl refl) (grows_active _ job _)))
-grows_applied code s job activity below place (SetsHidden f r values) =
+grows_applied code s job activity below position (SetsHidden f r values) =
     some_grows 1 s _
     (by_one s _ (then_grows 0 s _ _ (unchanged s _ (length_changed (with_first values) r s.objects) refl)
     (grows_active _ job _)))
-grows_applied code s job activity below place (SetsCeiling f r ceiling) =
+grows_applied code s job activity below position (SetsCeiling f r ceiling) =
     either_grows 1 s (is_sequencer job) _ _
     (some_grows 1 s _
     (by_one s _ (then_grows 0 s _ _ (unchanged s _ (length_changed (with_ceiling ceiling) r s.objects) refl)
     (grows_active _ job _))))
-    (some_grows 1 s _ (faulted s job activity place _))
-grows_applied code s job activity below place (Calls f g) =
-    some_grows 1 s _ (by_one s _ (grows_called code s job activity (f ∷ below) place g))
-grows_applied code s job activity below place (Opens f g scope bytes) =
-    some_grows 1 s _ (grows_opened s job activity (f ∷ below) place g scope bytes)
-grows_applied code s job activity below place (Leaves f value) =
+    (some_grows 1 s _ (faulted s job activity position _))
+grows_applied code s job activity below position (Calls f g) =
+    some_grows 1 s _ (by_one s _ (grows_called code s job activity (f ∷ below) position g))
+grows_applied code s job activity below position (Opens f g scope bytes) =
+    some_grows 1 s _ (grows_opened s job activity (f ∷ below) position g scope bytes)
+grows_applied code s job activity below position (Leaves f value) =
     some_grows 1 s _ (by_one s _ (grows_left s job activity f below value))
-grows_applied code s job activity below place (AsksRegistration f r) =
+grows_applied code s job activity below position (AsksRegistration f r) =
     mapped_grows 1 s (object_at s r) _ (λ o.
-    by_one s _ (grows_registered code s job activity place r o (with_frame s job activity f below)
+    by_one s _ (grows_registered code s job activity position r o (with_frame s job activity f below)
     (grows_active s job _)))
-grows_applied code s job activity below place (AsksRelease f r) =
+grows_applied code s job activity below position (AsksRelease f r) =
     some_grows 1 s _
     (by_one s _ (then_grows 0 s (with_frame s job activity f below) _ (grows_active s job _)
     (grows_released (with_frame s job activity f below) r)))
-grows_applied code s job activity below place (AsksTermination f r) =
+grows_applied code s job activity below position (AsksTermination f r) =
     some_grows 1 s _
     (by_one s _ (then_grows 0 s (with_frame s job activity f below) _ (grows_active s job _)
     (grows_asked (with_frame s job activity f below) r)))
-grows_applied code s job activity below place (Faults fault) =
-    some_grows 1 s _ (faulted s job activity place fault)
-grows_applied code s job activity below place Stuck = none_grows 1 s
+grows_applied code s job activity below position (Faults fault) =
+    some_grows 1 s _ (faulted s job activity position fault)
+grows_applied code s job activity below position Stuck = none_grows 1 s
 
 -- ---- operations of jobs
 
@@ -122,30 +122,30 @@ grows_frame code rows s job activity = go activity.frames
     go [] = none_grows 1 s
     go (f ∷ below) = act f below f.rest
 
-grows_start : (code : Code) (s : State) (place : ℕ) (r : Release) → GrowsIf 1 s (start_op code s place r)
+grows_start : (code : Code) (s : State) (index : ℕ) (r : Release) → GrowsIf 1 s (start_op code s index r)
 unfolding start_op started_with
-grows_start code s place r =
+grows_start code s index r =
     bind_grows 1 s (handler_row s.registry r.handler) _ (λ row.
     bind_grows 1 s (defined_by_chain code.program row.class) _ (λ scope.
     bind_grows 1 s (body_named code.program row.class (codes "handleAsyncEvent")) _ (λ body.
     some_grows 1 s _
-    (grows_opening s (ReleaseAt place) no_activity (class_place code.program row.class) scope
-    (innermost s.activity.areas) row.bytes _ (λ t a. grows_active t (ReleaseAt place) _)))))
+    (grows_opening s (ReleaseAt index) no_activity (class_place code.program row.class) scope
+    (innermost s.activity.areas) row.bytes _ (λ t a. grows_active t (ReleaseAt index) _)))))
 
-grows_release : (code : Code) (rows : List ReadingRow) (s : State) (place : ℕ) (r : Release) →
-    GrowsIf 1 s (release_op_of code rows s place r)
+grows_release : (code : Code) (rows : List ReadingRow) (s : State) (index : ℕ) (r : Release) →
+    GrowsIf 1 s (release_op_of code rows s index r)
 unfolding release_op_of
-grows_release code rows s place r = go r.status
+grows_release code rows s index r = go r.status
   where
     go : (p : ReleaseStatus) →
         GrowsIf 1 s (elim p [
-          | Waits ↦ start_op code s place r
-          | Started activity ↦ frame_op code rows s (ReleaseAt place) activity
+          | Waits ↦ start_op code s index r
+          | Started activity ↦ frame_op code rows s (ReleaseAt index) activity
           | Ended ↦ None
           | Dropped ↦ None
         ])
-    go Waits = grows_start code s place r
-    go (Started activity) = grows_frame code rows s (ReleaseAt place) activity
+    go Waits = grows_start code s index r
+    go (Started activity) = grows_frame code rows s (ReleaseAt index) activity
     go Ended = none_grows 1 s
     go Dropped = none_grows 1 s
 
@@ -160,17 +160,17 @@ grows_method code s r name =
     bind_grows 1 s (object_at s r) _ (λ o.
     bind_grows 1 s (body_named code.program o.class name) _ (λ body. grows_body code s r body))
 
-grows_area : (s : State) (place : Pos) (scope bytes : ℕ) → GrowsTo 1 s (area_opened s place scope bytes)
+grows_area : (s : State) (position : Pos) (scope bytes : ℕ) → GrowsTo 1 s (area_opened s position scope bytes)
 unfolding area_opened
-grows_area s place scope bytes =
-    grows_opening s TheSequencer s.activity place scope (innermost s.activity.areas) bytes _
+grows_area s position scope bytes =
+    grows_opening s TheSequencer s.activity position scope (innermost s.activity.areas) bytes _
     (λ t a. unchanged t _ refl refl)
 
-grows_safelet : (code : Code) (s : State) (place : Pos) (class area : ℕ) →
-    GrowsTo 1 s (safelet_made code s place class area)
+grows_safelet : (code : Code) (s : State) (position : Pos) (class area : ℕ) →
+    GrowsTo 1 s (safelet_made code s position class area)
 unfolding safelet_made
-grows_safelet code s place class area =
-    grows_allocating s TheSequencer s.activity place class area (new_slots code.program class) _
+grows_safelet code s position class area =
+    grows_allocating s TheSequencer s.activity position class area (new_slots code.program class) _
     (λ t r. unchanged t _ refl refl)
 
 grows_sequencer_op : (code : Code) (s : State) (op : SeqOp) → GrowsIf 1 s (sequencer_op code s op)

@@ -35,7 +35,7 @@ turn_grows : (code : Code) (rows : List ReadingRow) (turn : Turn) (s : State) �
     GrowsIf 1 s (turn_acts code rows turn s)
 unfolding turn_acts
 turn_grows code rows IdleTurn s = some_grows 1 s _ (by_one s _ (unchanged s _ refl refl))
-turn_grows code rows (TurnOf place) s = grows_ref_op code rows s (ReleaseAt place)
+turn_grows code rows (TurnOf index) s = grows_ref_op code rows s (ReleaseAt index)
 
 chosen_grows : (code : Code) (rows : List ReadingRow) (s : State) (turn : Turn) →
     GrowsIf 1 s (then_try (turn_taken s turn) (turn_acts code rows turn))
@@ -113,8 +113,8 @@ fired_grows code s fire = go (fired_handler code s fire.handler)
     go None = unchanged s _ refl refl
     go (Some handler) = grows_taken s handler
 
-fired_at_grows : (code : Code) (fires : List Fire) (s : State) (place : ℕ) → GrowsTo 0 s (fired_at code fires s place)
-fired_at_grows code fires s place = go (slice_get fires place)
+fired_at_grows : (code : Code) (fires : List Fire) (s : State) (index : ℕ) → GrowsTo 0 s (fired_at code fires s index)
+fired_at_grows code fires s index = go (slice_get fires index)
   where
     go : (f : Option Fire) → GrowsTo 0 s (elim f as (λ x. Step) [ None ↦ silently s | Some fire ↦ fired code s fire ])
     go None = unchanged s _ refl refl

@@ -13,35 +13,35 @@ use Rattle.scj_model.specs.Steps.{Step, allocating, closed_all, fault_in, of_rel
 use Rattle.scj_model.specs.Effects.{Effect, Goes, Prints, Makes, Stores, StoresStatic, SetsHidden, SetsCeiling, Calls, Opens, Leaves, AsksRegistration, AsksRelease, AsksTermination, Faults, Stuck}
 use Rattle.scj_model.specs.Apply.{applied, called, ceiling_entered, frame_left, is_full, opened_in, registered, tell_priority, with_frame}
 
-module _ (code : Code) (s : State) (job : Job) (activity : Activity) (below : List Frame) (place : Pos) where
+module _ (code : Code) (s : State) (job : Job) (activity : Activity) (below : List Frame) (position : Pos) where
   abbrev pub topped : Frame → Activity
   topped f = record activity { frames = f ∷ below }
 
   fault_alike : (f g : Frame) (fault : RunFault) → f.opened ≡ g.opened →
-      fault_in s job (topped f) place fault ≡ fault_in s job (topped g) place fault
+      fault_in s job (topped f) position fault ≡ fault_in s job (topped g) position fault
   unfolding fault_in closed_all
   fault_alike f g fault e = go job
     where
-      go : (j : Job) → fault_in s j (topped f) place fault ≡ fault_in s j (topped g) place fault
+      go : (j : Job) → fault_in s j (topped f) position fault ≡ fault_in s j (topped g) position fault
       go TheSequencer = refl
       go (ReleaseAt n) =
           ap (λ (o : Option ℕ). telling (with_status (closed_all (closed s o) below) n Ended)
-          (Fault s.unit fault place ∷ of_release s (ReleaseAt n) (λ (r : Release). End s.unit r.handler r.number ∷ [])))
+          (Fault s.unit fault position ∷ of_release s (ReleaseAt n) (λ (r : Release). End s.unit r.handler r.number ∷ [])))
           e
 
   registered_alike : (f g : Frame) (r : ℕ) (o : Object) (after : State) → f.opened ≡ g.opened →
-      registered code s job (topped f) place r o after ≡ registered code s job (topped g) place r o after
+      registered code s job (topped f) position r o after ≡ registered code s job (topped g) position r o after
   unfolding registered
   registered_alike f g r o after e =
       rw (fault_alike f g NotInitializing e, fault_alike f g TooManyHandlers e) refl
 
   abbrev called_by : Frame → Frame → Activity → Option ℕ → Step
   called_by h k a found =
-      if is_full (h ∷ below) then fault_in s job a place DepthFull
+      if is_full (h ∷ below) then fault_in s job a position DepthFull
       else (elim found [
         | None ↦ silently (with_activity s job (record a { frames = k ∷ h ∷ below }))
         | Some ceiling ↦
-            if nat_lt ceiling a.priority then fault_in s job a place CeilingViolation
+            if nat_lt ceiling a.priority then fault_in s job a position CeilingViolation
             else telling
             (with_activity s job (record a {
               frames = record k { saved = Some a.priority } ∷ h ∷ below;
@@ -57,7 +57,7 @@ module _ (code : Code) (s : State) (job : Job) (activity : Activity) (below : Li
       rw (fault_alike f g DepthFull e, fault_alike f g CeilingViolation e) refl
 
   pub applied_alike : (f g : Frame) → f.opened ≡ g.opened → (effect : Effect) →
-      applied code s job (topped f) below place effect ≡ applied code s job (topped g) below place effect
+      applied code s job (topped f) below position effect ≡ applied code s job (topped g) below position effect
   unfolding applied allocating called opened_in opening frame_left
   applied_alike f g e (Goes h) = refl
   applied_alike f g e (Prints h label value) = refl
@@ -74,8 +74,8 @@ module _ (code : Code) (s : State) (job : Job) (activity : Activity) (below : Li
   applied_alike f g e (AsksRegistration h r) = go (object_at s r)
     where
       go : (o : Option Object) →
-          option_map (λ (x : Object). registered code s job (topped f) place r x (with_frame s job activity h below)) o
-          ≡ option_map (λ (x : Object). registered code s job (topped g) place r x (with_frame s job activity h below))
+          option_map (λ (x : Object). registered code s job (topped f) position r x (with_frame s job activity h below)) o
+          ≡ option_map (λ (x : Object). registered code s job (topped g) position r x (with_frame s job activity h below))
           o
       go None = refl
       go (Some x) = ap (λ (t : Step). Some t) (registered_alike f g r x (with_frame s job activity h below) e)

@@ -114,48 +114,48 @@ moved_seen code g before after frames areas area h e o =
 
 -- ---- calls
 
-module _ (code : Listing) (s : State) (job : Job) (activity : Activity) (frames : List Frame) (place : Pos)
+module _ (code : Listing) (s : State) (job : Job) (activity : Activity) (frames : List Frame) (position : Pos)
     (g : Frame) where
   pub called_full : is_full frames ≡ true →
-      called (code_of code.program) s job activity frames place g ≡ fault_in s job activity place DepthFull
+      called (code_of code.program) s job activity frames position g ≡ fault_in s job activity position DepthFull
   unfolding called
   called_full e = rw e refl
 
   pub called_plainly : is_full frames ≡ false → ceiling_entered (code_of code.program) s g ≡ None →
-      called (code_of code.program) s job activity frames place g ≡ silently
+      called (code_of code.program) s job activity frames position g ≡ silently
       (with_activity s job (record activity { frames = g ∷ frames }))
   unfolding called
   called_plainly e c = rw (e, c) refl
 
   pub called_above : (ceiling : ℕ) → is_full frames ≡ false → ceiling_entered (code_of code.program) s g ≡ Some ceiling →
       nat_lt ceiling activity.priority ≡ true →
-      called (code_of code.program) s job activity frames place g ≡ fault_in s job activity place CeilingViolation
+      called (code_of code.program) s job activity frames position g ≡ fault_in s job activity position CeilingViolation
   unfolding called
   called_above ceiling e c l = rw (e, c, l) refl
 
   pub called_entering : (ceiling : ℕ) → is_full frames ≡ false → ceiling_entered (code_of code.program) s g ≡ Some ceiling →
       nat_lt ceiling activity.priority ≡ false →
-      called (code_of code.program) s job activity frames place g ≡ call_entered s job activity frames g ceiling
+      called (code_of code.program) s job activity frames position g ≡ call_entered s job activity frames g ceiling
   unfolding called call_entered
   called_entering ceiling e c l = rw (e, c, l) refl
 
   -- ---- calls in a new area
 
   pub opened_in_cycle : (scope bytes : ℕ) → is_some (area_with_scope s scope activity.areas) ≡ true →
-      opened_in s job activity frames place g scope bytes ≡ fault_in s job activity place ScopedCycle
+      opened_in s job activity frames position g scope bytes ≡ fault_in s job activity position ScopedCycle
   unfolding opened_in
   opened_in_cycle scope bytes e = rw e refl
 
   pub opened_in_full : (scope bytes : ℕ) → is_some (area_with_scope s scope activity.areas) ≡ false →
-      is_full frames ≡ true → opened_in s job activity frames place g scope bytes ≡ fault_in s job activity place
+      is_full frames ≡ true → opened_in s job activity frames position g scope bytes ≡ fault_in s job activity position
       DepthFull
   unfolding opened_in
   opened_in_full scope bytes e f = rw (e, f) refl
 
   pub opened_in_new : (scope bytes : ℕ) → is_some (area_with_scope s scope activity.areas) ≡ false →
       is_full frames ≡ false →
-      opened_in s job activity frames place g scope bytes
-      ≡ call_opened s job activity frames place g scope (Some g.area) bytes
+      opened_in s job activity frames position g scope bytes
+      ≡ call_opened s job activity frames position g scope (Some g.area) bytes
   unfolding opened_in call_opened
   opened_in_new scope bytes e f = rw (e, f) refl
 

@@ -84,22 +84,22 @@ module _ (code : Listing) (st : RunState) (n : ℕ) (rs : StoredReleases) (first
     told = t;
   }
 
-  pub release_at_fault : (m : Contents) (activity : StoredActivity) (place : Pos) (fault : RunFault)
+  pub release_at_fault : (m : Contents) (activity : StoredActivity) (position : Pos) (fault : RunFault)
       (middle : List Event) →
       ((s : State) → closed_all (with_memory s st.memory) (frames_of code activity.frames) ≡ with_memory s m) →
-      rs ≡ status_set n Ended st.releases → middle ≡ first ++ Fault st.unit fault place ∷ [] →
+      rs ≡ status_set n Ended st.releases → middle ≡ first ++ Fault st.unit fault position ∷ [] →
       last ≡ middle ++ end_told →
-      IsStep code (fault_in (state_of code st) (ReleaseAt n) (activity_seen code activity) place fault)
+      IsStep code (fault_in (state_of code st) (ReleaseAt n) (activity_seen code activity) position fault)
       (record st { memory = m; releases = rs }) first last
   unfolding fault_in state_of
-  release_at_fault m activity place fault middle closes e t u =
+  release_at_fault m activity position fault middle closes e t u =
       let with_m : RunState = record st { memory = m } in
       record {
         state = ap (λ (x : StoredReleases). state_of code (record with_m { releases = x })) e
             ∙ (status_is_seen code with_m n Ended
             ∙ ap (λ (s : State). state_with_status s n EndedSeen) (sym (closes (state_of code st))));
         told = u ∙ (ap (λ (es : List Event). es ++ end_told) t
-            ∙ append_assoc first (Fault st.unit fault place ∷ []) end_told);
+            ∙ append_assoc first (Fault st.unit fault position ∷ []) end_told);
       }
 
 -- one place further down

@@ -31,30 +31,30 @@ started_there (Some r) a e = (r, refl, of_status r.status e)
     of_status Ended h = absurd (cc)
     of_status Dropped h = absurd (cc)
 
-pub emptied : (code : Listing) (st : RunState) (place : ℕ) (a : StoredActivity) →
-    activity_in st.releases.rows place ≡ Some a →
-    state_of code (record st { releases = emptied_at place st.releases })
-    ≡ with_activity (state_of code st) (ReleaseAt place) no_activity
+pub emptied : (code : Listing) (st : RunState) (index : ℕ) (a : StoredActivity) →
+    activity_in st.releases.rows index ≡ Some a →
+    state_of code (record st { releases = emptied_at index st.releases })
+    ≡ with_activity (state_of code st) (ReleaseAt index) no_activity
 unfolding state_of with_activity
-emptied code st place a e =
-    let found : (r : Release) × (slice_get st.releases.rows place ≡ Some r) × (r.status ≡ Started a) =
-    started_there (slice_get st.releases.rows place) a e in
-    let rows : changed emptied_row place st.releases.rows ≡ changed (with_status (Started empty_activity)) place
+emptied code st index a e =
+    let found : (r : Release) × (slice_get st.releases.rows index ≡ Some r) × (r.status ≡ Started a) =
+    started_there (slice_get st.releases.rows index) a e in
+    let rows : changed emptied_row index st.releases.rows ≡ changed (with_status (Started empty_activity)) index
     st.releases.rows =
-    changed_there emptied_row place st.releases.rows found.0 found.1
-    ∙ (ap (λ (s : ReleaseStatus). slice_set st.releases.rows place (record found.0 { status = emptied_status s }))
+    changed_there emptied_row index st.releases.rows found.0 found.1
+    ∙ (ap (λ (s : ReleaseStatus). slice_set st.releases.rows index (record found.0 { status = emptied_status s }))
     found.2
-    ∙ sym (changed_there (with_status (Started empty_activity)) place st.releases.rows found.0 found.1)) in
+    ∙ sym (changed_there (with_status (Started empty_activity)) index st.releases.rows found.0 found.1)) in
     ap (λ (rs : List Release). state_of code (record st { releases = record st.releases { rows = rs } })) rows
     ∙ ap (λ (rs : List ReleaseOfRun). record (state_of code st) { releases = rs })
     (changed_map (release_seen code) (with_status (Started empty_activity))
     (λ r. record r { status = StartedSeen no_activity })
-    place st.releases.rows (λ r. refl))
+    index st.releases.rows (λ r. refl))
 
 -- where no activity is found, the releases stay as they are
-pub not_emptied : (rs : StoredReleases) (place : ℕ) → activity_in rs.rows place ≡ None → emptied_at place rs ≡ rs
-not_emptied rs place e =
-    ap (λ (rows : List Release). record rs { rows = rows }) (changed_kept emptied_row place rs.rows kept)
+pub not_emptied : (rs : StoredReleases) (index : ℕ) → activity_in rs.rows index ≡ None → emptied_at index rs ≡ rs
+not_emptied rs index e =
+    ap (λ (rows : List Release). record rs { rows = rows }) (changed_kept emptied_row index rs.rows kept)
   where
     same_status : (status : ReleaseStatus) → activity_within status ≡ None → emptied_status status ≡ status
     same_status Waits h = refl
@@ -62,21 +62,21 @@ not_emptied rs place e =
     same_status Ended h = refl
     same_status Dropped h = refl
 
-    kept : (r : Release) → slice_get rs.rows place ≡ Some r → emptied_row r ≡ r
+    kept : (r : Release) → slice_get rs.rows index ≡ Some r → emptied_row r ≡ r
     kept r found =
         ap (λ (s : ReleaseStatus). record r { status = s })
         (same_status r.status
         (sym (ap (λ (o : Option Release). o >>= (λ (q : Release). activity_within q.status)) found) ∙ e))
 
 -- the activity that the code finds is the one of the definitions
-pub found_activity : (code : Listing) (st : RunState) (place : ℕ) →
-    option_map (activity_seen code) (activity_in st.releases.rows place) ≡ activity_of (state_of code st)
-    (ReleaseAt place)
+pub found_activity : (code : Listing) (st : RunState) (index : ℕ) →
+    option_map (activity_seen code) (activity_in st.releases.rows index) ≡ activity_of (state_of code st)
+    (ReleaseAt index)
 unfolding state_of activity_of activity_in_status
-found_activity code st place =
-    of_found (slice_get st.releases.rows place)
+found_activity code st index =
+    of_found (slice_get st.releases.rows index)
     ∙ ap (λ (o : Option ReleaseOfRun). o >>= (λ (r : ReleaseOfRun). activity_in_status r.status))
-    (sym (get_map (release_seen code) st.releases.rows place))
+    (sym (get_map (release_seen code) st.releases.rows index))
   where
     of_status : (status : ReleaseStatus) →
         option_map (activity_seen code) (activity_within status) ≡ activity_in_status (status_seen code status)

@@ -36,13 +36,13 @@ pub made_applied : (code : Listing) (was : RunState) (acting : Acting) (activity
     (slots : List Value) (found : Option ℕ) (middle st : RunState) (before after : List Event) →
     ((f : StoredFrame) (below : List StoredFrame) → activity.frames ≡ f ∷ below → area ≡ f.area) →
     GoesOn (state_of code was)
-    (allocating (state_of code was) (job_seen acting.job) (activity_seen code activity) acting.place class area slots)
-    (fault_in (state_of code was) (job_seen acting.job) (activity_seen code activity) acting.place MemoryFull) found
+    (allocating (state_of code was) (job_seen acting.job) (activity_seen code activity) acting.position class area slots)
+    (fault_in (state_of code was) (job_seen acting.job) (activity_seen code activity) acting.position MemoryFull) found
     (state_of code middle) →
     ((f : StoredFrame) (below : List StoredFrame) → activity.frames ≡ f ∷ below →
     IsStep code
     (made_or_full (state_of code middle) (job_seen acting.job) (activity_seen code activity) (frame_of code f)
-    (frames_of code below) acting.place found) st before after) →
+    (frames_of code below) acting.position found) st before after) →
     IsApplied code was acting activity (λ f. Makes f class slots) true st before after
 unfolding applied made_or_full
 made_applied code was acting activity class area slots found middle st before after there goes makes = record {
@@ -50,16 +50,16 @@ made_applied code was acting activity class area slots found middle st before af
       let next : State → ℕ → Step = λ s r. silently (with_frame s (job_seen acting.job) (activity_seen code activity)
       (record (frame_of code f) { operands = At r ∷ f.operands }) (frames_of code below)) in
       let step : Step =
-      allocating (state_of code was) (job_seen acting.job) (activity_seen code activity) acting.place class
+      allocating (state_of code was) (job_seen acting.job) (activity_seen code activity) acting.position class
       f.area slots next in
       try_of code st before after (Some step) step refl
       (same_step code st before after _ step
-      (ap (λ (n : ℕ). allocating (state_of code was) (job_seen acting.job) (activity_seen code activity) acting.place
+      (ap (λ (n : ℕ). allocating (state_of code was) (job_seen acting.job) (activity_seen code activity) acting.position
       class
       n slots next) (sym (there f below e))
       ∙ goes_step (state_of code was)
-      (allocating (state_of code was) (job_seen acting.job) (activity_seen code activity) acting.place class area slots)
-      (λ s. fault_in s (job_seen acting.job) (activity_seen code activity) acting.place MemoryFull)
+      (allocating (state_of code was) (job_seen acting.job) (activity_seen code activity) acting.position class area slots)
+      (λ s. fault_in s (job_seen acting.job) (activity_seen code activity) acting.position MemoryFull)
       (state_of code middle) next found goes)
       (makes f below e));
 }

@@ -12,16 +12,16 @@ use Rattle.run_state.specs.Steps.{GoesOn}
 some_same : (m n : ℕ) → Some m ≡ Some n → m ≡ n
 some_same m n e = cc
 
-module _ (s : State) (job : Job) (activity : Activity) (place : Pos) where
+module _ (s : State) (job : Job) (activity : Activity) (position : Pos) where
   pub store_full : (scope : ℕ) (parent : Option ℕ) (bytes : ℕ) → has_store_for s bytes ≡ false →
-      GoesOn s (opening s job activity place scope parent bytes) (fault_in s job activity place StoreFull) None s
+      GoesOn s (opening s job activity position scope parent bytes) (fault_in s job activity position StoreFull) None s
   unfolding opening
   store_full scope parent bytes h =
       record { there = λ next n e. absurd (cc); missing = λ next e. rw h refl; same = λ e. refl }
 
   pub area_there : (scope : ℕ) (parent : Option ℕ) (bytes n : ℕ) (after : State) → has_store_for s bytes ≡ true →
       n ≡ length s.areas → after ≡ with_area s scope parent bytes →
-      GoesOn s (opening s job activity place scope parent bytes) (fault_in s job activity place StoreFull)
+      GoesOn s (opening s job activity position scope parent bytes) (fault_in s job activity position StoreFull)
       (Some n) after
   unfolding opening
   area_there scope parent bytes n after h k a = record {
@@ -34,27 +34,27 @@ module _ (s : State) (job : Job) (activity : Activity) (place : Pos) where
   -- a state that is as it was
   pub store_full_after : (scope : ℕ) (parent : Option ℕ) (bytes : ℕ) (after : State) → has_store_for s bytes ≡ false →
       after ≡ s →
-      GoesOn s (opening s job activity place scope parent bytes) (fault_in s job activity place StoreFull) None after
+      GoesOn s (opening s job activity position scope parent bytes) (fault_in s job activity position StoreFull) None after
   unfolding opening
   store_full_after scope parent bytes after h e =
       record { there = λ next n f. absurd (cc); missing = λ next f. rw h refl; same = λ f. e }
 
   pub memory_full_after : (class area : ℕ) (slots : List Value) (after : State) →
       has_room s area (length slots) ≡ false → after ≡ s →
-      GoesOn s (allocating s job activity place class area slots) (fault_in s job activity place MemoryFull) None after
+      GoesOn s (allocating s job activity position class area slots) (fault_in s job activity position MemoryFull) None after
   unfolding allocating
   memory_full_after class area slots after h e =
       record { there = λ next n f. absurd (cc); missing = λ next f. rw h refl; same = λ f. e }
 
   pub memory_full : (class area : ℕ) (slots : List Value) → has_room s area (length slots) ≡ false →
-      GoesOn s (allocating s job activity place class area slots) (fault_in s job activity place MemoryFull) None s
+      GoesOn s (allocating s job activity position class area slots) (fault_in s job activity position MemoryFull) None s
   unfolding allocating
   memory_full class area slots h =
       record { there = λ next n e. absurd (cc); missing = λ next e. rw h refl; same = λ e. refl }
 
   pub object_there : (class area : ℕ) (slots : List Value) (n : ℕ) (after : State) →
       has_room s area (length slots) ≡ true → n ≡ length s.objects → after ≡ with_object s class area slots →
-      GoesOn s (allocating s job activity place class area slots) (fault_in s job activity place MemoryFull)
+      GoesOn s (allocating s job activity position class area slots) (fault_in s job activity position MemoryFull)
       (Some n) after
   unfolding allocating
   object_there class area slots n after h k a = record {

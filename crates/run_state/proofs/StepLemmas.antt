@@ -36,7 +36,7 @@ pub applied_as : (code : Listing) (was : RunState) (acting : Acting) (activity :
     (st : RunState) (before after : List Event) (step : Step) →
     ((f : StoredFrame) (below : List StoredFrame) → activity.frames ≡ f ∷ below →
     applied (code_of code.program) (state_of code was) (job_seen acting.job) (activity_seen code activity) (frames_of code below)
-    acting.place (effect (frame_of code f)) ≡ Some step) →
+    acting.position (effect (frame_of code f)) ≡ Some step) →
     IsStep code step st before after → IsApplied code was acting activity effect true st before after
 applied_as code was acting activity effect st before after step same h =
     record { tried = λ f below e. try_of code st before after _ step (same f below e) h }
@@ -45,7 +45,7 @@ applied_as code was acting activity effect st before after step same h =
 pub applied_telling : (code : Listing) (was : RunState) (acting : Acting) (activity : StoredActivity)
     (effect : Frame → Effect) (st : RunState) (before after : List Event) (s : State) (events : List Event) →
     ((f : Frame) (below : List Frame) →
-    applied (code_of code.program) (state_of code was) (job_seen acting.job) (activity_seen code activity) below acting.place (effect f)
+    applied (code_of code.program) (state_of code was) (job_seen acting.job) (activity_seen code activity) below acting.position (effect f)
     ≡ Some (telling (with_frame s (job_seen acting.job) (activity_seen code activity) f below) events)) →
     state_of code st ≡ with_activity s (job_seen acting.job) (activity_seen code activity) →
     after ≡ before ++ events →
@@ -62,7 +62,7 @@ applied_telling code was acting activity effect st before after s events same st
 pub applied_on_memory : (code : Listing) (was : RunState) (acting : Acting) (activity : StoredActivity)
     (effect : Frame → Effect) (m : Contents) (st : RunState) (told : List Event) (s : State) →
     ((f : Frame) (below : List Frame) →
-    applied (code_of code.program) (state_of code was) (job_seen acting.job) (activity_seen code activity) below acting.place (effect f)
+    applied (code_of code.program) (state_of code was) (job_seen acting.job) (activity_seen code activity) below acting.position (effect f)
     ≡ Some (telling (with_frame s (job_seen acting.job) (activity_seen code activity) f below) [])) →
     state_of code (record was { memory = m }) ≡ s →
     state_of code st

@@ -21,21 +21,21 @@ module _ (code : Listing) (was : RunState) (acting : Acting) (activity : StoredA
   pub calls_applied :
       IsStep code
       (called (code_of code.program) (state_of code was) (job_seen acting.job) (activity_seen code activity)
-      (frames_of code activity.frames) acting.place g) st before after →
+      (frames_of code activity.frames) acting.position g) st before after →
       IsApplied code was acting activity (λ f. Calls f g) true st before after
   unfolding applied
   calls_applied h =
       applied_as code was acting activity (λ f. Calls f g) st before after _ (λ f below e.
       ap (λ (fs : List StoredFrame). Some (called (code_of code.program) (state_of code was) (job_seen acting.job)
-      (activity_seen code activity) (frames_of code fs) acting.place g)) (sym e)) h
+      (activity_seen code activity) (frames_of code fs) acting.position g)) (sym e)) h
 
   pub opens_applied : (scope bytes : ℕ) →
       IsStep code
       (opened_in (state_of code was) (job_seen acting.job) (activity_seen code activity)
-      (frames_of code activity.frames) acting.place g scope bytes) st before after →
+      (frames_of code activity.frames) acting.position g scope bytes) st before after →
       IsApplied code was acting activity (λ f. Opens f g scope bytes) true st before after
   unfolding applied
   opens_applied scope bytes h =
       applied_as code was acting activity (λ f. Opens f g scope bytes) st before after _ (λ f below e.
       ap (λ (fs : List StoredFrame). Some (opened_in (state_of code was) (job_seen acting.job)
-      (activity_seen code activity) (frames_of code fs) acting.place g scope bytes)) (sym e)) h
+      (activity_seen code activity) (frames_of code fs) acting.position g scope bytes)) (sym e)) h

@@ -20,8 +20,8 @@ call_entered s job activity frames g ceiling =
 
 -- a call in a new area, where neither scope nor depth forbids it
 unfoldable pub call_opened : State → Job → Activity → List Frame → Pos → Frame → ℕ → Option ℕ → ℕ → Step
-call_opened s job activity frames place g scope parent bytes =
-    opening s job activity place scope parent bytes (λ s area.
+call_opened s job activity frames position g scope parent bytes =
+    opening s job activity position scope parent bytes (λ s area.
     silently (with_activity s job (record activity {
       frames = record g { area = area; opened = Some area } ∷ frames;
       areas = area ∷ activity.areas;
@@ -37,9 +37,9 @@ settled s job after value below =
 
 -- what was made in the area of the highest frame is its last operand; where nothing was made the area is full
 unfoldable pub made_or_full : State → Job → Activity → Frame → List Frame → Pos → Option ℕ → Step
-made_or_full s job activity f below place made =
+made_or_full s job activity f below position made =
     elim made [
       | Some r ↦ silently
           (with_activity s job (record activity { frames = record f { operands = At r ∷ f.operands } ∷ below }))
-      | None ↦ fault_in s job activity place MemoryFull
+      | None ↦ fault_in s job activity position MemoryFull
     ]

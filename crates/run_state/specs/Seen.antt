@@ -12,11 +12,11 @@ use Rattle.run_state.specs.declared.states.RunState.{RunState}
 
 abbrev pub job_seen : Job → JobOfRun
 job_seen Sequencer = TheSequencer
-job_seen (OfRelease place) = ReleaseAt place
+job_seen (OfRelease index) = ReleaseAt index
 
 abbrev pub turn_seen : Turn → TurnOfRun
 turn_seen Idle = IdleTurn
-turn_seen (Of place) = TurnOf place
+turn_seen (Of index) = TurnOf index
 
 unfoldable pub state_of : Listing → RunState → State
 state_of code st =

@@ -31,7 +31,7 @@ pub record IsApplied (code : Listing) (was : RunState) (acting : Acting) (activi
   pub tried : (f : StoredFrame) (below : List StoredFrame) → activity.frames ≡ f ∷ below →
       IsTry code
       (applied (code_of code.program) (state_of code was) (job_seen acting.job) (activity_seen code activity)
-      (frames_of code below) acting.place (effect (frame_of code f)))
+      (frames_of code below) acting.position (effect (frame_of code f)))
       answer st before after
 
 -- the activity has this frame on top of the frames that it had before

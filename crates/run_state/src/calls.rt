@@ -64,7 +64,7 @@ pub(crate) fn refused(
     ensures { (code : Listing) (g : FrameOfRun) (before : StoredActivity) → HasOnTop code g before activity →
         IfOk result
         (λ _. IsStep code
-        (fault_in (state_of code state.old) (job_seen acting.job) (activity_seen code before) acting.place fault)
+        (fault_in (state_of code state.old) (job_seen acting.job) (activity_seen code before) acting.position fault)
         state.new told.old.items told.new.items) }
 {
     activity.frames.drop_top();
@@ -139,7 +139,7 @@ pub fn called(
         IfOk result
         (λ _. IsStep code.now
         (called (code_of code.now.program) (state_of code.now state.old) (job_seen acting.job)
-        (activity_seen code.now before) (frames_of code.now before.frames) acting.place g) state.new
+        (activity_seen code.now before) (frames_of code.now before.frames) acting.position g) state.new
         told.old.items told.new.items) }
 {
     if was_full(&activity) {

@@ -30,19 +30,19 @@ pub fn close_opened(memory: &mut RegionHeap, opened: Option<AreaId>)
 }
 
 /// The frame at a place, if there is one.
-fn frame_at(frames: &[Frame], place: usize) -> Option<&Frame>
-    ensures { option_copied result ≡ slice_get frames.now place }
+fn frame_at(frames: &[Frame], index: usize) -> Option<&Frame>
+    ensures { option_copied result ≡ slice_get frames.now index }
 {
-    frames.get(place)
+    frames.get(index)
 }
 
 /// Closes the area that the frame at a place opened.
-fn close_of(memory: &mut RegionHeap, frames: &[Frame], place: usize)
-    requires { (f : StoredFrame) → Some f ≡ slice_get frames.now place → ClosesLast memory.old f.opened }
-    ensures { (f : StoredFrame) → Some f ≡ slice_get frames.now place →
+fn close_of(memory: &mut RegionHeap, frames: &[Frame], index: usize)
+    requires { (f : StoredFrame) → Some f ≡ slice_get frames.now index → ClosesLast memory.old f.opened }
+    ensures { (f : StoredFrame) → Some f ≡ slice_get frames.now index →
         memory.new ≡ after_close memory.old f.opened }
 {
-    if let Some(frame) = frame_at(frames, place) {
+    if let Some(frame) = frame_at(frames, index) {
         close_opened(memory, frame.opened);
     }
 }
@@ -63,19 +63,19 @@ fn close_all(memory: &mut RegionHeap, frames: &[Frame])
 /// The sequencer meets a fault, and the run is over.
 pub fn halted(
     state: &mut RunState,
-    place: Pos,
+    position: Pos,
     fault: RunFault,
     told: &mut Vec<Event>,
 ) -> Result<(), Memory>
     ensures { (code : Listing) (activity : ActivityOfRun) →
         IfOk result
-        (λ _. IsStep code (fault_in (state_of code state.old) TheSequencer activity place fault) state.new
+        (λ _. IsStep code (fault_in (state_of code state.old) TheSequencer activity position fault) state.new
         told.old.items told.new.items) }
 {
     let unit = state.unit;
     tell_two(
         told,
-        Event::Fault { unit, fault, place },
+        Event::Fault { unit, fault, position },
         Event::Halted { unit },
     )?;
     state.phase = Phase::Over;
@@ -101,7 +101,7 @@ fn release_broken(
     state: &mut RunState,
     release: usize,
     activity: &Activity,
-    place: Pos,
+    position: Pos,
     fault: RunFault,
     told: &mut Vec<Event>,
 ) -> Result<(), Memory>
@@ -109,11 +109,11 @@ fn release_broken(
     ensures { (code : Listing) →
         IfOk result
         (λ _. IsStep code
-        (fault_in (state_of code state.old) (ReleaseAt release) (activity_seen code activity.now) place fault) state.new
+        (fault_in (state_of code state.old) (ReleaseAt release) (activity_seen code activity.now) position fault) state.new
         told.old.items told.new.items) }
 {
     let unit = state.unit;
-    tell(told, Event::Fault { unit, fault, place })?;
+    tell(told, Event::Fault { unit, fault, position })?;
     tell_end(state, release, told)?;
     close_all(&mut state.memory, activity.frames.in_order());
     state.releases.end(release);
@@ -132,16 +132,16 @@ pub fn fault_in(
     ensures { (code : Listing) →
         IfOk result
         (λ _. IsStep code
-        (fault_in (state_of code state.old) (job_seen acting.job) (activity_seen code activity.now) acting.place fault)
+        (fault_in (state_of code state.old) (job_seen acting.job) (activity_seen code activity.now) acting.position fault)
         state.new told.old.items told.new.items) }
 {
     match acting.job {
         Job::Sequencer => {
-            halted(state, acting.place, fault, told)?;
+            halted(state, acting.position, fault, told)?;
             Ok(())
         }
         Job::Release(release) => {
-            release_broken(state, release, activity, acting.place, fault, told)?;
+            release_broken(state, release, activity, acting.position, fault, told)?;
             Ok(())
         }
     }

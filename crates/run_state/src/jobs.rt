@@ -23,7 +23,7 @@ pub fn take_out(alloc: Global, state: &mut RunState, job: Job) -> Option<Activit
 {
     match job {
         Job::Sequencer => Some(mem::replace(&mut state.activity, Activity::empty(alloc))),
-        Job::Release(place) => state.releases.take_activity(place, alloc),
+        Job::Release(index) => state.releases.take_activity(index, alloc),
     }
 }
 
@@ -41,8 +41,8 @@ pub fn put_back(state: &mut RunState, job: Job, activity: Activity) -> Result<()
             state.activity = activity;
             Ok(())
         }
-        Job::Release(place) => {
-            state.releases.put_activity(place, activity)?;
+        Job::Release(index) => {
+            state.releases.put_activity(index, activity)?;
             Ok(())
         }
     }

@@ -20,10 +20,10 @@ use value_operators::default_of;
 pub fn open_area(state: &mut RunState, area: NewArea) -> Option<AreaId>
     requires numbers { HasNumbers state.old.memory }
     requires few { open_count state.old.memory < 1794 }
-    ensures opened { (code : Listing) (job : JobOfRun) (activity : ActivityOfRun) (place : PosOfRun) →
+    ensures opened { (code : Listing) (job : JobOfRun) (activity : ActivityOfRun) (position : PosOfRun) →
         GoesOn (state_of code state.old)
-        (opening (state_of code state.old) job activity place area.scope area.parent area.bytes)
-        (fault_in (state_of code state.old) job activity place StoreFull) result (state_of code state.new) }
+        (opening (state_of code state.old) job activity position area.scope area.parent area.bytes)
+        (fault_in (state_of code state.old) job activity position StoreFull) result (state_of code state.new) }
     ensures err { result ≡ None → state.new ≡ state.old }
 {
     match state.memory.open_area(area.scope, area.parent, area.bytes) {
@@ -36,10 +36,10 @@ pub fn open_area(state: &mut RunState, area: NewArea) -> Option<AreaId>
 pub fn make_object(state: &mut RunState, area: AreaId, object: &NewObject) -> Option<Ref>
     requires open { is_open_area state.old.memory area ≡ true }
     requires numbers { length state.old.memory.objects < 2 ^ 31 }
-    ensures made { (code : Listing) (job : JobOfRun) (activity : ActivityOfRun) (place : PosOfRun) →
+    ensures made { (code : Listing) (job : JobOfRun) (activity : ActivityOfRun) (position : PosOfRun) →
         GoesOn (state_of code state.old)
-        (allocating (state_of code state.old) job activity place object.now.class area object.now.slots.items)
-        (fault_in (state_of code state.old) job activity place MemoryFull) result (state_of code state.new) }
+        (allocating (state_of code state.old) job activity position object.now.class area object.now.slots.items)
+        (fault_in (state_of code state.old) job activity position MemoryFull) result (state_of code state.new) }
     ensures err { result ≡ None → state.new ≡ state.old }
 {
     match state.memory.alloc_object(object.class, area, &object.slots) {
@@ -53,10 +53,10 @@ pub fn make_object(state: &mut RunState, area: AreaId, object: &NewObject) -> Op
 pub fn make_array(state: &mut RunState, area: AreaId, array: NewArray) -> Option<Ref>
     requires open { is_open_area state.old.memory area ≡ true }
     requires numbers { length state.old.memory.objects < 2 ^ 31 }
-    ensures made { (code : Listing) (job : JobOfRun) (activity : ActivityOfRun) (place : PosOfRun) →
+    ensures made { (code : Listing) (job : JobOfRun) (activity : ActivityOfRun) (position : PosOfRun) →
         GoesOn (state_of code state.old)
-        (allocating (state_of code state.old) job activity place array.class area (new_elements array.kind array.count))
-        (fault_in (state_of code state.old) job activity place MemoryFull) result (state_of code state.new) }
+        (allocating (state_of code state.old) job activity position array.class area (new_elements array.kind array.count))
+        (fault_in (state_of code state.old) job activity position MemoryFull) result (state_of code state.new) }
     ensures err { result ≡ None → state.new ≡ state.old }
 {
     let value = default_of(array.kind);

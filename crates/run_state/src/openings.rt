@@ -75,7 +75,7 @@ fn opened_on_top(
     ensures { (code : Listing) (g : FrameOfRun) (before : StoredActivity) → HasOnTop code g before activity →
         IfOk result
         (λ _. IsStep code (call_opened (state_of code state.old) (job_seen acting.job) (activity_seen code before)
-        (frames_of code before.frames) acting.place g area.scope area.parent area.bytes) state.new told.old.items
+        (frames_of code before.frames) acting.position g area.scope area.parent area.bytes) state.new told.old.items
         told.new.items) }
 {
     match open_area(state, area) {
@@ -105,7 +105,7 @@ pub fn opened_in(
     ensures { (code : Listing) (g : FrameOfRun) (before : StoredActivity) → HasOnTop code g before activity →
         IfOk result
         (λ _. IsStep code (opened_in (state_of code state.old) (job_seen acting.job) (activity_seen code before)
-        (frames_of code before.frames) acting.place g scope bytes) state.new told.old.items told.new.items) }
+        (frames_of code before.frames) acting.position g scope bytes) state.new told.old.items told.new.items) }
 {
     if is_cycle(state, &activity, scope) {
         refused(state, acting, activity, RunFault::ScopedCycle, told)?;

@@ -31,7 +31,7 @@ pub struct Acting {
     /// Who acts.
     pub job: Job,
     /// Where the operation stands, which a fault tells.
-    pub place: Pos,
+    pub position: Pos,
 }
 
 /// An area that is to be opened.

@@ -44,14 +44,14 @@ pub fn stores_static(
     state: &mut RunState,
     acting: Acting,
     activity: Activity,
-    place: usize,
+    index: usize,
     value: Value,
 ) -> Result<(), Memory>
     ensures { (code : Listing) (told : List EventOfRun) →
         IfOk result
-        (λ _. IsApplied code state.old acting activity (λ f. StoresStatic f place value) true state.new told told) }
+        (λ _. IsApplied code state.old acting activity (λ f. StoresStatic f index value) true state.new told told) }
 {
-    state.memory.set_static(place, value);
+    state.memory.set_static(index, value);
     put_back(state, acting.job, activity)?;
     Ok(())
 }
@@ -127,7 +127,7 @@ fn made(
         (f : StoredFrame) (below : List StoredFrame) → activity.frames ≡ f ∷ below →
         IfOk result
         (λ _. IsStep code (made_or_full (state_of code state.old) (job_seen acting.job) (activity_seen code activity)
-        (frame_of code f) (frames_of code below) acting.place made) state.new told.old.items told.new.items) }
+        (frame_of code f) (frames_of code below) acting.position made) state.new told.old.items told.new.items) }
 {
     match made {
         Some(r) => {

@@ -30,12 +30,12 @@ pub fn tell_two(told: &mut Vec<Event>, first: Event, second: Event) -> Result<()
 }
 
 /// Tells that the release at a place ends.
-pub(crate) fn tell_end(state: &RunState, place: usize, told: &mut Vec<Event>) -> Result<(), Memory>
+pub(crate) fn tell_end(state: &RunState, index: usize, told: &mut Vec<Event>) -> Result<(), Memory>
     ensures { (code : Listing) →
-        OnOk result (told.new.items ≡ told.old.items ++ of_release (state_of code state.now) (ReleaseAt place)
+        OnOk result (told.new.items ≡ told.old.items ++ of_release (state_of code state.now) (ReleaseAt index)
         (λ r. End state.now.unit r.handler r.number ∷ [])) }
 {
-    match state.releases.release(place) {
+    match state.releases.release(index) {
         Some(release) => {
             let unit = state.unit;
             tell(
@@ -55,15 +55,15 @@ pub(crate) fn tell_end(state: &RunState, place: usize, told: &mut Vec<Event>) ->
 /// Tells another priority of the release at a place.
 fn tell_priority_of(
     state: &RunState,
-    place: usize,
+    index: usize,
     priority: u8,
     told: &mut Vec<Event>,
 ) -> Result<(), Memory>
     ensures { (code : Listing) →
-        OnOk result (told.new.items ≡ told.old.items ++ of_release (state_of code state.now) (ReleaseAt place)
+        OnOk result (told.new.items ≡ told.old.items ++ of_release (state_of code state.now) (ReleaseAt index)
         (λ r. Prio state.now.unit r.handler priority ∷ [])) }
 {
-    match state.releases.release(place) {
+    match state.releases.release(index) {
         Some(release) => {
             let unit = state.unit;
             tell(
@@ -98,8 +98,8 @@ pub(crate) fn tell_priority(
     }
     match job {
         Job::Sequencer => Ok(()),
-        Job::Release(place) => {
-            tell_priority_of(state, place, after, told)?;
+        Job::Release(index) => {
+            tell_priority_of(state, index, after, told)?;
             Ok(())
         }
     }

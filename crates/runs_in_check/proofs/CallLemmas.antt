@@ -22,10 +22,10 @@ use Rattle.program_facts.specs.Told.{declared, types, scopes}
 use Rattle.runs_in_check.specs.Phase.{parameters_of, seen_scope, argument_breaks, misfits_from, e3_of, entry_breaks}
 
 -- an assignment of a value that fits breaks nothing
-pub right_assign : (test : Bool) (o : Option Rule) (place : Pos) → false ≡ test →
-    found_at o (λ rule. broken test rule place) ≡ []
-right_assign test None place h = refl
-right_assign test (Some rule) place h = rw (← h) refl
+pub right_assign : (test : Bool) (o : Option Rule) (position : Pos) → false ≡ test →
+    found_at o (λ rule. broken test rule position) ≡ []
+right_assign test None position h = refl
+right_assign test (Some rule) position h = rw (← h) refl
 
 -- ---- arguments
 
@@ -74,9 +74,9 @@ unfolding e3_of e3_of_call e3_of_constructor parameters_of seen_scope
 e3_over_arguments at (Method m object) ids = refl
 e3_over_arguments at (Constructor class object) ids = refl
 
-module _ (at : At) (place : Pos) (name : List ℕ) (object : Option ℕ) where
+module _ (at : At) (position : Pos) (name : List ℕ) (object : Option ℕ) where
   abbrev broken_there : List ℕ → List Found
-  broken_there ids = use_breaks (declared at) (types at) (scopes at) at.id (Call place name object ids)
+  broken_there ids = use_breaks (declared at) (types at) (scopes at) at.id (Call position name object ids)
 
   pub no_call : (found : List Found) (ids : List ℕ) →
       None ≡ method_called (declared at) (types at) at.id object name → found ++ broken_there ids ≡ found
@@ -87,7 +87,7 @@ module _ (at : At) (place : Pos) (name : List ℕ) (object : Option ℕ) where
   pub user_call : (f : FoundMethod) (ids : List ℕ) →
       Some f ≡ method_called (declared at) (types at) at.id object name → None ≡ f.method.builtin
       → broken_there ids
-      ≡ broken (misfits_call (declared at) (scopes at) at.id object f) E2 place
+      ≡ broken (misfits_call (declared at) (scopes at) at.id object f) E2 position
       ++ e3_of_call (declared at) (scopes at) (receiver_scope (declared at) (scopes at) at.id object)
       (current_at (declared at) at.id) ids f
   unfolding use_breaks e1 e2 e3 e4_and_e5 e6 e7 e8 e9 e10
@@ -96,7 +96,7 @@ module _ (at : At) (place : Pos) (name : List ℕ) (object : Option ℕ) where
 
   pub framework_call : (f : FoundMethod) (number : ℕ) (ids : List ℕ) →
       Some f ≡ method_called (declared at) (types at) at.id object name → Some number ≡ f.method.builtin
-      → broken_there ids ≡ entry_breaks at place number ids
+      → broken_there ids ≡ entry_breaks at position number ids
   unfolding use_breaks e1 e2 e3 e4_and_e5 e6 e7 e8 e9 e10 entry_breaks
   framework_call f number (o ∷ r ∷ []) h k = rw (← h, ← k) refl
   framework_call f number _ h k = rw (← h, ← k) refl
@@ -105,7 +105,7 @@ module _ (at : At) (place : Pos) (name : List ℕ) (object : Option ℕ) where
   of_method = scope_of_call (declared at) (receiver_scope (declared at) (scopes at) at.id object)
       (current_at (declared at) at.id)
 
-  pub scope_there : (ids : List ℕ) → scope_of (declared at) (types at) (scopes at) at.id (Call place name object ids)
+  pub scope_there : (ids : List ℕ) → scope_of (declared at) (types at) (scopes at) at.id (Call position name object ids)
       ≡ (method_called (declared at) (types at) at.id object name >>= of_method)
   unfolding scope_of
   scope_there ids = go (call_receiver (declared at) (types at) at.id object)

@@ -65,15 +65,15 @@ plain_meaning forest id (a_field f) h =
 plain_meaning forest id _ h = refl
 
 -- a name whose type is told to be none of references has no scope; it breaks no rule, since its type is told
-plain_name : (forest : Forest) (types : List (Option Ty)) (id : ℕ) (place : Pos) (name : List ℕ) →
-    slice_get forest.nodes id ≡ Some (SimpleName place name) → types ≡ types_in (declarations_of forest)
+plain_name : (forest : Forest) (types : List (Option Ty)) (id : ℕ) (position : Pos) (name : List ℕ) →
+    slice_get forest.nodes id ≡ Some (SimpleName position name) → types ≡ types_in (declarations_of forest)
     → true ≡ is_plain (lookup None types id)
     → scope_of_meaning (declarations_of forest) id (meaning (declarations_of forest) id name) ≡ None
 unfolding declarations_of type_of_next type_of_right types_in type_of
-plain_name forest types id place name there right h =
+plain_name forest types id position name there right h =
     let p : Declarations = declarations_of forest in
     let smaller : Types = below None id (lookup None (types_in p)) in
-    let told : lookup None types id ≡ type_of_right p smaller id (SimpleName place name) =
+    let told : lookup None types id ≡ type_of_right p smaller id (SimpleName position name) =
     ap (λ (ts : List (Option Ty)). lookup None ts id) right
     ∙ bottom_up-is None (type_of_next p) (length p.nodes) id (slice_get_within forest.nodes id _ there)
     ∙ ap (λ (o : Option Node). option_and_then (type_of_right p smaller id) o) there in
@@ -115,7 +115,7 @@ module _ (forest : Forest) (types : List (Option Ty)) (right : types ≡ types_i
       false ≡ is_asked (lookup None types id) (kind_of node) →
       scope_of (declarations_of forest) (lookup None types) scopes id node ≡ None
   unfolding is_asked kind_of scope_of
-  scopeless (SimpleName place name) there h = plain_name forest types id place name there right (grind (arith, h))
+  scopeless (SimpleName position name) there h = plain_name forest types id position name there right (grind (arith, h))
   scopeless (This a) there h = cc
   scopeless _ there h = cc
 

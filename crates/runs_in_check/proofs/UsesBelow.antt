@@ -56,10 +56,10 @@ module _ (p : Declarations) (types : Types) (id : ℕ) (s u : Scopes) (same : (c
       misfits_call p s id object ≡ misfits_call p u id object
   refused object ids b = λ i f. holds (runs_in p f.on f.method) (misfits_runs_in p id (receiver object ids b i))
 
-  call : (place : Pos) (name : List ℕ) (object : Option ℕ) (ids : List ℕ) → AllBelow id (optional object ++ ids)
-      → use_breaks p types s id (Call place name object ids) ≡ use_breaks p types u id (Call place name object ids)
+  call : (position : Pos) (name : List ℕ) (object : Option ℕ) (ids : List ℕ) → AllBelow id (optional object ++ ids)
+      → use_breaks p types s id (Call position name object ids) ≡ use_breaks p types u id (Call position name object ids)
   unfolding AllBelow use_breaks e1 e2 e3 e4_and_e5 e6 e7 e8 e9 e10
-  call place name object (o ∷ r ∷ []) b =
+  call position name object (o ∷ r ∷ []) b =
       let below : AllBelow id (o ∷ r ∷ []) = below-right id (optional object) (o ∷ r ∷ []) b in
       rw (
         refused object (o ∷ r ∷ []) b,
@@ -67,7 +67,7 @@ module _ (p : Declarations) (types : Types) (id : ℕ) (s u : Scopes) (same : (c
         called (receiver_scope p u id object) (o ∷ r ∷ []) below,
         same o below.0,
       ) refl
-  call place name object ids b =
+  call position name object ids b =
       rw (
         refused object ids b,
         receiver object ids b,
@@ -77,19 +77,19 @@ module _ (p : Declarations) (types : Types) (id : ℕ) (s u : Scopes) (same : (c
   breaks-same : (node : Node) → AllBelow id (children node) →
       use_breaks p types s id node ≡ use_breaks p types u id node
   unfolding AllBelow children use_breaks e1 e2 e3 e4_and_e5 e6 e7 e8 e9 e10
-  breaks-same (SuperCall place ids) b = ap (λ (three : ℕ → List Found). found_at (superclass_at p id) three ++ [])
+  breaks-same (SuperCall position ids) b = ap (λ (three : ℕ → List Found). found_at (superclass_at p id) three ++ [])
       (λ i class. constructed (this_at p id) ids b class i)
-  breaks-same (New place name_place name ids) b =
-      ap (λ (three : ℕ → List Found). broken (misfits_new p id name) E1 place
+  breaks-same (New position name_place name ids) b =
+      ap (λ (three : ℕ → List Found). broken (misfits_new p id name) E1 position
       ++ (found_at (class_number p.names name) three ++ []))
       (λ i class. constructed (scope_of_new p id class) ids b class i)
-  breaks-same (Call place name object ids) b = call place name object ids b
-  breaks-same (Assign place target value) b = rw (same value b.1.0, same target b.0) refl
-  breaks-same (LocalWithValue place name_place name flags declared_type value) b =
+  breaks-same (Call position name object ids) b = call position name object ids b
+  breaks-same (Assign position target value) b = rw (same value b.1.0, same target b.0) refl
+  breaks-same (LocalWithValue position name_place name flags declared_type value) b =
       rw (same value (below-right id (optional flags) (declared_type ∷ value ∷ []) b).1.0) refl
-  breaks-same (Return place None) b = refl
-  breaks-same (Return place (Some value)) b = rw (same value b.0) refl
-  breaks-same (Cast place name_place name operand) b = rw (same operand b.0) refl
+  breaks-same (Return position None) b = refl
+  breaks-same (Return position (Some value)) b = rw (same value b.0) refl
+  breaks-same (Cast position name_place name operand) b = rw (same operand b.0) refl
   breaks-same _ b = refl
 
 -- with the scopes of the nodes before a node the same is broken there as with those of all nodes

@@ -92,6 +92,6 @@ e3_of at (Constructor class object) arguments = e3_of_constructor (declared at) 
 
 -- E7 and E8 of a call of the framework's method of a number
 unfoldable pub entry_breaks : At → Pos → ℕ → List ℕ → List Found
-entry_breaks at place number (o ∷ r ∷ []) = broken (enters_wrong (declared at) (types at) at.id number r) E7 place
-    ++ (broken (executes_wrong (declared at) (types at) (scopes at) number o r) E8 place ++ [])
-entry_breaks at place number _ = []
+entry_breaks at position number (o ∷ r ∷ []) = broken (enters_wrong (declared at) (types at) at.id number r) E7 position
+    ++ (broken (executes_wrong (declared at) (types at) (scopes at) number o r) E8 position ++ [])
+entry_breaks at position number _ = []

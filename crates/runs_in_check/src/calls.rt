@@ -86,8 +86,8 @@ fn note_argument(
     match &parameter(facts, callee, i) {
         Some(parameter) => {
             let is_wrong = misfit_scope(&value, &seen_scope(at, callee, parameter));
-            let place = place_at(facts.program(), argument);
-            report_if(found, is_wrong, Rule::E3, place)
+            let position = place_at(facts.program(), argument);
+            report_if(found, is_wrong, Rule::E3, position)
         }
         None => Ok(()),
     }
@@ -134,18 +134,18 @@ fn misfits_call(at: &At<'_>, object: &Option<NodeId>, method: &MethodRef) -> boo
 fn note_user_method(
     found: &mut Vec<Found>,
     at: &At<'_>,
-    place: Pos,
+    position: Pos,
     object: &Option<NodeId>,
     arguments: &[NodeId],
     method: &MethodRef,
 ) -> Result<(), Memory>
     ensures { let p = declared at.now in let f = found_method at.now.facts.now.nodes method.now in
         OnOk result (found.new.items ≡ found.old.items
-        ++ (broken (misfits_call p (scopes at.now) at.now.id object.now f) E2 place
+        ++ (broken (misfits_call p (scopes at.now) at.now.id object.now f) E2 position
         ++ e3_of_call p (scopes at.now) (receiver_scope p (scopes at.now) at.now.id object.now)
         (current_at p at.now.id) arguments.now f)) }
 {
-    report_if(found, misfits_call(at, object, method), Rule::E2, place)?;
+    report_if(found, misfits_call(at, object, method), Rule::E2, position)?;
     let callee = Callee::Method(*method, receiver_scope(at, object));
     note_arguments(found, at, &callee, arguments)?;
     Ok(())
@@ -225,20 +225,20 @@ fn misfits_execute(facts: &Facts<'_>, area: &Option<Scope>, t: &Option<Ty>) -> b
 fn note_entry(
     found: &mut Vec<Found>,
     at: &At<'_>,
-    place: Pos,
+    position: Pos,
     number: MethodId,
     arguments: &[NodeId],
 ) -> Result<(), Memory>
-    ensures { OnOk result (found.new.items ≡ found.old.items ++ entry_breaks at.now place number arguments.now) }
+    ensures { OnOk result (found.new.items ≡ found.old.items ++ entry_breaks at.now position number arguments.now) }
 {
     match arguments {
         [o, r] => {
             let enters = number == MANAGED_MEMORY_ENTER_PRIVATE_MEMORY
                 && misfits_enter(at.facts, at.id, &at.type_of(*r));
-            report_if(found, enters, Rule::E7, place)?;
+            report_if(found, enters, Rule::E7, position)?;
             let executes = number == MANAGED_MEMORY_EXECUTE_IN_AREA_OF
                 && misfits_execute(at.facts, &at.scope_of(*o), &at.type_of(*r));
-            report_if(found, executes, Rule::E8, place)?;
+            report_if(found, executes, Rule::E8, position)?;
             Ok(())
         }
         _ => Ok(()),
@@ -272,22 +272,22 @@ pub fn called_builtin(at: &At<'_>, name: &Name, object: &Option<NodeId>) -> Opti
 pub fn note_call(
     found: &mut Vec<Found>,
     at: &At<'_>,
-    place: Pos,
+    position: Pos,
     name: &Name,
     object: &Option<NodeId>,
     arguments: &[NodeId],
 ) -> Result<Option<Scope>, Memory>
     ensures scope { IfOk result (λ scope. scope ≡ scope_of (declared at.now) (types at.now) (scopes at.now) at.now.id
-        (Call place name.now object.now arguments.now)) }
+        (Call position name.now object.now arguments.now)) }
     ensures found { OnOk result (found.new.items ≡ found.old.items ++ use_breaks
-        (declared at.now) (types at.now) (scopes at.now) at.now.id (Call place name.now object.now arguments.now)) }
+        (declared at.now) (types at.now) (scopes at.now) at.now.id (Call position name.now object.now arguments.now)) }
 {
     let Some(method) = method_called(at, name, object) else {
         return Ok(None);
     };
     match builtin(&method) {
-        Some(number) => note_entry(found, at, place, number, arguments)?,
-        None => note_user_method(found, at, place, object, arguments, &method)?,
+        Some(number) => note_entry(found, at, position, number, arguments)?,
+        None => note_user_method(found, at, position, object, arguments, &method)?,
     }
     Ok(scope_of_call(at, object, &method))
 }

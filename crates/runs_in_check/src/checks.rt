@@ -53,11 +53,11 @@ fn judge(
     match node {
         Node::SimpleName { name, .. } => Ok(scope_of_name(at, name.get())),
         Node::Assign {
-            place,
+            position,
             target,
             value,
         } => {
-            note_assign(found, at, guards, *place, *target, *value)?;
+            note_assign(found, at, guards, *position, *target, *value)?;
             Ok(None)
         }
         Node::Class { .. }
@@ -68,44 +68,44 @@ fn judge(
             note_annotation(found, facts, at.id, node)?;
             Ok(None)
         }
-        Node::LocalWithValue { place, value, .. } => {
+        Node::LocalWithValue { position, value, .. } => {
             note_annotation(found, facts, at.id, node)?;
-            report_if(found, misfits_local(at, *value), Rule::E4, *place)?;
+            report_if(found, misfits_local(at, *value), Rule::E4, *position)?;
             Ok(None)
         }
         Node::Return {
-            place,
+            position,
             value: Some(value),
         } => {
-            report_if(found, misfits_result(at, *value), Rule::E6, *place)?;
+            report_if(found, misfits_result(at, *value), Rule::E6, *position)?;
             Ok(None)
         }
         Node::Parenthesized { inner, .. } => Ok(at.scope_of(*inner)),
         Node::FieldAccess { name, object, .. } => Ok(scope_of_access(at, name.get(), *object)),
         Node::Call {
-            place,
+            position,
             name,
             object,
             arguments,
-        } => note_call(found, at, *place, name.get(), object, arguments.items()),
+        } => note_call(found, at, *position, name.get(), object, arguments.items()),
         Node::New {
-            place,
+            position,
             name,
             arguments,
             ..
-        } => note_new(found, at, *place, name.get(), arguments.items()),
+        } => note_new(found, at, *position, name.get(), arguments.items()),
         Node::SuperCall { arguments, .. } => {
             note_super_call(found, at, arguments.items())?;
             Ok(None)
         }
         Node::Cast {
-            place,
+            position,
             name,
             operand,
             ..
-        } => note_cast(found, at, *place, name.get(), *operand),
-        Node::NewArray { place, element, .. } => {
-            report_if(found, misfits_array(at, *element), Rule::E10, *place)?;
+        } => note_cast(found, at, *position, name.get(), *operand),
+        Node::NewArray { position, element, .. } => {
+            report_if(found, misfits_array(at, *element), Rule::E10, *position)?;
             Ok(current_at(facts, at.id))
         }
         Node::Element { array, .. } => Ok(scope_of_element(at, *array)),
@@ -119,7 +119,7 @@ fn judge(
 fn is_plain(types: &[Option<Ty>], id: NodeId) -> bool
     ensures { result ≡ is_plain (lookup None types.now id) }
 {
-    match types.get(id.place()) {
+    match types.get(id.number()) {
         Some(Some(t)) => !is_reference(t),
         _ => false,
     }
@@ -191,8 +191,8 @@ pub fn check_uses<'a>(
     let guards = guards_of(alloc, facts, types)?;
     let mut scopes = Vec::with_capacity(alloc, program.len())?;
     let mut found = Vec::new(alloc);
-    for place in 0..program.len() {
-        let id = NodeId::at(place as u32);
+    for number in 0..program.len() {
+        let id = NodeId::at(number as u32);
         let scope = next_scope(&mut found, &*facts, &*types, &scopes, &guards, id)?;
         scopes.push(scope)?;
     }

@@ -32,8 +32,8 @@ fn is_any_asked<'a>(facts: &'a Facts<'a>, types: &'a [Option<Ty>]) -> bool
         asked_at (declarations_of facts.now) (lookup None types.now) number ≡ None }
 {
     let program = facts.program();
-    for place in 0..program.len() {
-        let id = NodeId::at(place as u32);
+    for index in 0..program.len() {
+        let id = NodeId::at(index as u32);
         let at = At {
             facts,
             types,
@@ -61,8 +61,8 @@ fn asked<'a>(
     let _subject: Option<Subject> = None;
     let program = facts.program();
     let mut rows = HashMap::new(alloc);
-    for place in 0..program.len() {
-        let id = NodeId::at(place as u32);
+    for index in 0..program.len() {
+        let id = NodeId::at(index as u32);
         let at = At {
             facts,
             types,
@@ -70,7 +70,7 @@ fn asked<'a>(
             id,
         };
         if let Some(guard) = asked_at(&at) {
-            rows.insert(place, guard)?;
+            rows.insert(index, guard)?;
         }
     }
     Ok(rows)
@@ -80,7 +80,7 @@ fn asked<'a>(
 fn is_asked_of(rows: &HashMap<usize, Guard>, number: NodeId, x: &Subject) -> bool
     ensures { result ≡ holds (get ◌==◌ rows.now number) (λ g. is_subject g x.now) }
 {
-    match rows.get(&number.place()) {
+    match rows.get(&number.number()) {
         Some(guard) => is_subject(guard, x),
         None => false,
     }
@@ -92,7 +92,7 @@ fn undo_one(rows: &mut HashMap<usize, Guard>, number: NodeId, x: &Subject)
         ≡ left_by x.now (number ∷ []) other (get ◌==◌ rows.old other) }
 {
     if is_asked_of(rows, number, x) {
-        rows.remove(&number.place());
+        rows.remove(&number.number());
     }
 }
 
@@ -162,8 +162,8 @@ fn undo_all(rows: &mut HashMap<usize, Guard>, facts: &Facts<'_>, parents: &[Opti
         ≡ left_from (declarations_of facts.now) 0 number (get ◌==◌ rows.old number) }
 {
     let program = facts.program();
-    for place in 0..program.len() {
-        let id = NodeId::at(place as u32);
+    for index in 0..program.len() {
+        let id = NodeId::at(index as u32);
         undo_by(rows, facts, parents, id);
     }
 }
@@ -202,7 +202,7 @@ fn guards_part(
     if !is_first_part(program, parent, part) {
         return false;
     }
-    match guards.rows.get(&parent.place()) {
+    match guards.rows.get(&parent.number()) {
         Some(guard) => are_subjects(x, y, guard),
         None => false,
     }

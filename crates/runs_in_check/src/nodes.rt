@@ -39,21 +39,21 @@ fn lies_elsewhere(facts: &Facts<'_>, id: NodeId, class: ClassId) -> bool
 pub fn note_new(
     found: &mut Vec<Found>,
     at: &At<'_>,
-    place: Pos,
+    position: Pos,
     name: &Name,
     arguments: &[NodeId],
 ) -> Result<Option<Scope>, Memory>
     ensures scope { let p = declared at.now in
         IfOk result (λ scope. scope ≡ option_and_then (scope_of_new p at.now.id) (class_number p.names name.now)) }
     ensures found { let p = declared at.now in OnOk result (found.new.items ≡ found.old.items
-        ++ (broken (misfits_new p at.now.id name.now) E1 place ++ found_at (class_number p.names name.now)
+        ++ (broken (misfits_new p at.now.id name.now) E1 position ++ found_at (class_number p.names name.now)
         (λ class. e3_of_constructor p (scopes at.now) (scope_of_new p at.now.id class) arguments.now class))) }
 {
     let facts = at.facts;
     let Some(class) = facts.class_of(name) else {
         return Ok(None);
     };
-    report_if(found, lies_elsewhere(facts, at.id, class), Rule::E1, place)?;
+    report_if(found, lies_elsewhere(facts, at.id, class), Rule::E1, position)?;
     let callee = Callee::Constructor(class, scope_of_new(facts, at.id, class));
     note_arguments(found, at, &callee, arguments)?;
     Ok(scope_of_new(facts, at.id, class))
@@ -116,7 +116,7 @@ pub fn note_assign(
     found: &mut Vec<Found>,
     at: &At<'_>,
     guards: &Guards,
-    place: Pos,
+    position: Pos,
     target: NodeId,
     value: NodeId,
 ) -> Result<(), Memory>
@@ -124,13 +124,13 @@ pub fn note_assign(
     ensures { let p = declared at.now in OnOk result (found.new.items ≡ found.old.items
         ++ found_at (read p.nodes (target_rule p target) target)
         (λ rule. broken (misfit_scope (scopes at.now value) (scopes at.now target)
-        && not (is_guarded_store p (types at.now) at.now.id target value)) rule place)) }
+        && not (is_guarded_store p (types at.now) at.now.id target value)) rule position)) }
 {
     if !misfits_assign(at, guards, target, value) {
         return Ok(());
     }
     match target_rule(at.facts, target) {
-        Some(rule) => report_if(found, true, rule, place),
+        Some(rule) => report_if(found, true, rule, position),
         None => Ok(()),
     }
 }
@@ -178,21 +178,21 @@ fn lies_outside(facts: &Facts<'_>, operand: &Option<Scope>, class: ClassId) -> b
 pub fn note_cast(
     found: &mut Vec<Found>,
     at: &At<'_>,
-    place: Pos,
+    position: Pos,
     name: &Name,
     operand: NodeId,
 ) -> Result<Option<Scope>, Memory>
     ensures scope { let p = declared at.now in IfOk result (λ scope. scope ≡ option_and_then
         (λ class. scope_in_class p class (scopes at.now operand)) (class_number p.names name.now)) }
     ensures found { OnOk result (found.new.items ≡ found.old.items
-        ++ broken (misfits_cast (declared at.now) (scopes at.now operand) name.now) E9 place) }
+        ++ broken (misfits_cast (declared at.now) (scopes at.now operand) name.now) E9 position) }
 {
     let facts = at.facts;
     let Some(class) = facts.class_of(name) else {
         return Ok(None);
     };
     let scope = at.scope_of(operand);
-    report_if(found, lies_outside(facts, &scope, class), Rule::E9, place)?;
+    report_if(found, lies_outside(facts, &scope, class), Rule::E9, position)?;
     Ok(scope_in_class(facts, class, &scope))
 }
 

@@ -15,9 +15,9 @@ use std::alloc::Global;
 fn put(rows: &mut Vec<Option<NodeId>>, parent: NodeId, child: NodeId)
     ensures { rows.new.items ≡ noted parent rows.old.items (child ∷ []) }
 {
-    let place = child.place();
-    if place < rows.len() {
-        rows[place] = Some(parent);
+    let number = child.number();
+    if number < rows.len() {
+        rows[number] = Some(parent);
     }
 }
 
@@ -80,10 +80,10 @@ pub fn parents_of(alloc: Global, program: &Program) -> Result<Vec<Option<NodeId>
     ensures { IfOk result (λ rows. (id : ℕ) → lookup None rows.items id ≡ parent_in program.now.nodes id) }
 {
     let mut rows = without_parents(alloc, program.len())?;
-    let mut place = program.len();
-    while place > 0 {
-        place -= 1;
-        let parent = NodeId::at(place as u32);
+    let mut index = program.len();
+    while index > 0 {
+        index -= 1;
+        let parent = NodeId::at(index as u32);
         put_parts(&mut rows, parent, &parts_of(program.node(parent)));
     }
     Ok(rows)

@@ -7,7 +7,7 @@ use std::marker::Model;
 /// The number of a node of a program, in the order in which the nodes were added.
 #[derive(Clone, Copy, Debug, PartialEq, Eq, PartialOrd, Ord)]
 pub struct NodeId {
-    place: u32,
+    number: u32,
 }
 
 impl Model for NodeId {
@@ -15,23 +15,23 @@ impl Model for NodeId {
 
     ghost Value = { ℕ };
 
-    ghost view = { λ a. a.place };
+    ghost view = { λ a. a.number };
 
-    ghost inverse = { λ n. record { place = n } };
+    ghost inverse = { λ n. record { number = n } };
 }
 
 impl NodeId {
     /// The node at a place of the program's list of nodes.
-    pub fn at(place: u32) -> NodeId
-        ensures { result ≡ place }
+    pub fn at(number: u32) -> NodeId
+        ensures { result ≡ number }
     {
-        NodeId { place }
+        NodeId { number }
     }
 
     /// The place of the node in the program's list of nodes.
-    pub fn place(self) -> usize
+    pub fn number(self) -> usize
         ensures { result ≡ self }
     {
-        self.place as usize
+        self.number as usize
     }
 }

@@ -4,19 +4,19 @@ ghost use Rattle.std.specs.Prelude.{◌≡◌, ◌<◌, slice_get, Some};
 ghost use Rattle.scj_base.specs.Vocabulary.{words, signs};
 
 /// The bytes of a reserved word.
-pub fn word_text(place: u8) -> &'static str
-    requires { place < 53 }
-    ensures { slice_get words place ≡ Some result.now }
+pub fn word_text(index: u8) -> &'static str
+    requires { index < 53 }
+    ensures { slice_get words index ≡ Some result.now }
 {
-    WORDS[place as usize]
+    WORDS[index as usize]
 }
 
 /// The bytes of a sign.
-pub fn sign_text(place: u8) -> &'static str
-    requires { place < 50 }
-    ensures { slice_get signs place ≡ Some result.now }
+pub fn sign_text(index: u8) -> &'static str
+    requires { index < 50 }
+    ensures { slice_get signs index ≡ Some result.now }
 {
-    SIGNS[place as usize]
+    SIGNS[index as usize]
 }
 
 /// The reserved words.

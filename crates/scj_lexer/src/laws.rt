@@ -13,8 +13,8 @@ pub fn at_most_one_list()
 
 /// A text has at most one first break, at one place.
 pub fn at_most_one_break()
-    ensures { (bytes : List ℕ) (rule other : Rule) (offset place : ℕ) → LexBreak bytes rule offset →
-        LexBreak bytes other place → (rule ≡ other) × (offset ≡ place) }
+    ensures { (bytes : List ℕ) (rule other : Rule) (offset index : ℕ) → LexBreak bytes rule offset →
+        LexBreak bytes other index → (rule ≡ other) × (offset ≡ index) }
 {}
 
 /// A text with a break has no tokens.

@@ -79,7 +79,7 @@ fn first_name(bytes: &[u8]) -> Front
         return Front::Bad(Rule::L4);
     }
     match word(&bytes[..len]) {
-        Some(place) => Front::Piece(Some(TokenKind::Word(place)), len),
+        Some(index) => Front::Piece(Some(TokenKind::Word(index)), len),
         None => Front::Piece(Some(TokenKind::Name), len),
     }
 }
@@ -165,7 +165,7 @@ fn first_sign(bytes: &[u8]) -> Front
     ensures { result ≡ sign_first bytes.now }
 {
     match sign(bytes) {
-        Some(place) => Front::Piece(Some(TokenKind::Sign(place)), sign_text(place).len()),
+        Some(index) => Front::Piece(Some(TokenKind::Sign(index)), sign_text(index).len()),
         None => Front::Bad(Rule::L1),
     }
 }

@@ -143,11 +143,11 @@ fn behind(pos: Pos, bytes: &[u8]) -> Pos
     requires columns_fit { pos.col + length bytes.now + 1 < 2 ^ 32 }
     ensures { result ≡ fold place_behind_byte pos bytes.now }
 {
-    let mut place = pos;
+    let mut position = pos;
     for byte in bytes {
-        place = behind_byte(place, *byte);
+        position = behind_byte(position, *byte);
     }
-    place
+    position
 }
 
 /// The place behind a byte.

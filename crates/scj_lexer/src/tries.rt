@@ -14,9 +14,9 @@ pub fn word(name: &[u8]) -> Option<u8>
     let [first, second, ..] = name else {
         return None;
     };
-    let place = only_word(*first, *second, name.len());
-    if word_text(place).as_bytes() == name {
-        return Some(place);
+    let index = only_word(*first, *second, name.len());
+    if word_text(index).as_bytes() == name {
+        return Some(index);
     }
     None
 }
@@ -36,7 +36,7 @@ fn only_word(first: u8, second: u8, len: usize) -> u8
 pub fn sign(bytes: &[u8]) -> Option<u8>
     requires { 0 < length bytes.now }
     ensures value { result ≡ sign_of bytes.now }
-    ensures in_range { IfSome result (λ place. place < 50) }
+    ensures in_range { IfSome result (λ index. index < 50) }
 {
     let first = bytes[0];
     if first < b'!' || first > b'~' {
@@ -45,9 +45,9 @@ pub fn sign(bytes: &[u8]) -> Option<u8>
     if !may_go_on(bytes) {
         return sign_alone(first);
     }
-    for place in candidate_signs(first) {
-        if bytes.starts_with(sign_text(*place).as_bytes()) {
-            return Some(*place);
+    for index in candidate_signs(first) {
+        if bytes.starts_with(sign_text(*index).as_bytes()) {
+            return Some(*index);
         }
     }
     None
@@ -85,7 +85,7 @@ fn sign_alone(byte: u8) -> Option<u8>
     requires from { 33 ≤ byte }
     requires to { byte ≤ 126 }
     ensures value { result ≡ last_sign byte }
-    ensures in_range { IfSome result (λ place. place < 50) }
+    ensures in_range { IfSome result (λ index. index < 50) }
 {
     candidate_signs(byte).last().copied()
 }

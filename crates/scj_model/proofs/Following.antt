@@ -22,23 +22,23 @@ element_behind (x ∷ xs) y ys = element_behind xs y ys
 
 abbrev AllAct : State → List Candidate → Type 0
 AllAct s [] = Unit {0}
-AllAct s (c ∷ cs) = (may_act s c.place ≡ true) × AllAct s cs
+AllAct s (c ∷ cs) = (may_act s c.index ≡ true) × AllAct s cs
 
-candidate_acts : (s : State) (place : ℕ) (r : Release) (cs : List Candidate) → slice_get s.releases place ≡ Some r → AllAct s cs → AllAct s (option_to_list (candidate s place r) ++ cs)
+candidate_acts : (s : State) (index : ℕ) (r : Release) (cs : List Candidate) → slice_get s.releases index ≡ Some r → AllAct s cs → AllAct s (option_to_list (candidate s index r) ++ cs)
 unfolding candidate may_act
-candidate_acts s place r cs e rest = go r.status refl
+candidate_acts s index r cs e rest = go r.status refl
   where
-    acts_as : is_some (candidate s place r) ≡ true → may_act s place ≡ true
-    acts_as k = ap (λ (o : Option Release). holds o (λ x. is_some (candidate s place x))) e ∙ k
+    acts_as : is_some (candidate s index r) ≡ true → may_act s index ≡ true
+    acts_as k = ap (λ (o : Option Release). holds o (λ x. is_some (candidate s index x))) e ∙ k
 
     go : (p : ReleaseStatus) → r.status ≡ p → AllAct s (option_to_list (elim p as (λ x. Option Candidate) [
-      | Waits ↦ Some (record { place = place; priority = handler_priority s r.handler; is_started = false })
-      | Started activity ↦ Some (record { place = place; priority = activity.priority; is_started = true })
+      | Waits ↦ Some (record { index = index; priority = handler_priority s r.handler; is_started = false })
+      | Started activity ↦ Some (record { index = index; priority = activity.priority; is_started = true })
       | Ended ↦ None
       | Dropped ↦ None
     ]) ++ cs)
-    go Waits h = (acts_as (ap (λ (x : ReleaseStatus). is_some (candidate s place (record r { status = x }))) h), rest)
-    go (Started activity) h = (acts_as (ap (λ (x : ReleaseStatus). is_some (candidate s place (record r { status = x }))) h), rest)
+    go Waits h = (acts_as (ap (λ (x : ReleaseStatus). is_some (candidate s index (record r { status = x }))) h), rest)
+    go (Started activity) h = (acts_as (ap (λ (x : ReleaseStatus). is_some (candidate s index (record r { status = x }))) h), rest)
     go Ended h = rest
     go Dropped h = rest
 
@@ -57,16 +57,16 @@ all_act s = all_act_from s [] s.releases refl
 some_same : {A : Type 0} (a b : A) → Some a ≡ Some b → a ≡ b
 some_same a b e = ap (λ (o : Option _). unwrap_or o a) e
 
-most_urgent_acts : (s : State) (cs : List Candidate) → AllAct s cs → (m : Candidate) → most_urgent cs ≡ Some m → may_act s m.place ≡ true
+most_urgent_acts : (s : State) (cs : List Candidate) → AllAct s cs → (m : Candidate) → most_urgent cs ≡ Some m → may_act s m.index ≡ true
 unfolding most_urgent
 most_urgent_acts s [] h m e = absurd (cc (e))
 most_urgent_acts s (c ∷ cs) h m e = go (most_urgent cs) (λ later k. most_urgent_acts s cs h.1 later k) e
   where
-    either : (b : Bool) (later : Candidate) → may_act s later.place ≡ true → Some (if b then later else c) ≡ Some m → may_act s m.place ≡ true
-    either true later k x = ap (λ (y : Candidate). may_act s y.place) (sym (some_same later m x)) ∙ k
-    either false later k x = ap (λ (y : Candidate). may_act s y.place) (sym (some_same c m x)) ∙ h.0
+    either : (b : Bool) (later : Candidate) → may_act s later.index ≡ true → Some (if b then later else c) ≡ Some m → may_act s m.index ≡ true
+    either true later k x = ap (λ (y : Candidate). may_act s y.index) (sym (some_same later m x)) ∙ k
+    either false later k x = ap (λ (y : Candidate). may_act s y.index) (sym (some_same c m x)) ∙ h.0
 
-    go : (o : Option Candidate) → ((later : Candidate) → o ≡ Some later → may_act s later.place ≡ true) → (elim o [ None ↦ Some c | Some later ↦ Some (if is_more_urgent later c then later else c) ]) ≡ Some m → may_act s m.place ≡ true
+    go : (o : Option Candidate) → ((later : Candidate) → o ≡ Some later → may_act s later.index ≡ true) → (elim o [ None ↦ Some c | Some later ↦ Some (if is_more_urgent later c then later else c) ]) ≡ Some m → may_act s m.index ≡ true
     go None k x = either false c h.0 x
     go (Some later) k x = either (is_more_urgent later c) later (k later refl) x
 
@@ -75,18 +75,18 @@ none_behind : (xs : List Candidate) (ys : List Candidate) → xs ++ ys ≡ [] �
 none_behind [] ys e = e
 none_behind (x ∷ xs) ys e = absurd (cc (e))
 
-no_candidate : (s : State) (k place : ℕ) (r : Release) (cs : List Candidate) → option_to_list (candidate s k r) ++ cs ≡ [] → is_some (candidate s place r) ≡ true → ⊥
+no_candidate : (s : State) (k index : ℕ) (r : Release) (cs : List Candidate) → option_to_list (candidate s k r) ++ cs ≡ [] → is_some (candidate s index r) ≡ true → ⊥
 unfolding candidate
-no_candidate s k place r cs = go r.status
+no_candidate s k index r cs = go r.status
   where
     go : (p : ReleaseStatus) → option_to_list (elim p as (λ x. Option Candidate) [
-      | Waits ↦ Some (record { place = k; priority = handler_priority s r.handler; is_started = false })
-      | Started activity ↦ Some (record { place = k; priority = activity.priority; is_started = true })
+      | Waits ↦ Some (record { index = k; priority = handler_priority s r.handler; is_started = false })
+      | Started activity ↦ Some (record { index = k; priority = activity.priority; is_started = true })
       | Ended ↦ None
       | Dropped ↦ None
     ]) ++ cs ≡ [] → is_some (elim p as (λ x. Option Candidate) [
-      | Waits ↦ Some (record { place = place; priority = handler_priority s r.handler; is_started = false })
-      | Started activity ↦ Some (record { place = place; priority = activity.priority; is_started = true })
+      | Waits ↦ Some (record { index = index; priority = handler_priority s r.handler; is_started = false })
+      | Started activity ↦ Some (record { index = index; priority = activity.priority; is_started = true })
       | Ended ↦ None
       | Dropped ↦ None
     ]) ≡ true → ⊥
@@ -95,29 +95,29 @@ no_candidate s k place r cs = go r.status
     go Ended e h = absurd (cc (h))
     go Dropped e h = absurd (cc (h))
 
-none_act_from : (s : State) (k place : ℕ) (rs : List Release) (i : ℕ) → candidates_from s k rs ≡ [] → holds (slice_get rs i) (λ r. is_some (candidate s place r)) ≡ true → ⊥
+none_act_from : (s : State) (k index : ℕ) (rs : List Release) (i : ℕ) → candidates_from s k rs ≡ [] → holds (slice_get rs i) (λ r. is_some (candidate s index r)) ≡ true → ⊥
 unfolding candidates_from
-none_act_from s k place [] i e h = absurd (cc (h))
-none_act_from s k place (r ∷ rs) zero e h = no_candidate s k place r _ e h
-none_act_from s k place (r ∷ rs) (suc i) e h =
-    none_act_from s (k + 1) place rs i (none_behind (option_to_list (candidate s k r)) _ e) h
+none_act_from s k index [] i e h = absurd (cc (h))
+none_act_from s k index (r ∷ rs) zero e h = no_candidate s k index r _ e h
+none_act_from s k index (r ∷ rs) (suc i) e h =
+    none_act_from s (k + 1) index rs i (none_behind (option_to_list (candidate s k r)) _ e) h
 
-none_act : (s : State) (place : ℕ) → candidates s ≡ [] → may_act s place ≡ true → ⊥
+none_act : (s : State) (index : ℕ) → candidates s ≡ [] → may_act s index ≡ true → ⊥
 unfolding candidates may_act
-none_act s place e h = none_act_from s 0 place s.releases place e h
+none_act s index e h = none_act_from s 0 index s.releases index e h
 
 -- ---- turns that a list may have
 
 abbrev pub IsAllowed : State → Turn → Type 0
 IsAllowed s IdleTurn = candidates s ≡ []
-IsAllowed s (TurnOf place) = may_act s place ≡ true
+IsAllowed s (TurnOf index) = may_act s index ≡ true
 
 -- the policy has such turns alone
 pub record IsFair (policy : Policy) : Type 0 where
   pub turns : (s : State) (turn : Turn) → policy s ≡ Some turn → IsAllowed s turn
 
 abbrev pub priority_turn : State → Turn
-priority_turn s = elim (chosen s) [ None ↦ IdleTurn | Some place ↦ TurnOf place ]
+priority_turn s = elim (chosen s) [ None ↦ IdleTurn | Some index ↦ TurnOf index ]
 
 some_is_most_urgent : (c : Candidate) (cs : List Candidate) → most_urgent (c ∷ cs) ≡ None → ⊥
 unfolding most_urgent
@@ -131,11 +131,11 @@ pub priority_allows : (s : State) → IsAllowed s (priority_turn s)
 unfolding chosen
 priority_allows s = go (candidates s) refl
   where
-    on : (cs : List Candidate) → AllAct s cs → (o : Option Candidate) → most_urgent cs ≡ o → (o ≡ None → candidates s ≡ []) → IsAllowed s (elim (option_map (λ (c : Candidate). c.place) o) as (λ x. Turn) [ None ↦ IdleTurn | Some place ↦ TurnOf place ])
+    on : (cs : List Candidate) → AllAct s cs → (o : Option Candidate) → most_urgent cs ≡ o → (o ≡ None → candidates s ≡ []) → IsAllowed s (elim (option_map (λ (c : Candidate). c.index) o) as (λ x. Turn) [ None ↦ IdleTurn | Some index ↦ TurnOf index ])
     on cs h None e k = k refl
     on cs h (Some m) e k = most_urgent_acts s cs h m e
 
-    go : (cs : List Candidate) → candidates s ≡ cs → IsAllowed s (elim (option_map (λ (c : Candidate). c.place) (most_urgent (candidates s))) as (λ x. Turn) [ None ↦ IdleTurn | Some place ↦ TurnOf place ])
+    go : (cs : List Candidate) → candidates s ≡ cs → IsAllowed s (elim (option_map (λ (c : Candidate). c.index) (most_urgent (candidates s))) as (λ x. Turn) [ None ↦ IdleTurn | Some index ↦ TurnOf index ])
     go [] e = on (candidates s) (all_act s) (most_urgent (candidates s)) refl (λ x. e)
     go (c ∷ cs) e =
         on (candidates s) (all_act s) (most_urgent (candidates s)) refl
@@ -149,15 +149,15 @@ pub list_is_fair : (choices : List ℕ) → IsFair (by_list choices)
 unfolding by_list
 list_is_fair choices = record { turns = λ s turn e. go s turn (candidates s) refl e }
   where
-    tested : (s : State) (turn : Turn) (place : ℕ) (b : Bool) → may_act s place ≡ b → (if b then Some (TurnOf place) else None) ≡ Some turn → IsAllowed s turn
-    tested s turn place true h e = subst (λ (t : Turn). IsAllowed s t) (some_same (TurnOf place) turn e) h
-    tested s turn place false h e = absurd (cc (e))
+    tested : (s : State) (turn : Turn) (index : ℕ) (b : Bool) → may_act s index ≡ b → (if b then Some (TurnOf index) else None) ≡ Some turn → IsAllowed s turn
+    tested s turn index true h e = subst (λ (t : Turn). IsAllowed s t) (some_same (TurnOf index) turn e) h
+    tested s turn index false h e = absurd (cc (e))
 
-    named : (s : State) (turn : Turn) (o : Option ℕ) → (o >>= (λ place. if may_act s place then Some (TurnOf place) else None)) ≡ Some turn → IsAllowed s turn
+    named : (s : State) (turn : Turn) (o : Option ℕ) → (o >>= (λ index. if may_act s index then Some (TurnOf index) else None)) ≡ Some turn → IsAllowed s turn
     named s turn None e = absurd (cc (e))
-    named s turn (Some place) e = tested s turn place (may_act s place) refl e
+    named s turn (Some index) e = tested s turn index (may_act s index) refl e
 
-    go : (s : State) (turn : Turn) (cs : List Candidate) → candidates s ≡ cs → (elim cs [ [] ↦ Some IdleTurn | c ∷ more ↦ slice_get choices s.unit >>= (λ place. if may_act s place then Some (TurnOf place) else None) ]) ≡ Some turn → IsAllowed s turn
+    go : (s : State) (turn : Turn) (cs : List Candidate) → candidates s ≡ cs → (elim cs [ [] ↦ Some IdleTurn | c ∷ more ↦ slice_get choices s.unit >>= (λ index. if may_act s index then Some (TurnOf index) else None) ]) ≡ Some turn → IsAllowed s turn
     go s turn [] k e = subst (λ (t : Turn). IsAllowed s t) (some_same IdleTurn turn e) k
     go s turn (c ∷ cs) k e = named s turn (slice_get choices s.unit) e
 
@@ -166,33 +166,33 @@ list_is_fair choices = record { turns = λ s turn e. go s turn (candidates s) re
 -- the place that a list has for the turn; where nobody acts, any place
 abbrev pub place_of_turn : Turn → ℕ
 place_of_turn IdleTurn = 0
-place_of_turn (TurnOf place) = place
+place_of_turn (TurnOf index) = index
 
 pub list_has_turn : (s : State) (turn : Turn) → IsAllowed s turn → (choices more : List ℕ) → length choices ≡ s.unit → by_list (choices ++ place_of_turn turn ∷ more) s ≡ Some turn
 unfolding by_list
 list_has_turn s IdleTurn h choices more e =
-    ap (λ (cs : List Candidate). elim cs as (λ x. Option Turn) [ [] ↦ Some IdleTurn | c ∷ others ↦ slice_get (choices ++ 0 ∷ more) s.unit >>= (λ place. if may_act s place then Some (TurnOf place) else None) ]) h
-list_has_turn s (TurnOf place) h choices more e = go (candidates s) refl
+    ap (λ (cs : List Candidate). elim cs as (λ x. Option Turn) [ [] ↦ Some IdleTurn | c ∷ others ↦ slice_get (choices ++ 0 ∷ more) s.unit >>= (λ index. if may_act s index then Some (TurnOf index) else None) ]) h
+list_has_turn s (TurnOf index) h choices more e = go (candidates s) refl
   where
-    named : slice_get (choices ++ place ∷ more) s.unit ≡ Some place
-    named = ap (λ (k : ℕ). slice_get (choices ++ place ∷ more) k) (sym e) ∙ element_behind choices place more
+    named : slice_get (choices ++ index ∷ more) s.unit ≡ Some index
+    named = ap (λ (k : ℕ). slice_get (choices ++ index ∷ more) k) (sym e) ∙ element_behind choices index more
 
-    go : (cs : List Candidate) → candidates s ≡ cs → (elim cs as (λ x. Option Turn) [ [] ↦ Some IdleTurn | c ∷ others ↦ slice_get (choices ++ place ∷ more) s.unit >>= (λ place. if may_act s place then Some (TurnOf place) else None) ]) ≡ Some (TurnOf place)
-    go [] k = absurd (none_act s place k h)
+    go : (cs : List Candidate) → candidates s ≡ cs → (elim cs as (λ x. Option Turn) [ [] ↦ Some IdleTurn | c ∷ others ↦ slice_get (choices ++ index ∷ more) s.unit >>= (λ index. if may_act s index then Some (TurnOf index) else None) ]) ≡ Some (TurnOf index)
+    go [] k = absurd (none_act s index k h)
     go (c ∷ cs) k =
-        ap (λ (o : Option ℕ). o >>= (λ place. if may_act s place then Some (TurnOf place) else None)) named
-        ∙ ap (λ (b : Bool). if b then Some (TurnOf place) else None) h
+        ap (λ (o : Option ℕ). o >>= (λ index. if may_act s index then Some (TurnOf index) else None)) named
+        ∙ ap (λ (b : Bool). if b then Some (TurnOf index) else None) h
 
 -- what acts under a fair policy acts under a list that is long enough
 pub record Names (code : Code) (rows : List ReadingRow) (s : State) (choices : List ℕ) (o : Option Step) : Type 0 where
-  pub place : ℕ
-  pub same : (more : List ℕ) → acts code rows (by_list (choices ++ place ∷ more)) s ≡ o
+  pub index : ℕ
+  pub same : (more : List ℕ) → acts code rows (by_list (choices ++ index ∷ more)) s ≡ o
 
 pub turn_named : (code : Code) (rows : List ReadingRow) (s : State) (turn : Turn) → IsAllowed s turn → is_exec s.phase ≡ true → (choices : List ℕ) → length choices ≡ s.unit → Names code rows s choices (then_try (turn_taken s turn) (turn_acts code rows turn))
 unfolding acts
 turn_named code rows s turn h x choices e =
     record {
-      place = place_of_turn turn;
+      index = place_of_turn turn;
       same = λ more.
           ap (λ (b : Bool). if b then (by_list (choices ++ place_of_turn turn ∷ more) s >>= (λ t. then_try (turn_taken s t) (turn_acts code rows t))) else sequencer_turn code rows s) x
           ∙ ap (λ (o : Option Turn). o >>= (λ t. then_try (turn_taken s t) (turn_acts code rows t))) (list_has_turn s turn h choices more e);
@@ -202,7 +202,7 @@ sequencer_named : (code : Code) (rows : List ReadingRow) (s : State) → is_exec
 unfolding acts
 sequencer_named code rows s x choices =
     record {
-      place = 0;
+      index = 0;
       same = λ more.
           ap (λ (b : Bool). if b then (by_list (choices ++ 0 ∷ more) s >>= (λ t. then_try (turn_taken s t) (turn_acts code rows t))) else sequencer_turn code rows s) x;
     }
@@ -245,11 +245,11 @@ pub record IsListed (code : Code) (plan : Plan) (moment : Moment) (s : State) : 
 pub operated : (code : Code) (plan : Plan) (s : State) (l : IsListed code plan Arrived s) (step : Step) → step.state.unit ≡ s.unit → Names code plan.readings s l.choices (Some step) → IsListed code plan Operated step.state
 operated code plan s l step e n =
     record {
-      choices = l.choices ++ n.place ∷ [];
-      counted = let k : length (l.choices ++ n.place ∷ []) ≡ length l.choices + 1 = length-append l.choices (n.place ∷ []) in omega (arith, k, l.counted, e);
+      choices = l.choices ++ n.index ∷ [];
+      counted = let k : length (l.choices ++ n.index ∷ []) ≡ length l.choices + 1 = length-append l.choices (n.index ∷ []) in omega (arith, k, l.counted, e);
       reaches = λ more.
-          subst (λ (xs : List ℕ). Reached code plan (by_list xs) Operated step.state) (sym (append_assoc l.choices (n.place ∷ []) more))
-          (on_operation s step (l.reaches (n.place ∷ more)) (n.same more));
+          subst (λ (xs : List ℕ). Reached code plan (by_list xs) Operated step.state) (sym (append_assoc l.choices (n.index ∷ []) more))
+          (on_operation s step (l.reaches (n.index ∷ more)) (n.same more));
     }
 
 pub fair_listed : (code : Code) (plan : Plan) (policy : Policy) → IsFair policy → {moment : Moment} {s : State} → Reached code plan policy moment s → IsListed code plan moment s

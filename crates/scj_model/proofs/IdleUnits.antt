@@ -61,7 +61,7 @@ idle_acts : (code : Code) (rows : List ReadingRow) (s : State) → IsIdle s → 
 unfolding acts by_priority chosen most_urgent turn_taken turn_acts is_same_turn
 idle_acts code rows s i =
     ap (λ (b : Bool). if b then (by_priority s >>= (λ turn. then_try (turn_taken s turn) (turn_acts code rows turn))) else sequencer_turn code rows s) i.executes
-    ∙ (ap (λ (cs : List Candidate). Some (elim (option_map (λ (c : Candidate). c.place) (most_urgent cs)) as (λ x. Turn) [ None ↦ IdleTurn | Some place ↦ TurnOf place ]) >>= (λ turn. then_try (turn_taken s turn) (turn_acts code rows turn))) i.nobody
+    ∙ (ap (λ (cs : List Candidate). Some (elim (option_map (λ (c : Candidate). c.index) (most_urgent cs)) as (λ x. Turn) [ None ↦ IdleTurn | Some index ↦ TurnOf index ]) >>= (λ turn. then_try (turn_taken s turn) (turn_acts code rows turn))) i.nobody
     ∙ (ap (λ (c : Option Turn). Some (telling (with_turn s IdleTurn) ((if holds c (is_same_turn IdleTurn) then [] else tell_turn s IdleTurn) ++ []))) i.was_idle
     ∙ ap (λ (c : Option Turn). Some (silently (record s { last_choice = c }))) (sym i.was_idle)))
 

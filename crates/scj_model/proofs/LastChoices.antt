@@ -47,32 +47,32 @@ closed_all_same t s [] = refl
 closed_all_same t s (f ∷ fs) =
     ap (λ (x : State). closed_all x fs) (closed_same t s f.opened) ∙ closed_all_same t (closed s f.opened) fs
 
-fault_same : (t : Turn) (s : State) (n : ℕ) (activity : Activity) (place : Pos) (fault : RunFault) → SameStep t (fault_in (with_turn s t) (ReleaseAt n) activity place fault) (fault_in s (ReleaseAt n) activity place fault)
+fault_same : (t : Turn) (s : State) (n : ℕ) (activity : Activity) (position : Pos) (fault : RunFault) → SameStep t (fault_in (with_turn s t) (ReleaseAt n) activity position fault) (fault_in s (ReleaseAt n) activity position fault)
 unfolding fault_in
-fault_same t s n activity place fault =
+fault_same t s n activity position fault =
     record {
-      is = ap (λ (x : State). telling (with_status x n Ended) (Fault s.unit fault place ∷ of_release s (ReleaseAt n) (λ (r : Release). End s.unit r.handler r.number ∷ [])))
+      is = ap (λ (x : State). telling (with_status x n Ended) (Fault s.unit fault position ∷ of_release s (ReleaseAt n) (λ (r : Release). End s.unit r.handler r.number ∷ [])))
           (closed_all_same t s activity.frames);
     }
 
 -- ---- effects
 
-called_same : (t : Turn) (code : Code) (s : State) (n : ℕ) (activity : Activity) (frames : List Frame) (place : Pos) (g : Frame) → SameStep t (called code (with_turn s t) (ReleaseAt n) activity frames place g) (called code s (ReleaseAt n) activity frames place g)
+called_same : (t : Turn) (code : Code) (s : State) (n : ℕ) (activity : Activity) (frames : List Frame) (position : Pos) (g : Frame) → SameStep t (called code (with_turn s t) (ReleaseAt n) activity frames position g) (called code s (ReleaseAt n) activity frames position g)
 unfolding called ceiling_entered with_activity
-called_same t code s n activity frames place g =
-    same_if t (is_full frames) _ _ _ _ (fault_same t s n activity place _)
+called_same t code s n activity frames position g =
+    same_if t (is_full frames) _ _ _ _ (fault_same t s n activity position _)
     (same_option t (ceiling_entered code s g) _ _ _ _ (record { is = refl })
-    (λ ceiling. same_if t (nat_lt ceiling activity.priority) _ _ _ _ (fault_same t s n activity place _) (record { is = refl })))
+    (λ ceiling. same_if t (nat_lt ceiling activity.priority) _ _ _ _ (fault_same t s n activity position _) (record { is = refl })))
 
-opening_same : (t : Turn) (s : State) (n : ℕ) (activity : Activity) (place : Pos) (scope : ℕ) (parent : Option ℕ) (bytes : ℕ) (next : State → ℕ → Step) → ((u : State) (a : ℕ) → SameStep t (next (with_turn u t) a) (next u a)) → SameStep t (opening (with_turn s t) (ReleaseAt n) activity place scope parent bytes next) (opening s (ReleaseAt n) activity place scope parent bytes next)
+opening_same : (t : Turn) (s : State) (n : ℕ) (activity : Activity) (position : Pos) (scope : ℕ) (parent : Option ℕ) (bytes : ℕ) (next : State → ℕ → Step) → ((u : State) (a : ℕ) → SameStep t (next (with_turn u t) a) (next u a)) → SameStep t (opening (with_turn s t) (ReleaseAt n) activity position scope parent bytes next) (opening s (ReleaseAt n) activity position scope parent bytes next)
 unfolding opening has_store_for reserved
-opening_same t s n activity place scope parent bytes next h =
-    same_if t (has_store_for s bytes) _ _ _ _ (h (with_area s scope parent bytes) (length s.areas)) (fault_same t s n activity place _)
+opening_same t s n activity position scope parent bytes next h =
+    same_if t (has_store_for s bytes) _ _ _ _ (h (with_area s scope parent bytes) (length s.areas)) (fault_same t s n activity position _)
 
-allocating_same : (t : Turn) (s : State) (n : ℕ) (activity : Activity) (place : Pos) (class area : ℕ) (slots : List Value) (next : State → ℕ → Step) → ((u : State) (r : ℕ) → SameStep t (next (with_turn u t) r) (next u r)) → SameStep t (allocating (with_turn s t) (ReleaseAt n) activity place class area slots next) (allocating s (ReleaseAt n) activity place class area slots next)
+allocating_same : (t : Turn) (s : State) (n : ℕ) (activity : Activity) (position : Pos) (class area : ℕ) (slots : List Value) (next : State → ℕ → Step) → ((u : State) (r : ℕ) → SameStep t (next (with_turn u t) r) (next u r)) → SameStep t (allocating (with_turn s t) (ReleaseAt n) activity position class area slots next) (allocating s (ReleaseAt n) activity position class area slots next)
 unfolding allocating has_room used
-allocating_same t s n activity place class area slots next h =
-    same_if t (has_room s area (length slots)) _ _ _ _ (h (with_object s class area slots) (length s.objects)) (fault_same t s n activity place _)
+allocating_same t s n activity position class area slots next h =
+    same_if t (has_room s area (length slots)) _ _ _ _ (h (with_object s class area slots) (length s.objects)) (fault_same t s n activity position _)
 
 scope_same : (t : Turn) (s : State) (scope : ℕ) (areas : List ℕ) → area_with_scope (with_turn s t) scope areas ≡ area_with_scope s scope areas
 unfolding area_with_scope
@@ -80,21 +80,21 @@ scope_same t s scope [] = refl
 scope_same t s scope (a ∷ areas) =
     ap (λ (o : Option ℕ). if holds (area_at s a) (λ (x : MemoryArea). x.scope == scope) then Some a else o) (scope_same t s scope areas)
 
-opened_same : (t : Turn) (s : State) (n : ℕ) (activity : Activity) (frames : List Frame) (place : Pos) (g : Frame) (scope bytes : ℕ) → SameStep t (opened_in (with_turn s t) (ReleaseAt n) activity frames place g scope bytes) (opened_in s (ReleaseAt n) activity frames place g scope bytes)
+opened_same : (t : Turn) (s : State) (n : ℕ) (activity : Activity) (frames : List Frame) (position : Pos) (g : Frame) (scope bytes : ℕ) → SameStep t (opened_in (with_turn s t) (ReleaseAt n) activity frames position g scope bytes) (opened_in s (ReleaseAt n) activity frames position g scope bytes)
 unfolding opened_in with_activity
-opened_same t s n activity frames place g scope bytes =
+opened_same t s n activity frames position g scope bytes =
     record {
-      is = ap (λ (o : Option ℕ). if is_some o then fault_in (with_turn s t) (ReleaseAt n) activity place ScopedCycle
-          else (if is_full frames then fault_in (with_turn s t) (ReleaseAt n) activity place DepthFull
-          else opening (with_turn s t) (ReleaseAt n) activity place scope (Some g.area) bytes (λ u area.
+      is = ap (λ (o : Option ℕ). if is_some o then fault_in (with_turn s t) (ReleaseAt n) activity position ScopedCycle
+          else (if is_full frames then fault_in (with_turn s t) (ReleaseAt n) activity position DepthFull
+          else opening (with_turn s t) (ReleaseAt n) activity position scope (Some g.area) bytes (λ u area.
           silently (with_activity u (ReleaseAt n) (record activity {
             frames = record g { area = area; opened = Some area } ∷ frames;
             areas = area ∷ activity.areas;
           })))))
           (scope_same t s scope activity.areas)
-          ∙ (same_if t (is_some (area_with_scope s scope activity.areas)) _ _ _ _ (fault_same t s n activity place _)
-          (same_if t (is_full frames) _ _ _ _ (fault_same t s n activity place _)
-          (opening_same t s n activity place scope (Some g.area) bytes _ (λ u a. record { is = refl })))).is;
+          ∙ (same_if t (is_some (area_with_scope s scope activity.areas)) _ _ _ _ (fault_same t s n activity position _)
+          (same_if t (is_full frames) _ _ _ _ (fault_same t s n activity position _)
+          (opening_same t s n activity position scope (Some g.area) bytes _ (λ u a. record { is = refl })))).is;
     }
 
 left_same : (t : Turn) (s : State) (n : ℕ) (activity : Activity) (f : Frame) (below : List Frame) (value : Option Value) → SameStep t (frame_left (with_turn s t) (ReleaseAt n) activity f below value) (frame_left s (ReleaseAt n) activity f below value)
@@ -137,12 +137,12 @@ unfolding termination_asked termination
 asked_same t s r =
     same_if t (asks_for_end s.mission s.phase s.is_end_asked r) _ _ _ _ (same_if t (is_exec s.phase) _ _ _ _ (record { is = refl }) (record { is = refl })) (record { is = refl })
 
-registered_same : (t : Turn) (code : Code) (s : State) (n : ℕ) (activity : Activity) (place : Pos) (r : ℕ) (o : Object) (after : State) → SameStep t (registered code (with_turn s t) (ReleaseAt n) activity place r o (with_turn after t)) (registered code s (ReleaseAt n) activity place r o after)
+registered_same : (t : Turn) (code : Code) (s : State) (n : ℕ) (activity : Activity) (position : Pos) (r : ℕ) (o : Object) (after : State) → SameStep t (registered code (with_turn s t) (ReleaseAt n) activity position r o (with_turn after t)) (registered code s (ReleaseAt n) activity position r o after)
 unfolding registered
-registered_same t code s n activity place r o after =
-    same_if t (not (is_init s.phase)) _ _ _ _ (fault_same t s n activity place _)
+registered_same t code s n activity position r o after =
+    same_if t (not (is_init s.phase)) _ _ _ _ (fault_same t s n activity position _)
     (same_if t (is_some (handler_number s.registry r)) _ _ _ _ (record { is = refl })
-    (same_if t (not (nat_lt (length s.registry) most_handlers)) _ _ _ _ (fault_same t s n activity place _) (record { is = refl })))
+    (same_if t (not (nat_lt (length s.registry) most_handlers)) _ _ _ _ (fault_same t s n activity position _) (record { is = refl })))
 
 -- ---- operations
 
@@ -160,27 +160,27 @@ same_mapped t (Some a) f g h = ap (λ (x : Step). Some x) (h a).is
 same_some : (t : Turn) (x y : Step) → SameStep t x y → SameIf t (Some x) (Some y)
 same_some t x y h = ap (λ (z : Step). Some z) h.is
 
-applied_same : (t : Turn) (code : Code) (s : State) (n : ℕ) (activity : Activity) (below : List Frame) (place : Pos) (effect : Effect) → SameIf t (applied code (with_turn s t) (ReleaseAt n) activity below place effect) (applied code s (ReleaseAt n) activity below place effect)
+applied_same : (t : Turn) (code : Code) (s : State) (n : ℕ) (activity : Activity) (below : List Frame) (position : Pos) (effect : Effect) → SameIf t (applied code (with_turn s t) (ReleaseAt n) activity below position effect) (applied code s (ReleaseAt n) activity below position effect)
 unfolding applied with_activity
-applied_same t code s n activity below place (Goes f) = refl
-applied_same t code s n activity below place (Prints f label value) = refl
-applied_same t code s n activity below place (Makes f class slots) =
-    same_some t _ _ (allocating_same t s n activity place class f.area slots _ (λ u r. record { is = refl }))
-applied_same t code s n activity below place (Stores f r slot value) = refl
-applied_same t code s n activity below place (StoresStatic f k value) = refl
-applied_same t code s n activity below place (SetsHidden f r values) = refl
-applied_same t code s n activity below place (SetsCeiling f r ceiling) = same_some t _ _ (fault_same t s n activity place _)
-applied_same t code s n activity below place (Calls f g) = same_some t _ _ (called_same t code s n activity (f ∷ below) place g)
-applied_same t code s n activity below place (Opens f g scope bytes) = same_some t _ _ (opened_same t s n activity (f ∷ below) place g scope bytes)
-applied_same t code s n activity below place (Leaves f value) = same_some t _ _ (left_same t s n activity f below value)
-applied_same t code s n activity below place (AsksRegistration f r) =
-    same_mapped t (object_at s r) _ _ (λ o. registered_same t code s n activity place r o (with_frame s (ReleaseAt n) activity f below))
-applied_same t code s n activity below place (AsksRelease f r) =
+applied_same t code s n activity below position (Goes f) = refl
+applied_same t code s n activity below position (Prints f label value) = refl
+applied_same t code s n activity below position (Makes f class slots) =
+    same_some t _ _ (allocating_same t s n activity position class f.area slots _ (λ u r. record { is = refl }))
+applied_same t code s n activity below position (Stores f r slot value) = refl
+applied_same t code s n activity below position (StoresStatic f k value) = refl
+applied_same t code s n activity below position (SetsHidden f r values) = refl
+applied_same t code s n activity below position (SetsCeiling f r ceiling) = same_some t _ _ (fault_same t s n activity position _)
+applied_same t code s n activity below position (Calls f g) = same_some t _ _ (called_same t code s n activity (f ∷ below) position g)
+applied_same t code s n activity below position (Opens f g scope bytes) = same_some t _ _ (opened_same t s n activity (f ∷ below) position g scope bytes)
+applied_same t code s n activity below position (Leaves f value) = same_some t _ _ (left_same t s n activity f below value)
+applied_same t code s n activity below position (AsksRegistration f r) =
+    same_mapped t (object_at s r) _ _ (λ o. registered_same t code s n activity position r o (with_frame s (ReleaseAt n) activity f below))
+applied_same t code s n activity below position (AsksRelease f r) =
     same_some t _ _ (released_same t (with_frame s (ReleaseAt n) activity f below) r)
-applied_same t code s n activity below place (AsksTermination f r) =
+applied_same t code s n activity below position (AsksTermination f r) =
     same_some t _ _ (asked_same t (with_frame s (ReleaseAt n) activity f below) r)
-applied_same t code s n activity below place (Faults fault) = same_some t _ _ (fault_same t s n activity place fault)
-applied_same t code s n activity below place Stuck = refl
+applied_same t code s n activity below position (Faults fault) = same_some t _ _ (fault_same t s n activity position fault)
+applied_same t code s n activity below position Stuck = refl
 
 frame_same : (t : Turn) (code : Code) (rows : List ReadingRow) (s : State) (n : ℕ) (activity : Activity) → SameIf t (frame_op code rows (with_turn s t) (ReleaseAt n) activity) (frame_op code rows s (ReleaseAt n) activity)
 unfolding frame_op
@@ -198,22 +198,22 @@ frame_same t code rows s n activity = go activity.frames
     go [] = refl
     go (f ∷ below) = act f below f.rest
 
-start_same : (t : Turn) (code : Code) (s : State) (place : ℕ) (r : Release) → SameIf t (start_op code (with_turn s t) place r) (start_op code s place r)
+start_same : (t : Turn) (code : Code) (s : State) (index : ℕ) (r : Release) → SameIf t (start_op code (with_turn s t) index r) (start_op code s index r)
 unfolding start_op started_with with_activity
-start_same t code s place r =
+start_same t code s index r =
     same_bind t (handler_row s.registry r.handler) _ _ (λ row. same_bind t (defined_by_chain code.program row.class) _ _ (λ scope.
     same_bind t (body_named code.program row.class (codes "handleAsyncEvent")) _ _ (λ body.
-    same_some t _ _ (opening_same t s place no_activity (class_place code.program row.class) scope (innermost s.activity.areas) row.bytes _ (λ u a. record { is = refl })))))
+    same_some t _ _ (opening_same t s index no_activity (class_place code.program row.class) scope (innermost s.activity.areas) row.bytes _ (λ u a. record { is = refl })))))
 
-release_same : (t : Turn) (code : Code) (rows : List ReadingRow) (s : State) (place : ℕ) (r : Release) → SameIf t (release_op_of code rows (with_turn s t) place r) (release_op_of code rows s place r)
+release_same : (t : Turn) (code : Code) (rows : List ReadingRow) (s : State) (index : ℕ) (r : Release) → SameIf t (release_op_of code rows (with_turn s t) index r) (release_op_of code rows s index r)
 unfolding release_op_of
-release_same t code rows s place r = go r.status
+release_same t code rows s index r = go r.status
   where
     go : (p : ReleaseStatus) → SameIf t
-        (elim p as (λ x. Option Step) [ Waits ↦ start_op code (with_turn s t) place r | Started activity ↦ frame_op code rows (with_turn s t) (ReleaseAt place) activity | Ended ↦ None | Dropped ↦ None ])
-        (elim p as (λ x. Option Step) [ Waits ↦ start_op code s place r | Started activity ↦ frame_op code rows s (ReleaseAt place) activity | Ended ↦ None | Dropped ↦ None ])
-    go Waits = start_same t code s place r
-    go (Started activity) = frame_same t code rows s place activity
+        (elim p as (λ x. Option Step) [ Waits ↦ start_op code (with_turn s t) index r | Started activity ↦ frame_op code rows (with_turn s t) (ReleaseAt index) activity | Ended ↦ None | Dropped ↦ None ])
+        (elim p as (λ x. Option Step) [ Waits ↦ start_op code s index r | Started activity ↦ frame_op code rows s (ReleaseAt index) activity | Ended ↦ None | Dropped ↦ None ])
+    go Waits = start_same t code s index r
+    go (Started activity) = frame_same t code rows s index activity
     go Ended = refl
     go Dropped = refl
 

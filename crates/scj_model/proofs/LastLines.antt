@@ -78,7 +78,7 @@ Keeps s after = after.phase ≡ s.phase
 keeps_activity : (s : State) (job : Job) (activity : Activity) → Keeps s (with_activity s job activity)
 unfolding with_activity
 keeps_activity s TheSequencer activity = refl
-keeps_activity s (ReleaseAt place) activity = refl
+keeps_activity s (ReleaseAt index) activity = refl
 
 keeps_closed : (s : State) (a : Option ℕ) → Keeps s (closed s a)
 unfolding closed
@@ -98,7 +98,7 @@ quiet s h r k n = inl (record { goes_on = ap is_over k ∙ h; no_last = n })
 
 no_last_of : (s : State) (job : Job) (tell : Release → List Event) → ((r : Release) → HasNoLastLine (tell r)) → HasNoLastLine (of_release s job tell)
 no_last_of s TheSequencer tell h = refl
-no_last_of s (ReleaseAt place) tell h = go (slice_get s.releases place)
+no_last_of s (ReleaseAt index) tell h = go (slice_get s.releases index)
   where
     go : (o : Option Release) → HasNoLastLine (elim o [ None ↦ [] | Some r ↦ tell r ])
     go None = refl
@@ -106,12 +106,12 @@ no_last_of s (ReleaseAt place) tell h = go (slice_get s.releases place)
 
 -- ---- faults
 
-fine_fault : (s : State) (job : Job) (activity : Activity) (place : Pos) (fault : RunFault) → is_over s.phase ≡ false → IsFine (fault_in s job activity place fault)
+fine_fault : (s : State) (job : Job) (activity : Activity) (position : Pos) (fault : RunFault) → is_over s.phase ≡ false → IsFine (fault_in s job activity position fault)
 unfolding fault_in is_last_line is_over
-fine_fault s TheSequencer activity place fault h =
+fine_fault s TheSequencer activity position fault h =
     inr (record { over = refl; nothing_left = refl; ends = record { before = _ ∷ []; last = _; are = refl; ends = refl; none_before = refl } })
-fine_fault s (ReleaseAt n) activity place fault h =
-    quiet s h (fault_in s (ReleaseAt n) activity place fault) (keeps_closed_all s activity.frames)
+fine_fault s (ReleaseAt n) activity position fault h =
+    quiet s h (fault_in s (ReleaseAt n) activity position fault) (keeps_closed_all s activity.frames)
     (no_last_of s (ReleaseAt n) _ (λ r. refl))
 
 -- ---- effects
@@ -147,36 +147,36 @@ fine_behind first second n h =
 
 -- ---- what effects do
 
-fine_called : (code : Code) (s : State) (job : Job) (activity : Activity) (frames : List Frame) (place : Pos) (g : Frame) → is_over s.phase ≡ false → IsFine (called code s job activity frames place g)
+fine_called : (code : Code) (s : State) (job : Job) (activity : Activity) (frames : List Frame) (position : Pos) (g : Frame) → is_over s.phase ≡ false → IsFine (called code s job activity frames position g)
 unfolding called
-fine_called code s job activity frames place g h =
-    fine_if (is_full frames) _ _ (fine_fault s job activity place _ h)
+fine_called code s job activity frames position g h =
+    fine_if (is_full frames) _ _ (fine_fault s job activity position _ h)
     (fine_option (ceiling_entered code s g) _ _
     (quiet s h _ (keeps_activity s job _) refl)
-    (λ ceiling. fine_if (nat_lt ceiling activity.priority) _ _ (fine_fault s job activity place _ h)
+    (λ ceiling. fine_if (nat_lt ceiling activity.priority) _ _ (fine_fault s job activity position _ h)
     (quiet s h _ (keeps_activity s job _) (tells_no_last s job activity.priority ceiling))))
 
-fine_opening : (s : State) (job : Job) (activity : Activity) (place : Pos) (scope : ℕ) (parent : Option ℕ) (bytes : ℕ) (next : State → ℕ → Step) → is_over s.phase ≡ false → ((t : State) (a : ℕ) → is_over t.phase ≡ false → IsFine (next t a)) → IsFine (opening s job activity place scope parent bytes next)
+fine_opening : (s : State) (job : Job) (activity : Activity) (position : Pos) (scope : ℕ) (parent : Option ℕ) (bytes : ℕ) (next : State → ℕ → Step) → is_over s.phase ≡ false → ((t : State) (a : ℕ) → is_over t.phase ≡ false → IsFine (next t a)) → IsFine (opening s job activity position scope parent bytes next)
 unfolding opening
-fine_opening s job activity place scope parent bytes next h k =
-    fine_if (has_store_for s bytes) _ _ (k (with_area s scope parent bytes) (length s.areas) h) (fine_fault s job activity place _ h)
+fine_opening s job activity position scope parent bytes next h k =
+    fine_if (has_store_for s bytes) _ _ (k (with_area s scope parent bytes) (length s.areas) h) (fine_fault s job activity position _ h)
 
-fine_allocating : (s : State) (job : Job) (activity : Activity) (place : Pos) (class area : ℕ) (slots : List Value) (next : State → ℕ → Step) → is_over s.phase ≡ false → ((t : State) (r : ℕ) → is_over t.phase ≡ false → IsFine (next t r)) → IsFine (allocating s job activity place class area slots next)
+fine_allocating : (s : State) (job : Job) (activity : Activity) (position : Pos) (class area : ℕ) (slots : List Value) (next : State → ℕ → Step) → is_over s.phase ≡ false → ((t : State) (r : ℕ) → is_over t.phase ≡ false → IsFine (next t r)) → IsFine (allocating s job activity position class area slots next)
 unfolding allocating
-fine_allocating s job activity place class area slots next h k =
-    fine_if (has_room s area (length slots)) _ _ (k (with_object s class area slots) (length s.objects) h) (fine_fault s job activity place _ h)
+fine_allocating s job activity position class area slots next h k =
+    fine_if (has_room s area (length slots)) _ _ (k (with_object s class area slots) (length s.objects) h) (fine_fault s job activity position _ h)
 
-fine_opened : (s : State) (job : Job) (activity : Activity) (frames : List Frame) (place : Pos) (g : Frame) (scope bytes : ℕ) → is_over s.phase ≡ false → IsFine (opened_in s job activity frames place g scope bytes)
+fine_opened : (s : State) (job : Job) (activity : Activity) (frames : List Frame) (position : Pos) (g : Frame) (scope bytes : ℕ) → is_over s.phase ≡ false → IsFine (opened_in s job activity frames position g scope bytes)
 unfolding opened_in
-fine_opened s job activity frames place g scope bytes h =
-    fine_if (is_some (area_with_scope s scope activity.areas)) _ _ (fine_fault s job activity place _ h)
-    (fine_if (is_full frames) _ _ (fine_fault s job activity place _ h)
-    (fine_opening s job activity place scope (Some g.area) bytes _ h (λ t a k. quiet t k _ (keeps_activity t job _) refl)))
+fine_opened s job activity frames position g scope bytes h =
+    fine_if (is_some (area_with_scope s scope activity.areas)) _ _ (fine_fault s job activity position _ h)
+    (fine_if (is_full frames) _ _ (fine_fault s job activity position _ h)
+    (fine_opening s job activity position scope (Some g.area) bytes _ h (λ t a k. quiet t k _ (keeps_activity t job _) refl)))
 
 fine_ended : (s : State) (job : Job) (activity : Activity) (value : Option Value) → is_over s.phase ≡ false → IsFine (job_ended s job activity value)
 unfolding job_ended is_last_line
 fine_ended s TheSequencer activity value h = quiet s h _ refl refl
-fine_ended s (ReleaseAt place) activity value h = quiet s h _ refl (no_last_of s (ReleaseAt place) _ (λ r. refl))
+fine_ended s (ReleaseAt index) activity value h = quiet s h _ refl (no_last_of s (ReleaseAt index) _ (λ r. refl))
 
 fine_left : (s : State) (job : Job) (activity : Activity) (f : Frame) (below : List Frame) (value : Option Value) → is_over s.phase ≡ false → IsFine (frame_left s job activity f below value)
 unfolding frame_left
@@ -197,12 +197,12 @@ unfolding release_taken is_last_line
 fine_taken s handler h =
     fine_if (not (nat_lt (length (waiting_of s handler)) most_waiting)) _ _ (quiet s h _ refl refl) (quiet s h _ refl refl)
 
-fine_registered : (code : Code) (s : State) (job : Job) (activity : Activity) (place : Pos) (r : ℕ) (o : _) (after : State) → is_over s.phase ≡ false → Keeps s after → IsFine (registered code s job activity place r o after)
+fine_registered : (code : Code) (s : State) (job : Job) (activity : Activity) (position : Pos) (r : ℕ) (o : _) (after : State) → is_over s.phase ≡ false → Keeps s after → IsFine (registered code s job activity position r o after)
 unfolding registered is_last_line
-fine_registered code s job activity place r o after h k =
-    fine_if (not (is_init s.phase)) _ _ (fine_fault s job activity place _ h)
+fine_registered code s job activity position r o after h k =
+    fine_if (not (is_init s.phase)) _ _ (fine_fault s job activity position _ h)
     (fine_if (is_some (handler_number s.registry r)) _ _ (quiet s h (silently after) k refl)
-    (fine_if (not (nat_lt (length s.registry) most_handlers)) _ _ (fine_fault s job activity place _ h) (quiet s h _ k refl)))
+    (fine_if (not (nat_lt (length s.registry) most_handlers)) _ _ (fine_fault s job activity position _ h) (quiet s h _ k refl)))
 
 fine_released : (s : State) (r : ℕ) → is_over s.phase ≡ false → IsFine (released s r)
 unfolding released
@@ -247,31 +247,31 @@ fine_either : (b : Bool) (x y : Option Step) → IsFineIf x → IsFineIf y → I
 fine_either true x y h k = h
 fine_either false x y h k = k
 
-fine_applied : (code : Code) (s : State) (job : Job) (activity : Activity) (below : List Frame) (place : Pos) (effect : Effect) → is_over s.phase ≡ false → IsFineIf (applied code s job activity below place effect)
+fine_applied : (code : Code) (s : State) (job : Job) (activity : Activity) (below : List Frame) (position : Pos) (effect : Effect) → is_over s.phase ≡ false → IsFineIf (applied code s job activity below position effect)
 unfolding applied is_last_line
-fine_applied code s job activity below place (Goes f) h = fine_some _ (quiet s h _ (keeps_activity s job _) refl)
-fine_applied code s job activity below place (Prints f label value) h = fine_some _ (quiet s h _ (keeps_activity s job _) refl)
-fine_applied code s job activity below place (Makes f class slots) h =
-    fine_some _ (fine_allocating s job activity place class f.area slots _ h (λ t r k. quiet t k _ (keeps_activity t job _) refl))
-fine_applied code s job activity below place (Stores f r slot value) h = fine_some _ (quiet s h _ (keeps_activity _ job _) refl)
-fine_applied code s job activity below place (StoresStatic f n value) h = fine_some _ (quiet s h _ (keeps_activity _ job _) refl)
-fine_applied code s job activity below place (SetsHidden f r values) h = fine_some _ (quiet s h _ (keeps_activity _ job _) refl)
-fine_applied code s job activity below place (SetsCeiling f r ceiling) h =
-    fine_either (is_sequencer job) _ _ (fine_some _ (quiet s h _ (keeps_activity _ job _) refl)) (fine_some _ (fine_fault s job activity place _ h))
-fine_applied code s job activity below place (Calls f g) h = fine_some _ (fine_called code s job activity (f ∷ below) place g h)
-fine_applied code s job activity below place (Opens f g scope bytes) h =
-    fine_some _ (fine_opened s job activity (f ∷ below) place g scope bytes h)
-fine_applied code s job activity below place (Leaves f value) h = fine_some _ (fine_left s job activity f below value h)
-fine_applied code s job activity below place (AsksRegistration f r) h =
-    fine_mapped (object_at s r) _ (λ o. fine_registered code s job activity place r o _ h (keeps_activity s job _))
-fine_applied code s job activity below place (AsksRelease f r) h =
+fine_applied code s job activity below position (Goes f) h = fine_some _ (quiet s h _ (keeps_activity s job _) refl)
+fine_applied code s job activity below position (Prints f label value) h = fine_some _ (quiet s h _ (keeps_activity s job _) refl)
+fine_applied code s job activity below position (Makes f class slots) h =
+    fine_some _ (fine_allocating s job activity position class f.area slots _ h (λ t r k. quiet t k _ (keeps_activity t job _) refl))
+fine_applied code s job activity below position (Stores f r slot value) h = fine_some _ (quiet s h _ (keeps_activity _ job _) refl)
+fine_applied code s job activity below position (StoresStatic f n value) h = fine_some _ (quiet s h _ (keeps_activity _ job _) refl)
+fine_applied code s job activity below position (SetsHidden f r values) h = fine_some _ (quiet s h _ (keeps_activity _ job _) refl)
+fine_applied code s job activity below position (SetsCeiling f r ceiling) h =
+    fine_either (is_sequencer job) _ _ (fine_some _ (quiet s h _ (keeps_activity _ job _) refl)) (fine_some _ (fine_fault s job activity position _ h))
+fine_applied code s job activity below position (Calls f g) h = fine_some _ (fine_called code s job activity (f ∷ below) position g h)
+fine_applied code s job activity below position (Opens f g scope bytes) h =
+    fine_some _ (fine_opened s job activity (f ∷ below) position g scope bytes h)
+fine_applied code s job activity below position (Leaves f value) h = fine_some _ (fine_left s job activity f below value h)
+fine_applied code s job activity below position (AsksRegistration f r) h =
+    fine_mapped (object_at s r) _ (λ o. fine_registered code s job activity position r o _ h (keeps_activity s job _))
+fine_applied code s job activity below position (AsksRelease f r) h =
     fine_some _ (fine_released (with_frame s job activity f below) r
     (still s (with_frame s job activity f below) h (keeps_activity s job (record activity { frames = f ∷ below }))))
-fine_applied code s job activity below place (AsksTermination f r) h =
+fine_applied code s job activity below position (AsksTermination f r) h =
     fine_some _ (fine_asked (with_frame s job activity f below) r
     (still s (with_frame s job activity f below) h (keeps_activity s job (record activity { frames = f ∷ below }))))
-fine_applied code s job activity below place (Faults fault) h = fine_some _ (fine_fault s job activity place fault h)
-fine_applied code s job activity below place Stuck h = fine_none
+fine_applied code s job activity below position (Faults fault) h = fine_some _ (fine_fault s job activity position fault h)
+fine_applied code s job activity below position Stuck h = fine_none
 
 -- ---- the operations of jobs
 
@@ -287,33 +287,33 @@ fine_frame code rows s job activity h = go activity.frames
     go [] = fine_none
     go (f ∷ below) = act f below f.rest
 
-fine_start : (code : Code) (s : State) (place : ℕ) (r : Release) → is_over s.phase ≡ false → IsFineIf (start_op code s place r)
+fine_start : (code : Code) (s : State) (index : ℕ) (r : Release) → is_over s.phase ≡ false → IsFineIf (start_op code s index r)
 unfolding start_op started_with
-fine_start code s place r h =
+fine_start code s index r h =
     fine_bind (handler_row s.registry r.handler) _ (λ row. fine_bind (defined_by_chain code.program row.class) _ (λ scope.
     fine_bind (body_named code.program row.class (codes "handleAsyncEvent")) _ (λ body.
-    fine_some _ (fine_opening s (ReleaseAt place) no_activity (class_place code.program row.class) scope (innermost s.activity.areas) row.bytes _ h
-    (λ t a k. quiet t k _ (keeps_activity t (ReleaseAt place) _) refl)))))
+    fine_some _ (fine_opening s (ReleaseAt index) no_activity (class_place code.program row.class) scope (innermost s.activity.areas) row.bytes _ h
+    (λ t a k. quiet t k _ (keeps_activity t (ReleaseAt index) _) refl)))))
 
-fine_release : (code : Code) (rows : List ReadingRow) (s : State) (place : ℕ) (r : Release) → is_over s.phase ≡ false → IsFineIf (release_op_of code rows s place r)
+fine_release : (code : Code) (rows : List ReadingRow) (s : State) (index : ℕ) (r : Release) → is_over s.phase ≡ false → IsFineIf (release_op_of code rows s index r)
 unfolding release_op_of
-fine_release code rows s place r h = go r.status
+fine_release code rows s index r h = go r.status
   where
-    go : (p : ReleaseStatus) → IsFineIf (elim p [ Waits ↦ start_op code s place r | Started activity ↦ frame_op code rows s (ReleaseAt place) activity | Ended ↦ None | Dropped ↦ None ])
-    go Waits = fine_start code s place r h
-    go (Started activity) = fine_frame code rows s (ReleaseAt place) activity h
+    go : (p : ReleaseStatus) → IsFineIf (elim p [ Waits ↦ start_op code s index r | Started activity ↦ frame_op code rows s (ReleaseAt index) activity | Ended ↦ None | Dropped ↦ None ])
+    go Waits = fine_start code s index r h
+    go (Started activity) = fine_frame code rows s (ReleaseAt index) activity h
     go Ended = fine_none
     go Dropped = fine_none
 
-fine_area : (s : State) (place : Pos) (scope bytes : ℕ) → is_over s.phase ≡ false → IsFine (area_opened s place scope bytes)
+fine_area : (s : State) (position : Pos) (scope bytes : ℕ) → is_over s.phase ≡ false → IsFine (area_opened s position scope bytes)
 unfolding area_opened
-fine_area s place scope bytes h =
-    fine_opening s TheSequencer s.activity place scope (innermost s.activity.areas) bytes _ h (λ t a k. quiet t k _ refl refl)
+fine_area s position scope bytes h =
+    fine_opening s TheSequencer s.activity position scope (innermost s.activity.areas) bytes _ h (λ t a k. quiet t k _ refl refl)
 
-fine_safelet : (code : Code) (s : State) (place : Pos) (class area : ℕ) → is_over s.phase ≡ false → IsFine (safelet_made code s place class area)
+fine_safelet : (code : Code) (s : State) (position : Pos) (class area : ℕ) → is_over s.phase ≡ false → IsFine (safelet_made code s position class area)
 unfolding safelet_made
-fine_safelet code s place class area h =
-    fine_allocating s TheSequencer s.activity place class area (new_slots code.program class) _ h (λ t r k. quiet t k _ refl refl)
+fine_safelet code s position class area h =
+    fine_allocating s TheSequencer s.activity position class area (new_slots code.program class) _ h (λ t r k. quiet t k _ refl refl)
 
 fine_body : (code : Code) (s : State) (r : ℕ) (body : Body) → is_over s.phase ≡ false → IsFineIf (body_called code s r body)
 unfolding body_called
@@ -355,7 +355,7 @@ fine_turn code rows s h = go s.activity.frames
 pub fine_ref_op : (code : Code) (rows : List ReadingRow) (s : State) (job : Job) → is_over s.phase ≡ false → IsFineIf (ref_op code rows s job)
 unfolding ref_op
 fine_ref_op code rows s TheSequencer h = fine_turn code rows s h
-fine_ref_op code rows s (ReleaseAt place) h = fine_bind (slice_get s.releases place) _ (λ r. fine_release code rows s place r h)
+fine_ref_op code rows s (ReleaseAt index) h = fine_bind (slice_get s.releases index) _ (λ r. fine_release code rows s index r h)
 
 -- ---- what follows an operation
 
@@ -457,8 +457,8 @@ quiet_fired code s fire h = go (fired_handler code s fire.handler)
     go None = record { goes_on = h; no_last = refl }
     go (Some handler) = quiet_taken s handler h
 
-quiet_fired_at : (code : Code) (fires : List Fire) (s : State) (place : ℕ) → is_over s.phase ≡ false → IsQuiet (fired_at code fires s place)
-quiet_fired_at code fires s place h = go (slice_get fires place)
+quiet_fired_at : (code : Code) (fires : List Fire) (s : State) (index : ℕ) → is_over s.phase ≡ false → IsQuiet (fired_at code fires s index)
+quiet_fired_at code fires s index h = go (slice_get fires index)
   where
     go : (o : Option Fire) → IsQuiet (elim o [ None ↦ silently s | Some fire ↦ fired code s fire ])
     go None = record { goes_on = h; no_last = refl }
@@ -474,7 +474,7 @@ quiet_arrivals code plan s h =
 tells_turn : (s : State) (turn : Turn) → HasNoLastLine (tell_turn s turn)
 unfolding tell_turn is_last_line
 tells_turn s IdleTurn = refl
-tells_turn s (TurnOf place) = go (slice_get s.releases place)
+tells_turn s (TurnOf index) = go (slice_get s.releases index)
   where
     go : (o : Option Release) → HasNoLastLine (elim o [ None ↦ [] | Some r ↦ RunEvent s.unit r.handler r.number ∷ [] ])
     go None = refl
@@ -497,7 +497,7 @@ fine_told first (Some second) n h = fine_some _ (fine_behind first second n (h.i
 fine_turn_acts : (code : Code) (rows : List ReadingRow) (turn : Turn) (s : State) → is_over s.phase ≡ false → IsFineIf (turn_acts code rows turn s)
 unfolding turn_acts
 fine_turn_acts code rows IdleTurn s h = fine_some _ (quiet s h (silently s) refl refl)
-fine_turn_acts code rows (TurnOf place) s h = fine_ref_op code rows s (ReleaseAt place) h
+fine_turn_acts code rows (TurnOf index) s h = fine_ref_op code rows s (ReleaseAt index) h
 
 fine_acts : (code : Code) (rows : List ReadingRow) (policy : Policy) (s : State) → is_over s.phase ≡ false → IsFineIf (acts code rows policy s)
 unfolding acts

@@ -29,21 +29,21 @@ both_true true false h = absurd (cc (h))
 both_true false b h = absurd (cc (h))
 
 -- the operation of a release, as the unit in which it is chosen does it
-chosen_op : (code : Code) (rows : List ReadingRow) (s : State) (place : ℕ) (step : Step) → ref_op code rows s (ReleaseAt place) ≡ Some step → then_try (turn_taken s (TurnOf place)) (turn_acts code rows (TurnOf place)) ≡ Some (telling (with_turn step.state (TurnOf place)) ((turn_taken s (TurnOf place)).events ++ step.events))
+chosen_op : (code : Code) (rows : List ReadingRow) (s : State) (index : ℕ) (step : Step) → ref_op code rows s (ReleaseAt index) ≡ Some step → then_try (turn_taken s (TurnOf index)) (turn_acts code rows (TurnOf index)) ≡ Some (telling (with_turn step.state (TurnOf index)) ((turn_taken s (TurnOf index)).events ++ step.events))
 unfolding turn_taken turn_acts
-chosen_op code rows s place step e =
-    ap (λ (o : Option Step). option_map (λ (second : Step). telling second.state ((turn_taken s (TurnOf place)).events ++ second.events)) o)
-    (ref_op_same (TurnOf place) code rows s place ∙ ap (λ (o : Option Step). option_map (as_chosen (TurnOf place)) o) e)
+chosen_op code rows s index step e =
+    ap (λ (o : Option Step). option_map (λ (second : Step). telling second.state ((turn_taken s (TurnOf index)).events ++ second.events)) o)
+    (ref_op_same (TurnOf index) code rows s index ∙ ap (λ (o : Option Step). option_map (as_chosen (TurnOf index)) o) e)
 
-pub release_named : (code : Code) (plan : Plan) (choices : List ℕ) (s : State) (place : ℕ) (step : Step) → Reached code plan (by_list choices) Arrived s → job_may_act s (ReleaseAt place) ≡ true → ref_op code plan.readings s (ReleaseAt place) ≡ Some step → IsListed code plan Operated (with_turn step.state (TurnOf place))
+pub release_named : (code : Code) (plan : Plan) (choices : List ℕ) (s : State) (index : ℕ) (step : Step) → Reached code plan (by_list choices) Arrived s → job_may_act s (ReleaseAt index) ≡ true → ref_op code plan.readings s (ReleaseAt index) ≡ Some step → IsListed code plan Operated (with_turn step.state (TurnOf index))
 unfolding job_may_act
-release_named code plan choices s place step h m e =
+release_named code plan choices s index step h m e =
     let l : IsListed code plan Arrived s = fair_listed code plan (by_list choices) (list_is_fair choices) h in
-    let b : (is_exec s.phase ≡ true) × (may_act s place ≡ true) = both_true (is_exec s.phase) (may_act s place) m in
-    operated code plan s l (telling (with_turn step.state (TurnOf place)) ((turn_taken s (TurnOf place)).events ++ step.events))
-    ((ref_op_keeps_unit code plan.readings s (ReleaseAt place)).is step e)
-    (subst (λ (o : Option Step). Names code plan.readings s l.choices o) (chosen_op code plan.readings s place step e)
-    (turn_named code plan.readings s (TurnOf place) b.1 b.0 l.choices l.counted))
+    let b : (is_exec s.phase ≡ true) × (may_act s index ≡ true) = both_true (is_exec s.phase) (may_act s index) m in
+    operated code plan s l (telling (with_turn step.state (TurnOf index)) ((turn_taken s (TurnOf index)).events ++ step.events))
+    ((ref_op_keeps_unit code plan.readings s (ReleaseAt index)).is step e)
+    (subst (λ (o : Option Step). Names code plan.readings s l.choices o) (chosen_op code plan.readings s index step e)
+    (turn_named code plan.readings s (TurnOf index) b.1 b.0 l.choices l.counted))
 
 not_exec : (a b : Bool) → (not a && not b) ≡ true → a ≡ false
 not_exec false b h = refl
@@ -123,19 +123,19 @@ listed_more code plan n l = go (has_ended (run code plan by_priority n)) refl
     going x =
         let e : length l.choices ≡ (arrivals code plan r.state).state.unit = l.counted x ∙ sym (arrivals_keep_unit code plan r.state) in
         let named : Names code plan.readings (arrivals code plan r.state).state l.choices (acts code plan.readings by_priority (arrivals code plan r.state).state) = priority_named code plan.readings (arrivals code plan r.state).state l.choices e in
-        let long : length (l.choices ++ named.place ∷ []) ≡ r.state.unit + 1 = length-append l.choices (named.place ∷ []) ∙ ap (λ (k : ℕ). k + 1) (l.counted x) in
+        let long : length (l.choices ++ named.index ∷ []) ≡ r.state.unit + 1 = length-append l.choices (named.index ∷ []) ∙ ap (λ (k : ℕ). k + 1) (l.counted x) in
         record {
-          choices = l.choices ++ named.place ∷ [];
+          choices = l.choices ++ named.index ∷ [];
           counted = λ h.
               count_continued r (one_unit code plan by_priority r.state) (unit_follows code plan by_priority r.state) _ long
               (sym (ap has_ended (going_more code plan by_priority r x)) ∙ h)
               ∙ sym (ap (λ (q : RunSoFar). q.state.unit) (going_more code plan by_priority r x));
           same = λ more.
-              subst (λ (xs : List ℕ). run code plan by_priority (suc n) ≡ run code plan (by_list xs) (suc n)) (sym (append_assoc l.choices (named.place ∷ []) more))
+              subst (λ (xs : List ℕ). run code plan by_priority (suc n) ≡ run code plan (by_list xs) (suc n)) (sym (append_assoc l.choices (named.index ∷ []) more))
               (going_more code plan by_priority r x
-              ∙ (ap (continued r) (unit_same code plan by_priority (by_list (l.choices ++ named.place ∷ more)) r.state (sym (named.same more)))
-              ∙ (sym (going_more code plan (by_list (l.choices ++ named.place ∷ more)) r x)
-              ∙ ap (one_more_unit code plan (by_list (l.choices ++ named.place ∷ more))) (l.same (named.place ∷ more)))));
+              ∙ (ap (continued r) (unit_same code plan by_priority (by_list (l.choices ++ named.index ∷ more)) r.state (sym (named.same more)))
+              ∙ (sym (going_more code plan (by_list (l.choices ++ named.index ∷ more)) r x)
+              ∙ ap (one_more_unit code plan (by_list (l.choices ++ named.index ∷ more))) (l.same (named.index ∷ more)))));
         }
 
     go : (b : Bool) → has_ended r ≡ b → IsListedRun code plan (suc n)
@@ -173,12 +173,12 @@ there_on None f h k = absurd (cc (h))
 there_on (Some step) f h k = k step refl
 
 -- a turn by priority has a result where no job that may act is stuck
-turn_goes_on : (code : Code) (rows : List ReadingRow) (s : State) (turn : Turn) → IsAllowed s turn → ((place : ℕ) → may_act s place ≡ true → is_some (ref_op code rows s (ReleaseAt place)) ≡ true) → is_some (then_try (turn_taken s turn) (turn_acts code rows turn)) ≡ true
+turn_goes_on : (code : Code) (rows : List ReadingRow) (s : State) (turn : Turn) → IsAllowed s turn → ((index : ℕ) → may_act s index ≡ true → is_some (ref_op code rows s (ReleaseAt index)) ≡ true) → is_some (then_try (turn_taken s turn) (turn_acts code rows turn)) ≡ true
 unfolding turn_acts turn_taken
 turn_goes_on code rows s IdleTurn a h = refl
-turn_goes_on code rows s (TurnOf place) a h =
-    there_told (turn_taken s (TurnOf place)) (turn_acts code rows (TurnOf place))
-    (ap is_some (ref_op_same (TurnOf place) code rows s place) ∙ there_chosen (TurnOf place) (ref_op code rows s (ReleaseAt place)) (h place a))
+turn_goes_on code rows s (TurnOf index) a h =
+    there_told (turn_taken s (TurnOf index)) (turn_acts code rows (TurnOf index))
+    (ap is_some (ref_op_same (TurnOf index) code rows s index) ∙ there_chosen (TurnOf index) (ref_op code rows s (ReleaseAt index)) (h index a))
 
 acts_go_on : (code : Code) (plan : Plan) → IsSafeInAnyOrder code → (s : State) → Reached code plan by_priority Arrived s → is_over s.phase ≡ false → is_some (acts code plan.readings by_priority s) ≡ true
 unfolding acts by_priority job_may_act ref_op
@@ -193,7 +193,7 @@ acts_go_on code plan safe s h n = go (is_exec s.phase) refl
     go : (b : Bool) → is_exec s.phase ≡ b → is_some (if b then (Some (priority_turn s) >>= (λ turn. then_try (turn_taken s turn) (turn_acts code plan.readings turn))) else sequencer_turn code plan.readings s) ≡ true
     go true x =
         turn_goes_on code plan.readings s (priority_turn s) (priority_allows s)
-        (λ place m. safe.none_is_stuck plan choices s (ReleaseAt place) (l.reaches []) (ap (λ (b : Bool). b && may_act s place) x ∙ m))
+        (λ index m. safe.none_is_stuck plan choices s (ReleaseAt index) (l.reaches []) (ap (λ (b : Bool). b && may_act s index) x ∙ m))
     go false x =
         safe.none_is_stuck plan choices s TheSequencer (l.reaches [])
         (ap (λ (b : Bool). not b && not (is_over s.phase)) x ∙ ap not n)

@@ -61,37 +61,37 @@ unfolding closed_all
 aside_closed_all s [] = record { phase = refl; activity = refl; outcome = refl }
 aside_closed_all s (f ∷ fs) = aside_then s (closed s f.opened) (closed_all (closed s f.opened) fs) (aside_closed s f.opened) (aside_closed_all (closed s f.opened) fs)
 
-aside_fault : (s : State) (n : ℕ) (activity : Activity) (place : Pos) (fault : RunFault) → Aside s (fault_in s (ReleaseAt n) activity place fault)
+aside_fault : (s : State) (n : ℕ) (activity : Activity) (position : Pos) (fault : RunFault) → Aside s (fault_in s (ReleaseAt n) activity position fault)
 unfolding fault_in
-aside_fault s n activity place fault =
+aside_fault s n activity position fault =
     let c : IsAside s (closed_all s activity.frames) = aside_closed_all s activity.frames in
     record { phase = c.phase; activity = c.activity; outcome = c.outcome }
 
-aside_called : (code : Code) (s : State) (n : ℕ) (activity : Activity) (frames : List Frame) (place : Pos) (g : Frame) → Aside s (called code s (ReleaseAt n) activity frames place g)
+aside_called : (code : Code) (s : State) (n : ℕ) (activity : Activity) (frames : List Frame) (position : Pos) (g : Frame) → Aside s (called code s (ReleaseAt n) activity frames position g)
 unfolding called with_activity
-aside_called code s n activity frames place g =
-    aside_if s (is_full frames) _ _ (aside_fault s n activity place _)
+aside_called code s n activity frames position g =
+    aside_if s (is_full frames) _ _ (aside_fault s n activity position _)
     (aside_option s (ceiling_entered code s g) _ _ (record { phase = refl; activity = refl; outcome = refl })
-    (λ ceiling. aside_if s (nat_lt ceiling activity.priority) _ _ (aside_fault s n activity place _) (record { phase = refl; activity = refl; outcome = refl })))
+    (λ ceiling. aside_if s (nat_lt ceiling activity.priority) _ _ (aside_fault s n activity position _) (record { phase = refl; activity = refl; outcome = refl })))
 
-aside_opening : (s : State) (n : ℕ) (activity : Activity) (place : Pos) (scope : ℕ) (parent : Option ℕ) (bytes : ℕ) (next : State → ℕ → Step) → ((t : State) (a : ℕ) → IsAside s t → Aside s (next t a)) → Aside s (opening s (ReleaseAt n) activity place scope parent bytes next)
+aside_opening : (s : State) (n : ℕ) (activity : Activity) (position : Pos) (scope : ℕ) (parent : Option ℕ) (bytes : ℕ) (next : State → ℕ → Step) → ((t : State) (a : ℕ) → IsAside s t → Aside s (next t a)) → Aside s (opening s (ReleaseAt n) activity position scope parent bytes next)
 unfolding opening
-aside_opening s n activity place scope parent bytes next h =
+aside_opening s n activity position scope parent bytes next h =
     aside_if s (has_store_for s bytes) _ _ (h (with_area s scope parent bytes) (length s.areas) (record { phase = refl; activity = refl; outcome = refl }))
-    (aside_fault s n activity place _)
+    (aside_fault s n activity position _)
 
-aside_allocating : (s : State) (n : ℕ) (activity : Activity) (place : Pos) (class area : ℕ) (slots : List Value) (next : State → ℕ → Step) → ((t : State) (r : ℕ) → IsAside s t → Aside s (next t r)) → Aside s (allocating s (ReleaseAt n) activity place class area slots next)
+aside_allocating : (s : State) (n : ℕ) (activity : Activity) (position : Pos) (class area : ℕ) (slots : List Value) (next : State → ℕ → Step) → ((t : State) (r : ℕ) → IsAside s t → Aside s (next t r)) → Aside s (allocating s (ReleaseAt n) activity position class area slots next)
 unfolding allocating
-aside_allocating s n activity place class area slots next h =
+aside_allocating s n activity position class area slots next h =
     aside_if s (has_room s area (length slots)) _ _ (h (with_object s class area slots) (length s.objects) (record { phase = refl; activity = refl; outcome = refl }))
-    (aside_fault s n activity place _)
+    (aside_fault s n activity position _)
 
-aside_opened : (s : State) (n : ℕ) (activity : Activity) (frames : List Frame) (place : Pos) (g : Frame) (scope bytes : ℕ) → Aside s (opened_in s (ReleaseAt n) activity frames place g scope bytes)
+aside_opened : (s : State) (n : ℕ) (activity : Activity) (frames : List Frame) (position : Pos) (g : Frame) (scope bytes : ℕ) → Aside s (opened_in s (ReleaseAt n) activity frames position g scope bytes)
 unfolding opened_in with_activity
-aside_opened s n activity frames place g scope bytes =
-    aside_if s (is_some (area_with_scope s scope activity.areas)) _ _ (aside_fault s n activity place _)
-    (aside_if s (is_full frames) _ _ (aside_fault s n activity place _)
-    (aside_opening s n activity place scope (Some g.area) bytes _ (λ t a k. record { phase = k.phase; activity = k.activity; outcome = k.outcome })))
+aside_opened s n activity frames position g scope bytes =
+    aside_if s (is_some (area_with_scope s scope activity.areas)) _ _ (aside_fault s n activity position _)
+    (aside_if s (is_full frames) _ _ (aside_fault s n activity position _)
+    (aside_opening s n activity position scope (Some g.area) bytes _ (λ t a k. record { phase = k.phase; activity = k.activity; outcome = k.outcome })))
 
 aside_left : (s : State) (n : ℕ) (activity : Activity) (f : Frame) (below : List Frame) (value : Option Value) → Aside s (frame_left s (ReleaseAt n) activity f below value)
 unfolding frame_left job_ended with_activity
@@ -121,12 +121,12 @@ aside_asked s r =
     (aside_if s (is_exec s.phase) _ _ (record { phase = refl; activity = refl; outcome = refl }) (record { phase = refl; activity = refl; outcome = refl }))
     (record { phase = refl; activity = refl; outcome = refl })
 
-aside_registered : (code : Code) (s : State) (n : ℕ) (activity : Activity) (place : Pos) (r : ℕ) (o : _) (after : State) → IsAside s after → Aside s (registered code s (ReleaseAt n) activity place r o after)
+aside_registered : (code : Code) (s : State) (n : ℕ) (activity : Activity) (position : Pos) (r : ℕ) (o : _) (after : State) → IsAside s after → Aside s (registered code s (ReleaseAt n) activity position r o after)
 unfolding registered
-aside_registered code s n activity place r o after a =
-    aside_if s (not (is_init s.phase)) _ _ (aside_fault s n activity place _)
+aside_registered code s n activity position r o after a =
+    aside_if s (not (is_init s.phase)) _ _ (aside_fault s n activity position _)
     (aside_if s (is_some (handler_number s.registry r)) _ _ a
-    (aside_if s (not (nat_lt (length s.registry) most_handlers)) _ _ (aside_fault s n activity place _)
+    (aside_if s (not (nat_lt (length s.registry) most_handlers)) _ _ (aside_fault s n activity position _)
     (record { phase = a.phase; activity = a.activity; outcome = a.outcome })))
 
 pub record AsideIf (s : State) (o : Option Step) : Type 0 where
@@ -153,31 +153,31 @@ aside_either : (s : State) (b : Bool) (x y : Option Step) → AsideIf s x → As
 aside_either s true x y h k = h
 aside_either s false x y h k = k
 
-aside_applied : (code : Code) (s : State) (n : ℕ) (activity : Activity) (below : List Frame) (place : Pos) (effect : Effect) → AsideIf s (applied code s (ReleaseAt n) activity below place effect)
+aside_applied : (code : Code) (s : State) (n : ℕ) (activity : Activity) (below : List Frame) (position : Pos) (effect : Effect) → AsideIf s (applied code s (ReleaseAt n) activity below position effect)
 unfolding applied with_activity
-aside_applied code s n activity below place (Goes f) = aside_some s _ (record { phase = refl; activity = refl; outcome = refl })
-aside_applied code s n activity below place (Prints f label value) = aside_some s _ (record { phase = refl; activity = refl; outcome = refl })
-aside_applied code s n activity below place (Makes f class slots) =
-    aside_some s _ (aside_allocating s n activity place class f.area slots _ (λ t r k. record { phase = k.phase; activity = k.activity; outcome = k.outcome }))
-aside_applied code s n activity below place (Stores f r slot value) = aside_some s _ (record { phase = refl; activity = refl; outcome = refl })
-aside_applied code s n activity below place (StoresStatic f k value) = aside_some s _ (record { phase = refl; activity = refl; outcome = refl })
-aside_applied code s n activity below place (SetsHidden f r values) = aside_some s _ (record { phase = refl; activity = refl; outcome = refl })
-aside_applied code s n activity below place (SetsCeiling f r ceiling) = aside_some s _ (aside_fault s n activity place _)
-aside_applied code s n activity below place (Calls f g) = aside_some s _ (aside_called code s n activity (f ∷ below) place g)
-aside_applied code s n activity below place (Opens f g scope bytes) = aside_some s _ (aside_opened s n activity (f ∷ below) place g scope bytes)
-aside_applied code s n activity below place (Leaves f value) = aside_some s _ (aside_left s n activity f below value)
-aside_applied code s n activity below place (AsksRegistration f r) =
-    aside_mapped s (object_at s r) _ (λ o. aside_registered code s n activity place r o (with_frame s (ReleaseAt n) activity f below) (record { phase = refl; activity = refl; outcome = refl }))
-aside_applied code s n activity below place (AsksRelease f r) =
+aside_applied code s n activity below position (Goes f) = aside_some s _ (record { phase = refl; activity = refl; outcome = refl })
+aside_applied code s n activity below position (Prints f label value) = aside_some s _ (record { phase = refl; activity = refl; outcome = refl })
+aside_applied code s n activity below position (Makes f class slots) =
+    aside_some s _ (aside_allocating s n activity position class f.area slots _ (λ t r k. record { phase = k.phase; activity = k.activity; outcome = k.outcome }))
+aside_applied code s n activity below position (Stores f r slot value) = aside_some s _ (record { phase = refl; activity = refl; outcome = refl })
+aside_applied code s n activity below position (StoresStatic f k value) = aside_some s _ (record { phase = refl; activity = refl; outcome = refl })
+aside_applied code s n activity below position (SetsHidden f r values) = aside_some s _ (record { phase = refl; activity = refl; outcome = refl })
+aside_applied code s n activity below position (SetsCeiling f r ceiling) = aside_some s _ (aside_fault s n activity position _)
+aside_applied code s n activity below position (Calls f g) = aside_some s _ (aside_called code s n activity (f ∷ below) position g)
+aside_applied code s n activity below position (Opens f g scope bytes) = aside_some s _ (aside_opened s n activity (f ∷ below) position g scope bytes)
+aside_applied code s n activity below position (Leaves f value) = aside_some s _ (aside_left s n activity f below value)
+aside_applied code s n activity below position (AsksRegistration f r) =
+    aside_mapped s (object_at s r) _ (λ o. aside_registered code s n activity position r o (with_frame s (ReleaseAt n) activity f below) (record { phase = refl; activity = refl; outcome = refl }))
+aside_applied code s n activity below position (AsksRelease f r) =
     let t : State = with_frame s (ReleaseAt n) activity f below in
     let k : Aside t (released t r) = aside_released t r in
     aside_some s _ (record { phase = k.phase; activity = k.activity; outcome = k.outcome })
-aside_applied code s n activity below place (AsksTermination f r) =
+aside_applied code s n activity below position (AsksTermination f r) =
     let t : State = with_frame s (ReleaseAt n) activity f below in
     let k : Aside t (termination_asked t r) = aside_asked t r in
     aside_some s _ (record { phase = k.phase; activity = k.activity; outcome = k.outcome })
-aside_applied code s n activity below place (Faults fault) = aside_some s _ (aside_fault s n activity place fault)
-aside_applied code s n activity below place Stuck = aside_none s
+aside_applied code s n activity below position (Faults fault) = aside_some s _ (aside_fault s n activity position fault)
+aside_applied code s n activity below position Stuck = aside_none s
 
 aside_frame : (code : Code) (rows : List ReadingRow) (s : State) (n : ℕ) (activity : Activity) → AsideIf s (frame_op code rows s (ReleaseAt n) activity)
 unfolding frame_op
@@ -191,21 +191,21 @@ aside_frame code rows s n activity = go activity.frames
     go [] = aside_none s
     go (f ∷ below) = act f below f.rest
 
-aside_start : (code : Code) (s : State) (place : ℕ) (r : Release) → AsideIf s (start_op code s place r)
+aside_start : (code : Code) (s : State) (index : ℕ) (r : Release) → AsideIf s (start_op code s index r)
 unfolding start_op started_with with_activity
-aside_start code s place r =
+aside_start code s index r =
     aside_bind s (handler_row s.registry r.handler) _ (λ row. aside_bind s (defined_by_chain code.program row.class) _ (λ scope.
     aside_bind s (body_named code.program row.class (codes "handleAsyncEvent")) _ (λ body.
-    aside_some s _ (aside_opening s place no_activity (class_place code.program row.class) scope (innermost s.activity.areas) row.bytes _
+    aside_some s _ (aside_opening s index no_activity (class_place code.program row.class) scope (innermost s.activity.areas) row.bytes _
     (λ t a k. record { phase = k.phase; activity = k.activity; outcome = k.outcome })))))
 
-aside_release : (code : Code) (rows : List ReadingRow) (s : State) (place : ℕ) (r : Release) → AsideIf s (release_op_of code rows s place r)
+aside_release : (code : Code) (rows : List ReadingRow) (s : State) (index : ℕ) (r : Release) → AsideIf s (release_op_of code rows s index r)
 unfolding release_op_of
-aside_release code rows s place r = go r.status
+aside_release code rows s index r = go r.status
   where
-    go : (p : ReleaseStatus) → AsideIf s (elim p [ Waits ↦ start_op code s place r | Started activity ↦ frame_op code rows s (ReleaseAt place) activity | Ended ↦ None | Dropped ↦ None ])
-    go Waits = aside_start code s place r
-    go (Started activity) = aside_frame code rows s place activity
+    go : (p : ReleaseStatus) → AsideIf s (elim p [ Waits ↦ start_op code s index r | Started activity ↦ frame_op code rows s (ReleaseAt index) activity | Ended ↦ None | Dropped ↦ None ])
+    go Waits = aside_start code s index r
+    go (Started activity) = aside_frame code rows s index activity
     go Ended = aside_none s
     go Dropped = aside_none s
 
@@ -239,16 +239,16 @@ unfolding closed
 started_closed s None = refl
 started_closed s (Some a) = refl
 
-acted_fault : (s : State) (activity : Activity) (place : Pos) (fault : RunFault) → Acted s (fault_in s TheSequencer activity place fault)
+acted_fault : (s : State) (activity : Activity) (position : Pos) (fault : RunFault) → Acted s (fault_in s TheSequencer activity position fault)
 unfolding fault_in is_exec
-acted_fault s activity place fault = record { started_same = refl; outside = refl; frameless = λ v x. absurd (cc (x)) }
+acted_fault s activity position fault = record { started_same = refl; outside = refl; frameless = λ v x. absurd (cc (x)) }
 
-acted_called : (code : Code) (s : State) (activity : Activity) (frames : List Frame) (place : Pos) (g : Frame) → is_exec s.phase ≡ false → s.outcome ≡ None → Acted s (called code s TheSequencer activity frames place g)
+acted_called : (code : Code) (s : State) (activity : Activity) (frames : List Frame) (position : Pos) (g : Frame) → is_exec s.phase ≡ false → s.outcome ≡ None → Acted s (called code s TheSequencer activity frames position g)
 unfolding called with_activity
-acted_called code s activity frames place g h n =
-    acted_if s (is_full frames) _ _ (acted_fault s activity place _)
+acted_called code s activity frames position g h n =
+    acted_if s (is_full frames) _ _ (acted_fault s activity position _)
     (acted_option s (ceiling_entered code s g) _ _ (plain s h n _ refl refl refl)
-    (λ ceiling. acted_if s (nat_lt ceiling activity.priority) _ _ (acted_fault s activity place _) (plain s h n _ refl refl refl)))
+    (λ ceiling. acted_if s (nat_lt ceiling activity.priority) _ _ (acted_fault s activity position _) (plain s h n _ refl refl refl)))
 
 -- memory alone is another one
 record IsKept (s t : State) : Type 0 where
@@ -257,26 +257,26 @@ record IsKept (s t : State) : Type 0 where
   outcome : t.outcome ≡ s.outcome
   activity : t.activity ≡ s.activity
 
-acted_opening : (s : State) (activity : Activity) (place : Pos) (scope : ℕ) (parent : Option ℕ) (bytes : ℕ) (next : State → ℕ → Step) → ((t : State) (a : ℕ) → IsKept s t → Acted s (next t a)) → Acted s (opening s TheSequencer activity place scope parent bytes next)
+acted_opening : (s : State) (activity : Activity) (position : Pos) (scope : ℕ) (parent : Option ℕ) (bytes : ℕ) (next : State → ℕ → Step) → ((t : State) (a : ℕ) → IsKept s t → Acted s (next t a)) → Acted s (opening s TheSequencer activity position scope parent bytes next)
 unfolding opening
-acted_opening s activity place scope parent bytes next h =
+acted_opening s activity position scope parent bytes next h =
     acted_if s (has_store_for s bytes) _ _
     (h (with_area s scope parent bytes) (length s.areas) (record { started_same = refl; phase = refl; outcome = refl; activity = refl }))
-    (acted_fault s activity place _)
+    (acted_fault s activity position _)
 
-acted_allocating : (s : State) (activity : Activity) (place : Pos) (class area : ℕ) (slots : List Value) (next : State → ℕ → Step) → ((t : State) (r : ℕ) → IsKept s t → Acted s (next t r)) → Acted s (allocating s TheSequencer activity place class area slots next)
+acted_allocating : (s : State) (activity : Activity) (position : Pos) (class area : ℕ) (slots : List Value) (next : State → ℕ → Step) → ((t : State) (r : ℕ) → IsKept s t → Acted s (next t r)) → Acted s (allocating s TheSequencer activity position class area slots next)
 unfolding allocating
-acted_allocating s activity place class area slots next h =
+acted_allocating s activity position class area slots next h =
     acted_if s (has_room s area (length slots)) _ _
     (h (with_object s class area slots) (length s.objects) (record { started_same = refl; phase = refl; outcome = refl; activity = refl }))
-    (acted_fault s activity place _)
+    (acted_fault s activity position _)
 
-acted_opened : (s : State) (activity : Activity) (frames : List Frame) (place : Pos) (g : Frame) (scope bytes : ℕ) → is_exec s.phase ≡ false → s.outcome ≡ None → Acted s (opened_in s TheSequencer activity frames place g scope bytes)
+acted_opened : (s : State) (activity : Activity) (frames : List Frame) (position : Pos) (g : Frame) (scope bytes : ℕ) → is_exec s.phase ≡ false → s.outcome ≡ None → Acted s (opened_in s TheSequencer activity frames position g scope bytes)
 unfolding opened_in with_activity
-acted_opened s activity frames place g scope bytes h n =
-    acted_if s (is_some (area_with_scope s scope activity.areas)) _ _ (acted_fault s activity place _)
-    (acted_if s (is_full frames) _ _ (acted_fault s activity place _)
-    (acted_opening s activity place scope (Some g.area) bytes _ (λ t a k. plain s h n _ k.started_same k.phase k.outcome)))
+acted_opened s activity frames position g scope bytes h n =
+    acted_if s (is_some (area_with_scope s scope activity.areas)) _ _ (acted_fault s activity position _)
+    (acted_if s (is_full frames) _ _ (acted_fault s activity position _)
+    (acted_opening s activity position scope (Some g.area) bytes _ (λ t a k. plain s h n _ k.started_same k.phase k.outcome)))
 
 acted_left : (s : State) (activity : Activity) (f : Frame) (below : List Frame) (value : Option Value) → is_exec s.phase ≡ false → s.outcome ≡ None → Acted s (frame_left s TheSequencer activity f below value)
 unfolding frame_left job_ended with_activity returned
@@ -287,12 +287,12 @@ acted_left s activity f [] (Some value) h n =
 acted_left s activity f (g ∷ gs) value h n =
     plain s h n _ (started_closed s f.opened) (aside_closed s f.opened).phase (aside_closed s f.opened).outcome
 
-acted_registered : (code : Code) (s : State) (activity : Activity) (place : Pos) (r : ℕ) (o : _) (after : State) → IsActed s after → Acted s (registered code s TheSequencer activity place r o after)
+acted_registered : (code : Code) (s : State) (activity : Activity) (position : Pos) (r : ℕ) (o : _) (after : State) → IsActed s after → Acted s (registered code s TheSequencer activity position r o after)
 unfolding registered
-acted_registered code s activity place r o after a =
-    acted_if s (not (is_init s.phase)) _ _ (acted_fault s activity place _)
+acted_registered code s activity position r o after a =
+    acted_if s (not (is_init s.phase)) _ _ (acted_fault s activity position _)
     (acted_if s (is_some (handler_number s.registry r)) _ _ a
-    (acted_if s (not (nat_lt (length s.registry) most_handlers)) _ _ (acted_fault s activity place _)
+    (acted_if s (not (nat_lt (length s.registry) most_handlers)) _ _ (acted_fault s activity position _)
     (record { started_same = a.started_same; outside = a.outside; frameless = a.frameless })))
 
 not_released : (t : State) (r : ℕ) → is_exec t.phase ≡ false → released t r ≡ silently t
@@ -329,29 +329,29 @@ acted_either : (s : State) (b : Bool) (x y : Option Step) → ActedIf s x → Ac
 acted_either s true x y h k = h
 acted_either s false x y h k = k
 
-acted_applied : (code : Code) (s : State) (activity : Activity) (below : List Frame) (place : Pos) (effect : Effect) → is_exec s.phase ≡ false → s.outcome ≡ None → ActedIf s (applied code s TheSequencer activity below place effect)
+acted_applied : (code : Code) (s : State) (activity : Activity) (below : List Frame) (position : Pos) (effect : Effect) → is_exec s.phase ≡ false → s.outcome ≡ None → ActedIf s (applied code s TheSequencer activity below position effect)
 unfolding applied with_activity
-acted_applied code s activity below place (Goes f) h n = acted_some s _ (plain s h n _ refl refl refl)
-acted_applied code s activity below place (Prints f label value) h n = acted_some s _ (plain s h n _ refl refl refl)
-acted_applied code s activity below place (Makes f class slots) h n =
-    acted_some s _ (acted_allocating s activity place class f.area slots _ (λ t r k. plain s h n _ k.started_same k.phase k.outcome))
-acted_applied code s activity below place (Stores f r slot value) h n = acted_some s _ (plain s h n _ refl refl refl)
-acted_applied code s activity below place (StoresStatic f k value) h n = acted_some s _ (plain s h n _ refl refl refl)
-acted_applied code s activity below place (SetsHidden f r values) h n = acted_some s _ (plain s h n _ refl refl refl)
-acted_applied code s activity below place (SetsCeiling f r ceiling) h n = acted_some s _ (plain s h n _ refl refl refl)
-acted_applied code s activity below place (Calls f g) h n = acted_some s _ (acted_called code s activity (f ∷ below) place g h n)
-acted_applied code s activity below place (Opens f g scope bytes) h n = acted_some s _ (acted_opened s activity (f ∷ below) place g scope bytes h n)
-acted_applied code s activity below place (Leaves f value) h n = acted_some s _ (acted_left s activity f below value h n)
-acted_applied code s activity below place (AsksRegistration f r) h n =
-    acted_mapped s (object_at s r) _ (λ o. acted_registered code s activity place r o (with_frame s TheSequencer activity f below) (plain s h n _ refl refl refl))
-acted_applied code s activity below place (AsksRelease f r) h n =
+acted_applied code s activity below position (Goes f) h n = acted_some s _ (plain s h n _ refl refl refl)
+acted_applied code s activity below position (Prints f label value) h n = acted_some s _ (plain s h n _ refl refl refl)
+acted_applied code s activity below position (Makes f class slots) h n =
+    acted_some s _ (acted_allocating s activity position class f.area slots _ (λ t r k. plain s h n _ k.started_same k.phase k.outcome))
+acted_applied code s activity below position (Stores f r slot value) h n = acted_some s _ (plain s h n _ refl refl refl)
+acted_applied code s activity below position (StoresStatic f k value) h n = acted_some s _ (plain s h n _ refl refl refl)
+acted_applied code s activity below position (SetsHidden f r values) h n = acted_some s _ (plain s h n _ refl refl refl)
+acted_applied code s activity below position (SetsCeiling f r ceiling) h n = acted_some s _ (plain s h n _ refl refl refl)
+acted_applied code s activity below position (Calls f g) h n = acted_some s _ (acted_called code s activity (f ∷ below) position g h n)
+acted_applied code s activity below position (Opens f g scope bytes) h n = acted_some s _ (acted_opened s activity (f ∷ below) position g scope bytes h n)
+acted_applied code s activity below position (Leaves f value) h n = acted_some s _ (acted_left s activity f below value h n)
+acted_applied code s activity below position (AsksRegistration f r) h n =
+    acted_mapped s (object_at s r) _ (λ o. acted_registered code s activity position r o (with_frame s TheSequencer activity f below) (plain s h n _ refl refl refl))
+acted_applied code s activity below position (AsksRelease f r) h n =
     let t : State = with_frame s TheSequencer activity f below in
     acted_some s _ (subst (λ (x : Step). Acted s x) (sym (not_released t r h)) (plain s h n t refl refl refl))
-acted_applied code s activity below place (AsksTermination f r) h n =
+acted_applied code s activity below position (AsksTermination f r) h n =
     let t : State = with_frame s TheSequencer activity f below in
     acted_some s _ (acted_asked s t r (plain s h n t refl refl refl) h)
-acted_applied code s activity below place (Faults fault) h n = acted_some s _ (acted_fault s activity place fault)
-acted_applied code s activity below place Stuck h n = acted_none s
+acted_applied code s activity below position (Faults fault) h n = acted_some s _ (acted_fault s activity position fault)
+acted_applied code s activity below position Stuck h n = acted_none s
 
 acted_frame : (code : Code) (rows : List ReadingRow) (s : State) (activity : Activity) → is_exec s.phase ≡ false → s.outcome ≡ None → ActedIf s (frame_op code rows s TheSequencer activity)
 unfolding frame_op
@@ -365,16 +365,16 @@ acted_frame code rows s activity h n = go activity.frames
     go [] = acted_none s
     go (f ∷ below) = act f below f.rest
 
-acted_area : (s : State) (place : Pos) (scope bytes : ℕ) → is_exec s.phase ≡ false → s.activity.frames ≡ [] → Acted s (area_opened s place scope bytes)
+acted_area : (s : State) (position : Pos) (scope bytes : ℕ) → is_exec s.phase ≡ false → s.activity.frames ≡ [] → Acted s (area_opened s position scope bytes)
 unfolding area_opened
-acted_area s place scope bytes h f =
-    acted_opening s s.activity place scope (innermost s.activity.areas) bytes _
+acted_area s position scope bytes h f =
+    acted_opening s s.activity position scope (innermost s.activity.areas) bytes _
     (λ t a k. record { started_same = k.started_same; outside = ap is_exec k.phase ∙ h; frameless = λ v x. f })
 
-acted_safelet : (code : Code) (s : State) (place : Pos) (class area : ℕ) → is_exec s.phase ≡ false → s.activity.frames ≡ [] → Acted s (safelet_made code s place class area)
+acted_safelet : (code : Code) (s : State) (position : Pos) (class area : ℕ) → is_exec s.phase ≡ false → s.activity.frames ≡ [] → Acted s (safelet_made code s position class area)
 unfolding safelet_made
-acted_safelet code s place class area h f =
-    acted_allocating s s.activity place class area (new_slots code.program class) _
+acted_safelet code s position class area h f =
+    acted_allocating s s.activity position class area (new_slots code.program class) _
     (λ t r k. record { started_same = k.started_same; outside = ap is_exec k.phase ∙ h; frameless = λ v x. ap (λ (a : Activity). a.frames) k.activity ∙ f })
 
 acted_body : (code : Code) (s : State) (r : ℕ) (body : Body) → is_exec s.phase ≡ false → s.outcome ≡ None → ActedIf s (body_called code s r body)
@@ -526,8 +526,8 @@ orderly_fired code s fire o = go (fired_handler code s fire.handler)
     go None = o
     go (Some handler) = orderly_taken s handler o
 
-orderly_fired_at : (code : Code) (fires : List Fire) (s : State) (place : ℕ) → IsOrderly s → IsOrderly (fired_at code fires s place).state
-orderly_fired_at code fires s place o = go (slice_get fires place)
+orderly_fired_at : (code : Code) (fires : List Fire) (s : State) (index : ℕ) → IsOrderly s → IsOrderly (fired_at code fires s index).state
+orderly_fired_at code fires s index o = go (slice_get fires index)
   where
     go : (f : Option Fire) → IsOrderly (elim f as (λ x. Step) [ None ↦ silently s | Some fire ↦ fired code s fire ]).state
     go None = o
@@ -584,7 +584,7 @@ ready_bind (Some a) f h = h a
 aside_turn : (code : Code) (rows : List ReadingRow) (turn : Turn) (u : State) → AsideIf u (turn_acts code rows turn u)
 unfolding turn_acts
 aside_turn code rows IdleTurn u = aside_some u (silently u) (record { phase = refl; activity = refl; outcome = refl })
-aside_turn code rows (TurnOf place) u = aside_ref_op code rows u place
+aside_turn code rows (TurnOf index) u = aside_ref_op code rows u index
 
 ready_turn : (code : Code) (rows : List ReadingRow) (s : State) (turn : Turn) → IsOrderly s → is_exec s.phase ≡ true → ReadyIf (then_try (turn_taken s turn) (turn_acts code rows turn))
 unfolding turn_taken

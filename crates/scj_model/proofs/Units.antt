@@ -54,10 +54,10 @@ unfolding closed_all
 unit_closed_all s [] = refl
 unit_closed_all s (f ∷ fs) = unit_closed_all (closed s f.opened) fs ∙ unit_closed s f.opened
 
-keeps_fault : (s : State) (job : Job) (activity : Activity) (place : Pos) (fault : RunFault) → KeepsUnit s (fault_in s job activity place fault)
+keeps_fault : (s : State) (job : Job) (activity : Activity) (position : Pos) (fault : RunFault) → KeepsUnit s (fault_in s job activity position fault)
 unfolding fault_in
-keeps_fault s TheSequencer activity place fault = refl
-keeps_fault s (ReleaseAt n) activity place fault = unit_closed_all s activity.frames
+keeps_fault s TheSequencer activity position fault = refl
+keeps_fault s (ReleaseAt n) activity position fault = unit_closed_all s activity.frames
 
 keeps_ended : (s : State) (job : Job) (activity : Activity) (value : Option Value) → KeepsUnit s (job_ended s job activity value)
 unfolding job_ended
@@ -66,29 +66,29 @@ keeps_ended s (ReleaseAt n) activity value = refl
 
 -- ---- effects
 
-keeps_called : (code : Code) (s : State) (job : Job) (activity : Activity) (frames : List Frame) (place : Pos) (g : Frame) → KeepsUnit s (called code s job activity frames place g)
+keeps_called : (code : Code) (s : State) (job : Job) (activity : Activity) (frames : List Frame) (position : Pos) (g : Frame) → KeepsUnit s (called code s job activity frames position g)
 unfolding called
-keeps_called code s job activity frames place g =
-    keeps_if s (is_full frames) _ _ (keeps_fault s job activity place _)
+keeps_called code s job activity frames position g =
+    keeps_if s (is_full frames) _ _ (keeps_fault s job activity position _)
     (keeps_option s (ceiling_entered code s g) _ _ (unit_active s job _)
-    (λ ceiling. keeps_if s (nat_lt ceiling activity.priority) _ _ (keeps_fault s job activity place _) (unit_active s job _)))
+    (λ ceiling. keeps_if s (nat_lt ceiling activity.priority) _ _ (keeps_fault s job activity position _) (unit_active s job _)))
 
-keeps_opening : (s : State) (job : Job) (activity : Activity) (place : Pos) (scope : ℕ) (parent : Option ℕ) (bytes : ℕ) (next : State → ℕ → Step) → ((t : State) (a : ℕ) → t.unit ≡ s.unit → KeepsUnit s (next t a)) → KeepsUnit s (opening s job activity place scope parent bytes next)
+keeps_opening : (s : State) (job : Job) (activity : Activity) (position : Pos) (scope : ℕ) (parent : Option ℕ) (bytes : ℕ) (next : State → ℕ → Step) → ((t : State) (a : ℕ) → t.unit ≡ s.unit → KeepsUnit s (next t a)) → KeepsUnit s (opening s job activity position scope parent bytes next)
 unfolding opening
-keeps_opening s job activity place scope parent bytes next h =
-    keeps_if s (has_store_for s bytes) _ _ (h (with_area s scope parent bytes) (length s.areas) refl) (keeps_fault s job activity place _)
+keeps_opening s job activity position scope parent bytes next h =
+    keeps_if s (has_store_for s bytes) _ _ (h (with_area s scope parent bytes) (length s.areas) refl) (keeps_fault s job activity position _)
 
-keeps_allocating : (s : State) (job : Job) (activity : Activity) (place : Pos) (class area : ℕ) (slots : List Value) (next : State → ℕ → Step) → ((t : State) (r : ℕ) → t.unit ≡ s.unit → KeepsUnit s (next t r)) → KeepsUnit s (allocating s job activity place class area slots next)
+keeps_allocating : (s : State) (job : Job) (activity : Activity) (position : Pos) (class area : ℕ) (slots : List Value) (next : State → ℕ → Step) → ((t : State) (r : ℕ) → t.unit ≡ s.unit → KeepsUnit s (next t r)) → KeepsUnit s (allocating s job activity position class area slots next)
 unfolding allocating
-keeps_allocating s job activity place class area slots next h =
-    keeps_if s (has_room s area (length slots)) _ _ (h (with_object s class area slots) (length s.objects) refl) (keeps_fault s job activity place _)
+keeps_allocating s job activity position class area slots next h =
+    keeps_if s (has_room s area (length slots)) _ _ (h (with_object s class area slots) (length s.objects) refl) (keeps_fault s job activity position _)
 
-keeps_opened : (s : State) (job : Job) (activity : Activity) (frames : List Frame) (place : Pos) (g : Frame) (scope bytes : ℕ) → KeepsUnit s (opened_in s job activity frames place g scope bytes)
+keeps_opened : (s : State) (job : Job) (activity : Activity) (frames : List Frame) (position : Pos) (g : Frame) (scope bytes : ℕ) → KeepsUnit s (opened_in s job activity frames position g scope bytes)
 unfolding opened_in
-keeps_opened s job activity frames place g scope bytes =
-    keeps_if s (is_some (area_with_scope s scope activity.areas)) _ _ (keeps_fault s job activity place _)
-    (keeps_if s (is_full frames) _ _ (keeps_fault s job activity place _)
-    (keeps_opening s job activity place scope (Some g.area) bytes _ (λ t a k. unit_active t job _ ∙ k)))
+keeps_opened s job activity frames position g scope bytes =
+    keeps_if s (is_some (area_with_scope s scope activity.areas)) _ _ (keeps_fault s job activity position _)
+    (keeps_if s (is_full frames) _ _ (keeps_fault s job activity position _)
+    (keeps_opening s job activity position scope (Some g.area) bytes _ (λ t a k. unit_active t job _ ∙ k)))
 
 keeps_left : (s : State) (job : Job) (activity : Activity) (f : Frame) (below : List Frame) (value : Option Value) → KeepsUnit s (frame_left s job activity f below value)
 unfolding frame_left
@@ -112,12 +112,12 @@ unfolding termination_asked termination
 keeps_asked s r =
     keeps_if s (asks_for_end s.mission s.phase s.is_end_asked r) _ _ (keeps_if s (is_exec s.phase) _ _ refl refl) refl
 
-keeps_registered : (code : Code) (s : State) (job : Job) (activity : Activity) (place : Pos) (r : ℕ) (o : _) (after : State) → after.unit ≡ s.unit → KeepsUnit s (registered code s job activity place r o after)
+keeps_registered : (code : Code) (s : State) (job : Job) (activity : Activity) (position : Pos) (r : ℕ) (o : _) (after : State) → after.unit ≡ s.unit → KeepsUnit s (registered code s job activity position r o after)
 unfolding registered
-keeps_registered code s job activity place r o after e =
-    keeps_if s (not (is_init s.phase)) _ _ (keeps_fault s job activity place _)
+keeps_registered code s job activity position r o after e =
+    keeps_if s (not (is_init s.phase)) _ _ (keeps_fault s job activity position _)
     (keeps_if s (is_some (handler_number s.registry r)) _ _ e
-    (keeps_if s (not (nat_lt (length s.registry) most_handlers)) _ _ (keeps_fault s job activity place _) e))
+    (keeps_if s (not (nat_lt (length s.registry) most_handlers)) _ _ (keeps_fault s job activity position _) e))
 
 pub record KeepsUnitIf (s : State) (o : Option Step) : Type 0 where
   pub is : (r : Step) → o ≡ Some r → KeepsUnit s r
@@ -140,28 +140,28 @@ keeps_either : (s : State) (b : Bool) (x y : Option Step) → KeepsUnitIf s x �
 keeps_either s true x y h k = h
 keeps_either s false x y h k = k
 
-keeps_applied : (code : Code) (s : State) (job : Job) (activity : Activity) (below : List Frame) (place : Pos) (effect : Effect) → KeepsUnitIf s (applied code s job activity below place effect)
+keeps_applied : (code : Code) (s : State) (job : Job) (activity : Activity) (below : List Frame) (position : Pos) (effect : Effect) → KeepsUnitIf s (applied code s job activity below position effect)
 unfolding applied
-keeps_applied code s job activity below place (Goes f) = keeps_some s _ (unit_active s job _)
-keeps_applied code s job activity below place (Prints f label value) = keeps_some s _ (unit_active s job _)
-keeps_applied code s job activity below place (Makes f class slots) =
-    keeps_some s _ (keeps_allocating s job activity place class f.area slots _ (λ t r k. unit_active t job _ ∙ k))
-keeps_applied code s job activity below place (Stores f r slot value) = keeps_some s _ (unit_active _ job _)
-keeps_applied code s job activity below place (StoresStatic f k value) = keeps_some s _ (unit_active _ job _)
-keeps_applied code s job activity below place (SetsHidden f r values) = keeps_some s _ (unit_active _ job _)
-keeps_applied code s job activity below place (SetsCeiling f r ceiling) =
-    keeps_either s (is_sequencer job) _ _ (keeps_some s _ (unit_active _ job _)) (keeps_some s _ (keeps_fault s job activity place _))
-keeps_applied code s job activity below place (Calls f g) = keeps_some s _ (keeps_called code s job activity (f ∷ below) place g)
-keeps_applied code s job activity below place (Opens f g scope bytes) = keeps_some s _ (keeps_opened s job activity (f ∷ below) place g scope bytes)
-keeps_applied code s job activity below place (Leaves f value) = keeps_some s _ (keeps_left s job activity f below value)
-keeps_applied code s job activity below place (AsksRegistration f r) =
-    keeps_mapped s (object_at s r) _ (λ o. keeps_registered code s job activity place r o (with_frame s job activity f below) (unit_active s job _))
-keeps_applied code s job activity below place (AsksRelease f r) =
+keeps_applied code s job activity below position (Goes f) = keeps_some s _ (unit_active s job _)
+keeps_applied code s job activity below position (Prints f label value) = keeps_some s _ (unit_active s job _)
+keeps_applied code s job activity below position (Makes f class slots) =
+    keeps_some s _ (keeps_allocating s job activity position class f.area slots _ (λ t r k. unit_active t job _ ∙ k))
+keeps_applied code s job activity below position (Stores f r slot value) = keeps_some s _ (unit_active _ job _)
+keeps_applied code s job activity below position (StoresStatic f k value) = keeps_some s _ (unit_active _ job _)
+keeps_applied code s job activity below position (SetsHidden f r values) = keeps_some s _ (unit_active _ job _)
+keeps_applied code s job activity below position (SetsCeiling f r ceiling) =
+    keeps_either s (is_sequencer job) _ _ (keeps_some s _ (unit_active _ job _)) (keeps_some s _ (keeps_fault s job activity position _))
+keeps_applied code s job activity below position (Calls f g) = keeps_some s _ (keeps_called code s job activity (f ∷ below) position g)
+keeps_applied code s job activity below position (Opens f g scope bytes) = keeps_some s _ (keeps_opened s job activity (f ∷ below) position g scope bytes)
+keeps_applied code s job activity below position (Leaves f value) = keeps_some s _ (keeps_left s job activity f below value)
+keeps_applied code s job activity below position (AsksRegistration f r) =
+    keeps_mapped s (object_at s r) _ (λ o. keeps_registered code s job activity position r o (with_frame s job activity f below) (unit_active s job _))
+keeps_applied code s job activity below position (AsksRelease f r) =
     keeps_some s _ (keeps_released (with_frame s job activity f below) r ∙ unit_active s job _)
-keeps_applied code s job activity below place (AsksTermination f r) =
+keeps_applied code s job activity below position (AsksTermination f r) =
     keeps_some s _ (keeps_asked (with_frame s job activity f below) r ∙ unit_active s job _)
-keeps_applied code s job activity below place (Faults fault) = keeps_some s _ (keeps_fault s job activity place fault)
-keeps_applied code s job activity below place Stuck = keeps_none s
+keeps_applied code s job activity below position (Faults fault) = keeps_some s _ (keeps_fault s job activity position fault)
+keeps_applied code s job activity below position Stuck = keeps_none s
 
 -- ---- operations of jobs
 
@@ -177,21 +177,21 @@ keeps_frame code rows s job activity = go activity.frames
     go [] = keeps_none s
     go (f ∷ below) = act f below f.rest
 
-keeps_start : (code : Code) (s : State) (place : ℕ) (r : Release) → KeepsUnitIf s (start_op code s place r)
+keeps_start : (code : Code) (s : State) (index : ℕ) (r : Release) → KeepsUnitIf s (start_op code s index r)
 unfolding start_op started_with
-keeps_start code s place r =
+keeps_start code s index r =
     keeps_bind s (handler_row s.registry r.handler) _ (λ row. keeps_bind s (defined_by_chain code.program row.class) _ (λ scope.
     keeps_bind s (body_named code.program row.class (codes "handleAsyncEvent")) _ (λ body.
-    keeps_some s _ (keeps_opening s (ReleaseAt place) no_activity (class_place code.program row.class) scope (innermost s.activity.areas) row.bytes _
-    (λ t a k. unit_active t (ReleaseAt place) _ ∙ k)))))
+    keeps_some s _ (keeps_opening s (ReleaseAt index) no_activity (class_place code.program row.class) scope (innermost s.activity.areas) row.bytes _
+    (λ t a k. unit_active t (ReleaseAt index) _ ∙ k)))))
 
-keeps_release : (code : Code) (rows : List ReadingRow) (s : State) (place : ℕ) (r : Release) → KeepsUnitIf s (release_op_of code rows s place r)
+keeps_release : (code : Code) (rows : List ReadingRow) (s : State) (index : ℕ) (r : Release) → KeepsUnitIf s (release_op_of code rows s index r)
 unfolding release_op_of
-keeps_release code rows s place r = go r.status
+keeps_release code rows s index r = go r.status
   where
-    go : (p : ReleaseStatus) → KeepsUnitIf s (elim p [ Waits ↦ start_op code s place r | Started activity ↦ frame_op code rows s (ReleaseAt place) activity | Ended ↦ None | Dropped ↦ None ])
-    go Waits = keeps_start code s place r
-    go (Started activity) = keeps_frame code rows s (ReleaseAt place) activity
+    go : (p : ReleaseStatus) → KeepsUnitIf s (elim p [ Waits ↦ start_op code s index r | Started activity ↦ frame_op code rows s (ReleaseAt index) activity | Ended ↦ None | Dropped ↦ None ])
+    go Waits = keeps_start code s index r
+    go (Started activity) = keeps_frame code rows s (ReleaseAt index) activity
     go Ended = keeps_none s
     go Dropped = keeps_none s
 
@@ -203,15 +203,15 @@ keeps_method : (code : Code) (s : State) (r : ℕ) (name : List ℕ) → KeepsUn
 keeps_method code s r name =
     keeps_bind s (object_at s r) _ (λ o. keeps_bind s (body_named code.program o.class name) _ (λ body. keeps_body code s r body))
 
-keeps_area : (s : State) (place : Pos) (scope bytes : ℕ) → KeepsUnit s (area_opened s place scope bytes)
+keeps_area : (s : State) (position : Pos) (scope bytes : ℕ) → KeepsUnit s (area_opened s position scope bytes)
 unfolding area_opened
-keeps_area s place scope bytes =
-    keeps_opening s TheSequencer s.activity place scope (innermost s.activity.areas) bytes _ (λ t a k. k)
+keeps_area s position scope bytes =
+    keeps_opening s TheSequencer s.activity position scope (innermost s.activity.areas) bytes _ (λ t a k. k)
 
-keeps_safelet : (code : Code) (s : State) (place : Pos) (class area : ℕ) → KeepsUnit s (safelet_made code s place class area)
+keeps_safelet : (code : Code) (s : State) (position : Pos) (class area : ℕ) → KeepsUnit s (safelet_made code s position class area)
 unfolding safelet_made
-keeps_safelet code s place class area =
-    keeps_allocating s TheSequencer s.activity place class area (new_slots code.program class) _ (λ t r k. k)
+keeps_safelet code s position class area =
+    keeps_allocating s TheSequencer s.activity position class area (new_slots code.program class) _ (λ t r k. k)
 
 keeps_sequencer_op : (code : Code) (s : State) (op : SeqOp) → KeepsUnitIf s (sequencer_op code s op)
 unfolding sequencer_op
@@ -257,7 +257,7 @@ keeps_told s first (Some second) h = keeps_some s _ (h.is second refl)
 keeps_turn_acts : (code : Code) (rows : List ReadingRow) (turn : Turn) (s : State) → KeepsUnitIf s (turn_acts code rows turn s)
 unfolding turn_acts
 keeps_turn_acts code rows IdleTurn s = keeps_some s _ refl
-keeps_turn_acts code rows (TurnOf place) s = ref_op_keeps_unit code rows s (ReleaseAt place)
+keeps_turn_acts code rows (TurnOf index) s = ref_op_keeps_unit code rows s (ReleaseAt index)
 
 keeps_chosen : (code : Code) (rows : List ReadingRow) (s : State) (turn : Turn) → KeepsUnitIf s (then_try (turn_taken s turn) (turn_acts code rows turn))
 unfolding turn_taken
@@ -312,8 +312,8 @@ keeps_fired code s fire = go (fired_handler code s fire.handler)
     go None = refl
     go (Some handler) = keeps_taken s handler
 
-keeps_fired_at : (code : Code) (fires : List Fire) (s : State) (place : ℕ) → KeepsUnit s (fired_at code fires s place)
-keeps_fired_at code fires s place = go (slice_get fires place)
+keeps_fired_at : (code : Code) (fires : List Fire) (s : State) (index : ℕ) → KeepsUnit s (fired_at code fires s index)
+keeps_fired_at code fires s index = go (slice_get fires index)
   where
     go : (f : Option Fire) → KeepsUnit s (elim f as (λ x. Step) [ None ↦ silently s | Some fire ↦ fired code s fire ])
     go None = refl

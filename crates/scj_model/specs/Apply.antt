@@ -43,12 +43,12 @@ ceiling_entered code s f = monitor_of code f >>= object_at s >>= (λ o. Some o.c
 
 -- a call on top of these frames: the active priority becomes the ceiling of the monitor that is entered
 unfoldable pub called : Code → State → Job → Activity → List Frame → Pos → Frame → Step
-called code s job activity frames place g =
-    if is_full frames then fault_in s job activity place DepthFull
+called code s job activity frames position g =
+    if is_full frames then fault_in s job activity position DepthFull
     else (elim (ceiling_entered code s g) [
       | None ↦ silently (with_activity s job (record activity { frames = g ∷ frames }))
       | Some ceiling ↦
-          if nat_lt ceiling activity.priority then fault_in s job activity place CeilingViolation
+          if nat_lt ceiling activity.priority then fault_in s job activity position CeilingViolation
           else telling
           (with_activity s job (record activity {
             frames = record g { saved = Some activity.priority } ∷ frames;
@@ -59,10 +59,10 @@ called code s job activity frames place g =
 
 -- a call in a new area inside the caller's
 unfoldable pub opened_in : State → Job → Activity → List Frame → Pos → Frame → ℕ → ℕ → Step
-opened_in s job activity frames place g scope bytes =
-    if is_some (area_with_scope s scope activity.areas) then fault_in s job activity place ScopedCycle
-    else (if is_full frames then fault_in s job activity place DepthFull
-    else opening s job activity place scope (Some g.area) bytes (λ s area.
+opened_in s job activity frames position g scope bytes =
+    if is_some (area_with_scope s scope activity.areas) then fault_in s job activity position ScopedCycle
+    else (if is_full frames then fault_in s job activity position DepthFull
+    else opening s job activity position scope (Some g.area) bytes (λ s area.
     silently (with_activity s job (record activity {
       frames = record g { area = area; opened = Some area } ∷ frames;
       areas = area ∷ activity.areas;
@@ -115,10 +115,10 @@ release_taken s handler =
 
 -- a handler is registered during the mission's initialisation, and once
 unfoldable pub registered : Code → State → Job → Activity → Pos → ℕ → Object → State → Step
-registered code s job activity place r o after =
-    if not (is_init s.phase) then fault_in s job activity place NotInitializing
+registered code s job activity position r o after =
+    if not (is_init s.phase) then fault_in s job activity position NotInitializing
     else (if is_some (handler_number s.registry r) then silently after
-    else (if not (nat_lt (length s.registry) most_handlers) then fault_in s job activity place TooManyHandlers
+    else (if not (nat_lt (length s.registry) most_handlers) then fault_in s job activity position TooManyHandlers
     else (let row = new_row code.program r o in
     telling (record after { registry = after.registry ++ row ∷ [] })
     (Register s.unit (length s.registry + 1) (class_name code o.class) row.priority ∷ []))))
@@ -165,39 +165,39 @@ with_ceiling ceiling o = record o { ceiling = ceiling }
 
 abbrev pub is_sequencer : Job → Bool
 is_sequencer TheSequencer = true
-is_sequencer (ReleaseAt place) = false
+is_sequencer (ReleaseAt index) = false
 
 abbrev pub with_frame : State → Job → Activity → Frame → List Frame → State
 with_frame s job activity f below = with_activity s job (record activity { frames = f ∷ below })
 
 unfoldable pub applied : Code → State → Job → Activity → List Frame → Pos → Effect → Option Step
-applied code s job activity below place (Goes f) = Some (silently (with_frame s job activity f below))
-applied code s job activity below place (Prints f label value) =
+applied code s job activity below position (Goes f) = Some (silently (with_frame s job activity f below))
+applied code s job activity below position (Prints f label value) =
     Some (telling (with_frame s job activity f below) (Print s.unit label value ∷ []))
-applied code s job activity below place (Makes f class slots) =
-    Some (allocating s job activity place class f.area slots (λ s r.
+applied code s job activity below position (Makes f class slots) =
+    Some (allocating s job activity position class f.area slots (λ s r.
     silently (with_frame s job activity (record f { operands = At r ∷ f.operands }) below)))
-applied code s job activity below place (Stores f r slot value) =
+applied code s job activity below position (Stores f r slot value) =
     Some (silently (with_frame (with_slot s r slot value) job activity f below))
-applied code s job activity below place (StoresStatic f n value) =
+applied code s job activity below position (StoresStatic f n value) =
     Some (silently (with_frame (record s { statics = slice_set s.statics n value }) job activity f below))
-applied code s job activity below place (SetsHidden f r values) =
+applied code s job activity below position (SetsHidden f r values) =
     Some (silently (with_frame (record s { objects = changed (with_first values) r s.objects }) job activity f below))
-applied code s job activity below place (SetsCeiling f r ceiling) =
+applied code s job activity below position (SetsCeiling f r ceiling) =
     if is_sequencer job
     then Some (silently
     (with_frame (record s { objects = changed (with_ceiling ceiling) r s.objects }) job activity f below))
-    else Some (fault_in s job activity place NotInitializing)
-applied code s job activity below place (Calls f g) = Some (called code s job activity (f ∷ below) place g)
-applied code s job activity below place (Opens f g scope bytes) =
-    Some (opened_in s job activity (f ∷ below) place g scope bytes)
-applied code s job activity below place (Leaves f value) = Some (frame_left s job activity f below value)
-applied code s job activity below place (AsksRegistration f r) =
+    else Some (fault_in s job activity position NotInitializing)
+applied code s job activity below position (Calls f g) = Some (called code s job activity (f ∷ below) position g)
+applied code s job activity below position (Opens f g scope bytes) =
+    Some (opened_in s job activity (f ∷ below) position g scope bytes)
+applied code s job activity below position (Leaves f value) = Some (frame_left s job activity f below value)
+applied code s job activity below position (AsksRegistration f r) =
     option_map
-    (λ (o : Object). registered code s job activity place r o (with_frame s job activity f below))
+    (λ (o : Object). registered code s job activity position r o (with_frame s job activity f below))
     (object_at s r)
-applied code s job activity below place (AsksRelease f r) = Some (released (with_frame s job activity f below) r)
-applied code s job activity below place (AsksTermination f r) =
+applied code s job activity below position (AsksRelease f r) = Some (released (with_frame s job activity f below) r)
+applied code s job activity below position (AsksTermination f r) =
     Some (termination_asked (with_frame s job activity f below) r)
-applied code s job activity below place (Faults fault) = Some (fault_in s job activity place fault)
-applied code s job activity below place Stuck = None
+applied code s job activity below position (Faults fault) = Some (fault_in s job activity position fault)
+applied code s job activity below position Stuck = None

@@ -71,7 +71,7 @@ fired code s fire =
 
 -- the fire at this place of the plan
 abbrev pub fired_at : Code → List Fire → State → ℕ → Step
-fired_at code fires s place = elim (slice_get fires place) [ None ↦ silently s | Some fire ↦ fired code s fire ]
+fired_at code fires s index = elim (slice_get fires index) [ None ↦ silently s | Some fire ↦ fired code s fire ]
 
 unfoldable pub arrivals : Code → Plan → State → Step
 arrivals code plan s =

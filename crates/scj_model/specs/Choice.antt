@@ -7,7 +7,7 @@ use Rattle.scj_model.specs.Registry.{handler_row}
 
 -- a release that may act: where it stands among all releases, its active priority, and whether it is started
 pub record Candidate : Type 0 where
-  pub place : ℕ
+  pub index : ℕ
   pub priority : ℕ
   pub is_started : Bool
 
@@ -16,19 +16,19 @@ abbrev pub handler_priority : State → ℕ → ℕ
 handler_priority s handler = elim (handler_row s.registry handler) [ None ↦ 0 | Some row ↦ row.priority ]
 
 unfoldable pub candidate : State → ℕ → Release → Option Candidate
-candidate s place r =
+candidate s index r =
     elim r.status [
-      | Waits ↦ Some (record { place = place; priority = handler_priority s r.handler; is_started = false })
-      | Started activity ↦ Some (record { place = place; priority = activity.priority; is_started = true })
+      | Waits ↦ Some (record { index = index; priority = handler_priority s r.handler; is_started = false })
+      | Started activity ↦ Some (record { index = index; priority = activity.priority; is_started = true })
       | Ended ↦ None
       | Dropped ↦ None
     ]
 
 -- the waiting and the started releases, from this place on
 unfoldable pub candidates_from : State → ℕ → List Release → List Candidate
-candidates_from s place [] = []
-candidates_from s place (r ∷ rs) =
-    option_to_list (candidate s place r) ++ candidates_from s (place + 1) rs
+candidates_from s index [] = []
+candidates_from s index (r ∷ rs) =
+    option_to_list (candidate s index r) ++ candidates_from s (index + 1) rs
 
 unfoldable pub candidates : State → List Candidate
 candidates s = candidates_from s 0 s.releases
@@ -47,7 +47,7 @@ most_urgent (c ∷ cs) =
 
 -- Chosen: the place of the most urgent release
 unfoldable pub chosen : State → Option ℕ
-chosen s = option_map (λ (c : Candidate). c.place) (most_urgent (candidates s))
+chosen s = option_map (λ (c : Candidate). c.index) (most_urgent (candidates s))
 
 -- ---- who acts
 
@@ -56,11 +56,11 @@ abbrev pub Policy : Type 0
 Policy = State → Option Turn
 
 unfoldable pub by_priority : Policy
-by_priority s = Some (elim (chosen s) [ None ↦ IdleTurn | Some place ↦ TurnOf place ])
+by_priority s = Some (elim (chosen s) [ None ↦ IdleTurn | Some index ↦ TurnOf index ])
 
 -- the release at the place waits or is started
 unfoldable pub may_act : State → ℕ → Bool
-may_act s place = holds (slice_get s.releases place) (λ r. is_some (candidate s place r))
+may_act s index = holds (slice_get s.releases index) (λ r. is_some (candidate s index r))
 
 -- the list names a release for each unit of the run. Where none may act the unit is idle; a release that may not act is
 -- no choice
@@ -68,5 +68,5 @@ unfoldable pub by_list : List ℕ → Policy
 by_list choices s =
     elim (candidates s) [
       | [] ↦ Some IdleTurn
-      | c ∷ cs ↦ slice_get choices s.unit >>= (λ place. if may_act s place then Some (TurnOf place) else None)
+      | c ∷ cs ↦ slice_get choices s.unit >>= (λ index. if may_act s index then Some (TurnOf index) else None)
     ]

@@ -22,7 +22,7 @@ pub data Effect : Type 0 where
   Makes : (f : Frame) (class : ℕ) (slots : List Value) → Effect
   -- it stores a value into a slot or an element, or into a static field
   Stores : (f : Frame) (r slot : ℕ) (value : Value) → Effect
-  StoresStatic : (f : Frame) (place : ℕ) (value : Value) → Effect
+  StoresStatic : (f : Frame) (index : ℕ) (value : Value) → Effect
   -- it sets the first slots of an object, which are its hidden ones, or an object's ceiling
   SetsHidden : (f : Frame) (r : ℕ) (values : List Value) → Effect
   SetsCeiling : (f : Frame) (r ceiling : ℕ) → Effect

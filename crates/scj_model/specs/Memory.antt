@@ -20,10 +20,10 @@ use Rattle.scj_model.specs.State.{MemoryArea, Object, State, changed, area_at}
 
 -- the value of a literal (JLS 3.10)
 unfoldable pub literal_value : Node → Option Value
-literal_value (NumberNode place value is_negative) = Some (Int (if is_negative then neg_ℤ (pos value) else pos value))
-literal_value (True place) = Some (Truth true)
-literal_value (False place) = Some (Truth false)
-literal_value (NullNode place) = Some Null
+literal_value (NumberNode position value is_negative) = Some (Int (if is_negative then neg_ℤ (pos value) else pos value))
+literal_value (True position) = Some (Truth true)
+literal_value (False position) = Some (Truth false)
+literal_value (NullNode position) = Some Null
 literal_value _ = None
 
 -- the value with which a field, an element or a local begins (JLS 4.12.5)

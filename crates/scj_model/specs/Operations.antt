@@ -60,27 +60,27 @@ bound_static_method _ = None
 -- ---- parts of nodes
 
 unfoldable pub operator_of : Node → Option ℕ
-operator_of (Binary place operator left right) = Some operator
-operator_of (Unary place operator operand) = Some operator
+operator_of (Binary position operator left right) = Some operator
+operator_of (Unary position operator operand) = Some operator
 operator_of _ = None
 
 -- the node that tells what is assigned: the target of an assignment, and the declaration of a local with a value
 unfoldable pub assigned_node : ℕ → Node → Option ℕ
-assigned_node id (Assign place target value) = Some target
-assigned_node id (LocalWithValue place name_place name flags declared_type value) = Some id
+assigned_node id (Assign position target value) = Some target
+assigned_node id (LocalWithValue position name_place name flags declared_type value) = Some id
 assigned_node id _ = None
 
 abbrev pub assigned : Code → ℕ → Option Binding
 assigned code id = part code (assigned_node id) id >>= (λ node. Some (binding code node))
 
 unfoldable pub argument_count : Node → Option ℕ
-argument_count (CallNode place name object arguments) = Some (length arguments)
-argument_count (New place name_place name arguments) = Some (length arguments)
-argument_count (SuperCall place arguments) = Some (length arguments)
+argument_count (CallNode position name object arguments) = Some (length arguments)
+argument_count (New position name_place name arguments) = Some (length arguments)
+argument_count (SuperCall position arguments) = Some (length arguments)
 argument_count _ = None
 
 unfoldable pub first_argument : Node → Option ℕ
-first_argument (CallNode place name object (first ∷ more)) = Some first
+first_argument (CallNode position name object (first ∷ more)) = Some first
 first_argument _ = None
 
 -- the number of an element of an array, if there is one
@@ -114,7 +114,7 @@ get_op code world f id =
 abbrev pub get_static_op : Code → Environment → Frame → ℕ → Effect
 get_static_op code world f id =
     given (bound_static (binding code id)) (λ field.
-    given (static_place code.program field) (λ place. given (slice_get world.statics place) (λ value. pushes f value)))
+    given (static_place code.program field) (λ index. given (slice_get world.statics index) (λ value. pushes f value)))
 
 abbrev pub length_op : Environment → Frame → Effect
 length_op world f =
@@ -353,8 +353,8 @@ put_op code world f id =
 
 abbrev pub put_static_op : Code → Frame → ℕ → Effect
 put_static_op code f id =
-    given (assigned code id >>= bound_static) (λ field. given (static_place code.program field) (λ place.
-    pop f (λ value f. StoresStatic f place value)))
+    given (assigned code id >>= bound_static) (λ field. given (static_place code.program field) (λ index.
+    pop f (λ value f. StoresStatic f index value)))
 
 abbrev pub put_elem_op : Environment → Frame → Effect
 put_elem_op world f =

@@ -91,11 +91,11 @@ leaves_value _ = false
 -- ---- assignments, by the target (JLS 15.26.1)
 
 unfoldable pub assign_ops : (ℕ → List Op) → ℕ → ℕ → Binding → Node → List Op
-assign_ops ops id value (Local k) (SimpleName place name) = ops value ++ STORE id ∷ []
-assign_ops ops id value (Field k) (SimpleName place name) = THIS id ∷ ops value ++ PUT id ∷ []
-assign_ops ops id value (Field k) (FieldAccess place name object) = ops object ++ (ops value ++ PUT id ∷ [])
+assign_ops ops id value (Local k) (SimpleName position name) = ops value ++ STORE id ∷ []
+assign_ops ops id value (Field k) (SimpleName position name) = THIS id ∷ ops value ++ PUT id ∷ []
+assign_ops ops id value (Field k) (FieldAccess position name object) = ops object ++ (ops value ++ PUT id ∷ [])
 assign_ops ops id value (Static k) _ = ops value ++ PUTSTATIC id ∷ []
-assign_ops ops id value _ (Element place array index) = ops array ++ (ops index ++ (ops value ++ PUTELEM id ∷ []))
+assign_ops ops id value _ (Element position array index) = ops array ++ (ops index ++ (ops value ++ PUTELEM id ∷ []))
 assign_ops ops id value _ _ = []
 
 -- ---- the end of bodies (JLS 14.17, 8.4.7)
@@ -142,40 +142,40 @@ constructor_ops code ops id super_call body =
 -- ---- all nodes
 
 unfoldable pub node_ops : Code → (ℕ → List Op) → ℕ → Node → List Op
-node_ops code ops id (Number place value is_negative) = PUSH id ∷ []
-node_ops code ops id (True place) = PUSH id ∷ []
-node_ops code ops id (False place) = PUSH id ∷ []
-node_ops code ops id (Null place) = PUSH id ∷ []
-node_ops code ops id (This place) = THIS id ∷ []
-node_ops code ops id (SimpleName place name) = name_ops id (binding code id)
-node_ops code ops id (FieldAccess place name object) = access_ops ops id object (binding code id)
-node_ops code ops id (Element place array index) = ops array ++ (ops index ++ ELEM id ∷ [])
-node_ops code ops id (Parenthesized place inner) = ops inner
-node_ops code ops id (Unary place operator operand) = ops operand ++ UNARY id ∷ []
-node_ops code ops id (Binary place operator left right) = binary_ops ops id operator left right
-node_ops code ops id (New place name_place name arguments) = new_ops ops id arguments (binding code id)
-node_ops code ops id (NewArray place element length) = ops length ++ ALLOCARRAY id ∷ []
-node_ops code ops id (Call place name object arguments) = call_ops ops id object arguments (binding code id)
-node_ops code ops id (Cast place name_place name operand) = ops operand ++ CAST id ∷ []
-node_ops code ops id (LocalNode place name flags declared_type) = ZERO id ∷ []
-node_ops code ops id (LocalWithValue place name_place name flags declared_type value) = ops value ++ STORE id ∷ []
-node_ops code ops id (Assign place target value) =
+node_ops code ops id (Number position value is_negative) = PUSH id ∷ []
+node_ops code ops id (True position) = PUSH id ∷ []
+node_ops code ops id (False position) = PUSH id ∷ []
+node_ops code ops id (Null position) = PUSH id ∷ []
+node_ops code ops id (This position) = THIS id ∷ []
+node_ops code ops id (SimpleName position name) = name_ops id (binding code id)
+node_ops code ops id (FieldAccess position name object) = access_ops ops id object (binding code id)
+node_ops code ops id (Element position array index) = ops array ++ (ops index ++ ELEM id ∷ [])
+node_ops code ops id (Parenthesized position inner) = ops inner
+node_ops code ops id (Unary position operator operand) = ops operand ++ UNARY id ∷ []
+node_ops code ops id (Binary position operator left right) = binary_ops ops id operator left right
+node_ops code ops id (New position name_place name arguments) = new_ops ops id arguments (binding code id)
+node_ops code ops id (NewArray position element length) = ops length ++ ALLOCARRAY id ∷ []
+node_ops code ops id (Call position name object arguments) = call_ops ops id object arguments (binding code id)
+node_ops code ops id (Cast position name_place name operand) = ops operand ++ CAST id ∷ []
+node_ops code ops id (LocalNode position name flags declared_type) = ZERO id ∷ []
+node_ops code ops id (LocalWithValue position name_place name flags declared_type value) = ops value ++ STORE id ∷ []
+node_ops code ops id (Assign position target value) =
     elim (slice_get code.program.nodes target) [
       | None ↦ []
       | Some node ↦ assign_ops ops id value (binding code target) node
     ]
-node_ops code ops id (ExpressionStatement place expression) =
+node_ops code ops id (ExpressionStatement position expression) =
     ops expression ++ (if leaves_value (binding code expression) then DROP id ∷ [] else [])
-node_ops code ops id (Block place statements) = flat_map ops statements
-node_ops code ops id (If place condition then_part else_part) = ops condition ++ IF id ∷ []
-node_ops code ops id (While place condition body) = ops condition ++ LOOP id ∷ []
-node_ops code ops id (For place first condition step body) = ops first ++ (ops condition ++ LOOP id ∷ [])
-node_ops code ops id (Return place value) = return_ops ops id value
-node_ops code ops id (MethodNode place name flags result_type parameters body) = method_ops code ops result_type body
-node_ops code ops id (SuperCall place arguments) = super_ops ops id arguments (binding code id)
-node_ops code ops id (Constructor place name flags parameters super_call body) =
+node_ops code ops id (Block position statements) = flat_map ops statements
+node_ops code ops id (If position condition then_part else_part) = ops condition ++ IF id ∷ []
+node_ops code ops id (While position condition body) = ops condition ++ LOOP id ∷ []
+node_ops code ops id (For position first condition step body) = ops first ++ (ops condition ++ LOOP id ∷ [])
+node_ops code ops id (Return position value) = return_ops ops id value
+node_ops code ops id (MethodNode position name flags result_type parameters body) = method_ops code ops result_type body
+node_ops code ops id (SuperCall position arguments) = super_ops ops id arguments (binding code id)
+node_ops code ops id (Constructor position name flags parameters super_call body) =
     constructor_ops code ops id super_call (ops body)
-node_ops code ops id (Class place name flags header members) = constructor_ops code ops id None []
+node_ops code ops id (Class position name flags header members) = constructor_ops code ops id None []
 node_ops code ops id _ = []
 
 unfoldable pub next_ops : Code → ℕ → (ℕ → List Op) → List Op
@@ -193,12 +193,12 @@ body_ops code Empty = LEAVE ∷ []
 -- ---- what AND, OR, IF and LOOP put in front of the operations that are left
 
 unfoldable pub right_operand : Node → Option ℕ
-right_operand (Binary place operator left right) = Some right
+right_operand (Binary position operator left right) = Some right
 right_operand _ = None
 
 -- the two parts of an `if`, the second where it is written
 unfoldable pub if_parts : Node → Option (ℕ × Option ℕ)
-if_parts (If place condition then_part else_part) = Some (then_part, else_part)
+if_parts (If position condition then_part else_part) = Some (then_part, else_part)
 if_parts _ = None
 
 unfoldable pub optional_ops : Code → Option ℕ → List Op
@@ -207,8 +207,8 @@ optional_ops code (Some id) = ops_of code id
 
 -- one more turn of a loop, up to its next LOOP (JLS 14.12.1, 14.14.1.2)
 unfoldable pub turn_ops : Code → ℕ → Node → Option (List Op)
-turn_ops code id (While place condition body) = Some (ops_of code body ++ (ops_of code condition ++ LOOP id ∷ []))
-turn_ops code id (For place first condition step body) =
+turn_ops code id (While position condition body) = Some (ops_of code body ++ (ops_of code condition ++ LOOP id ∷ []))
+turn_ops code id (For position first condition step body) =
     Some (ops_of code body ++ (ops_of code step ++ (ops_of code condition ++ LOOP id ∷ [])))
 turn_ops code id _ = None
 

@@ -65,26 +65,26 @@ no_activity = record { frames = []; areas = []; priority = 0 }
 -- START: the first operation of a release. It opens the release's private memory inside the mission's, and calls
 -- `handleAsyncEvent`; it stands where the handler's class is named
 unfoldable pub started_with : Code → State → ℕ → HandlerRow → ℕ → Body → Step
-started_with code s place row scope body =
+started_with code s index row scope body =
     let at : Pos = class_place code.program row.class in
-    opening s (ReleaseAt place) no_activity at scope (innermost s.activity.areas) row.bytes (λ t area.
-    silently (with_activity t (ReleaseAt place) (record {
+    opening s (ReleaseAt index) no_activity at scope (innermost s.activity.areas) row.bytes (λ t area.
+    silently (with_activity t (ReleaseAt index) (record {
       frames = record (new_frame code body None (Some row.at) area []) { opened = Some area } ∷ [];
       areas = area ∷ s.activity.areas;
       priority = row.priority;
     })))
 
 unfoldable pub start_op : Code → State → ℕ → Release → Option Step
-start_op code s place r =
+start_op code s index r =
     handler_row s.registry r.handler >>= (λ row. defined_by_chain code.program row.class >>= (λ scope.
     body_named code.program row.class (codes "handleAsyncEvent") >>= (λ body.
-    Some (started_with code s place row scope body))))
+    Some (started_with code s index row scope body))))
 
 unfoldable pub release_op_of : Code → List ReadingRow → State → ℕ → Release → Option Step
-release_op_of code rows s place r =
+release_op_of code rows s index r =
     elim r.status [
-      | Waits ↦ start_op code s place r
-      | Started activity ↦ frame_op code rows s (ReleaseAt place) activity
+      | Waits ↦ start_op code s index r
+      | Started activity ↦ frame_op code rows s (ReleaseAt index) activity
       | Ended ↦ None
       | Dropped ↦ None
     ]
@@ -100,7 +100,7 @@ sequencer_turn code rows s =
 -- RefOp: one operation of a job; none where the job is stuck
 unfoldable pub ref_op : Code → List ReadingRow → State → Job → Option Step
 ref_op code rows s TheSequencer = sequencer_turn code rows s
-ref_op code rows s (ReleaseAt place) = slice_get s.releases place >>= release_op_of code rows s place
+ref_op code rows s (ReleaseAt index) = slice_get s.releases index >>= release_op_of code rows s index
 
 -- as a relation: the operation of the job leads to this state, and the trace tells these events
 abbrev pub RefOp : Code → List ReadingRow → State → Job → State → List Event → Type 0
@@ -110,13 +110,13 @@ RefOp code rows s job after events = ref_op code rows s job ≡ Some (telling af
 
 unfoldable pub is_same_turn : Turn → Turn → Bool
 is_same_turn IdleTurn IdleTurn = true
-is_same_turn (TurnOf n) (TurnOf place) = n == place
+is_same_turn (TurnOf n) (TurnOf index) = n == index
 is_same_turn _ _ = false
 
 unfoldable pub tell_turn : State → Turn → List Event
 tell_turn s IdleTurn = IdleEvent s.unit ∷ []
-tell_turn s (TurnOf place) =
-    elim (slice_get s.releases place) [ None ↦ [] | Some r ↦ RunEvent s.unit r.handler r.number ∷ [] ]
+tell_turn s (TurnOf index) =
+    elim (slice_get s.releases index) [ None ↦ [] | Some r ↦ RunEvent s.unit r.handler r.number ∷ [] ]
 
 -- the state in which this turn was the last one
 abbrev pub with_turn : State → Turn → State
@@ -131,7 +131,7 @@ turn_taken s turn =
 -- the chosen release acts, if one is chosen
 unfoldable pub turn_acts : Code → List ReadingRow → Turn → State → Option Step
 turn_acts code rows IdleTurn s = Some (silently s)
-turn_acts code rows (TurnOf place) s = ref_op code rows s (ReleaseAt place)
+turn_acts code rows (TurnOf index) s = ref_op code rows s (ReleaseAt index)
 
 -- the choice and the operation: in execution a release acts or the unit is idle, else the sequencer acts
 unfoldable pub acts : Code → List ReadingRow → Policy → State → Option Step

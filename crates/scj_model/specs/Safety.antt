@@ -87,7 +87,7 @@ static_may_hold s _ = true
 
 unfoldable pub effect_passes : State → Effect → Bool
 effect_passes s (Stores f r slot value) = holds (object_at s r) (λ o. may_hold s o.area value)
-effect_passes s (StoresStatic f place value) = static_may_hold s value
+effect_passes s (StoresStatic f index value) = static_may_hold s value
 effect_passes s _ = true
 
 -- what the next operation of a job stores may be stored; what has no frame yet stores nothing
@@ -131,7 +131,7 @@ started_count s = length (started_activities s)
 -- the job may act in this state: outside execution the sequencer, in execution each waiting or started release
 unfoldable pub job_may_act : State → Job → Bool
 job_may_act s TheSequencer = not (is_exec s.phase) && not (is_over s.phase)
-job_may_act s (ReleaseAt place) = is_exec s.phase && may_act s place
+job_may_act s (ReleaseAt index) = is_exec s.phase && may_act s index
 
 -- whatever the plan is, and whichever release is named in each unit: no reference that can be used is left without its
 -- object; a job that may act isn't stuck, and stores nothing that may not be stored; and the sequencer goes on

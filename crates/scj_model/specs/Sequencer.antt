@@ -41,14 +41,14 @@ done s value = record s { outcome = Some value }
 
 -- an area is opened inside the innermost one of the sequencer's; the sequencer has it from now on
 unfoldable pub area_opened : State → Pos → ℕ → ℕ → Step
-area_opened s place scope bytes =
-    opening s TheSequencer s.activity place scope (innermost s.activity.areas) bytes (λ t area.
+area_opened s position scope bytes =
+    opening s TheSequencer s.activity position scope (innermost s.activity.areas) bytes (λ t area.
     silently (done (record t { activity = record s.activity { areas = area ∷ s.activity.areas } }) Null))
 
 -- the safelet is made in immortal memory; its reference is the value
 unfoldable pub safelet_made : Code → State → Pos → ℕ → ℕ → Step
-safelet_made code s place class area =
-    allocating s TheSequencer s.activity place class area (new_slots code.program class) (λ t r.
+safelet_made code s position class area =
+    allocating s TheSequencer s.activity position class area (new_slots code.program class) (λ t r.
     silently (done t (At r)))
 
 -- the sequencer calls a body on an object, in the innermost of its areas. What the framework calls is never

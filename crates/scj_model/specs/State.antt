@@ -67,12 +67,12 @@ pub record Release : Type 0 where
 -- a job: the sequencer, or the release at this place
 pub data Job : Type 0 where
   TheSequencer : Job
-  ReleaseAt : (place : ℕ) → Job
+  ReleaseAt : (index : ℕ) → Job
 
 -- who acts in a unit of execution: the release at this place, or nobody
 pub data Turn : Type 0 where
   IdleTurn : Turn
-  TurnOf : (place : ℕ) → Turn
+  TurnOf : (index : ℕ) → Turn
 
 -- ---- the state
 
@@ -105,7 +105,7 @@ pub record State : Type 0 where
 
 -- the list with another element at this place
 abbrev pub changed : {A : Type 0} → (A → A) → ℕ → List A → List A
-changed f place list = elim (slice_get list place) [ None ↦ list | Some x ↦ slice_set list place (f x) ]
+changed f index list = elim (slice_get list index) [ None ↦ list | Some x ↦ slice_set list index (f x) ]
 
 -- ---- jobs of a state
 
@@ -116,7 +116,7 @@ activity_in _ = None
 -- the frames, areas and priority of a job that is under way
 unfoldable pub activity_of : State → Job → Option Activity
 activity_of s TheSequencer = Some s.activity
-activity_of s (ReleaseAt place) = slice_get s.releases place >>= (λ r. activity_in r.status)
+activity_of s (ReleaseAt index) = slice_get s.releases index >>= (λ r. activity_in r.status)
 
 unfoldable pub is_waiting : ReleaseStatus → Bool
 is_waiting Waits = true
@@ -127,13 +127,13 @@ is_started (Started activity) = true
 is_started _ = false
 
 abbrev pub with_status : State → ℕ → ReleaseStatus → State
-with_status s place status =
-    record s { releases = changed (λ r. record r { status = status }) place s.releases }
+with_status s index status =
+    record s { releases = changed (λ r. record r { status = status }) index s.releases }
 
 -- the state in which a job has these frames, areas and priority
 unfoldable pub with_activity : State → Job → Activity → State
 with_activity s TheSequencer activity = record s { activity = activity }
-with_activity s (ReleaseAt place) activity = with_status s place (Started activity)
+with_activity s (ReleaseAt index) activity = with_status s index (Started activity)
 
 -- ---- objects and areas of a state
 

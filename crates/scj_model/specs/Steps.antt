@@ -43,7 +43,7 @@ for_each step (x ∷ xs) s = then_do (step s x) (for_each step xs)
 -- what the trace tells of a job that is a release
 abbrev pub of_release : State → Job → (Release → List Event) → List Event
 of_release s TheSequencer tell = []
-of_release s (ReleaseAt place) tell = elim (slice_get s.releases place) [ None ↦ [] | Some r ↦ tell r ]
+of_release s (ReleaseAt index) tell = elim (slice_get s.releases index) [ None ↦ [] | Some r ↦ tell r ]
 
 -- the areas that frames opened are closed
 unfoldable pub closed_all : State → List Frame → State
@@ -55,30 +55,30 @@ closed_all s (f ∷ fs) = closed_all (closed s f.opened) fs
 unfoldable pub job_ended : State → Job → Activity → Option Value → Step
 job_ended s TheSequencer activity value =
     silently (record s { activity = activity; outcome = Some (unwrap_or value Null) })
-job_ended s (ReleaseAt place) activity value =
-    telling (with_status s place Ended)
-    (of_release s (ReleaseAt place) (λ r. End s.unit r.handler r.number ∷ []))
+job_ended s (ReleaseAt index) activity value =
+    telling (with_status s index Ended)
+    (of_release s (ReleaseAt index) (λ r. End s.unit r.handler r.number ∷ []))
 
 -- a fault: it ends a release, whose frames are dropped and whose areas are closed, and it halts the run of the
 -- sequencer
 unfoldable pub fault_in : State → Job → Activity → Pos → RunFault → Step
-fault_in s TheSequencer activity place fault =
+fault_in s TheSequencer activity position fault =
     telling (record s { phase = Over; operation = Finished; outcome = None })
-    (Fault s.unit fault place ∷ Halted s.unit ∷ [])
-fault_in s (ReleaseAt n) activity place fault =
+    (Fault s.unit fault position ∷ Halted s.unit ∷ [])
+fault_in s (ReleaseAt n) activity position fault =
     telling (with_status (closed_all s activity.frames) n Ended)
-    (Fault s.unit fault place ∷ of_release s (ReleaseAt n) (λ r. End s.unit r.handler r.number ∷ []))
+    (Fault s.unit fault position ∷ of_release s (ReleaseAt n) (λ r. End s.unit r.handler r.number ∷ []))
 
 -- ---- memory
 
 -- an area is opened inside another one, if the store has room for it, and `next` goes on with its number
 unfoldable pub opening : State → Job → Activity → Pos → ℕ → Option ℕ → ℕ → (State → ℕ → Step) → Step
-opening s job activity place scope parent bytes next =
+opening s job activity position scope parent bytes next =
     if has_store_for s bytes then next (with_area s scope parent bytes) (length s.areas)
-    else fault_in s job activity place StoreFull
+    else fault_in s job activity position StoreFull
 
 -- an object is made in an area, if that has room for it, and `next` goes on with its reference
 unfoldable pub allocating : State → Job → Activity → Pos → ℕ → ℕ → List Value → (State → ℕ → Step) → Step
-allocating s job activity place class area slots next =
+allocating s job activity position class area slots next =
     if has_room s area (length slots) then next (with_object s class area slots) (length s.objects)
-    else fault_in s job activity place MemoryFull
+    else fault_in s job activity position MemoryFull

@@ -10,7 +10,7 @@ use Rattle.scj_model.specs.declared.events.Event.TheVariants.{Mission, Register,
 
 -- the bytes between the quotes of a text
 unfoldable pub bytes_of_text : Node → Option (List ℕ)
-bytes_of_text (Text place bytes) = Some bytes
+bytes_of_text (Text position bytes) = Some bytes
 bytes_of_text _ = None
 
 abbrev pub label : List Node → ℕ → List ℕ
@@ -38,8 +38,8 @@ words_of nodes files (Idle unit) = codes " idle"
 words_of nodes files (Prio unit handler priority) = codes " prio" ++ number handler ++ number priority
 words_of nodes files (Print unit text value) =
     codes " print " ++ label nodes text ++ codes " " ++ signed_decimal value
-words_of nodes files (Fault unit fault place) =
-    codes " fault " ++ text_of fault ++ codes " " ++ file_name files place.file ++ codes ":" ++ decimal place.line
+words_of nodes files (Fault unit fault position) =
+    codes " fault " ++ text_of fault ++ codes " " ++ file_name files position.file ++ codes ":" ++ decimal position.line
 words_of nodes files (End unit handler n) = codes " end" ++ number handler ++ number n
 words_of nodes files (Terminate unit) = codes " terminate"
 words_of nodes files (Drop unit handler n) = codes " drop" ++ number handler ++ number n
@@ -59,7 +59,7 @@ unit_of (Run unit handler n) = unit
 unit_of (Idle unit) = unit
 unit_of (Prio unit handler priority) = unit
 unit_of (Print unit text value) = unit
-unit_of (Fault unit fault place) = unit
+unit_of (Fault unit fault position) = unit
 unit_of (End unit handler n) = unit
 unit_of (Terminate unit) = unit
 unit_of (Drop unit handler n) = unit

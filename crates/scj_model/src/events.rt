@@ -63,7 +63,7 @@ pub enum Event {
     Fault {
         unit: u64,
         fault: RunFault,
-        place: Pos,
+        position: Pos,
     },
     /// A release ends.
     End {

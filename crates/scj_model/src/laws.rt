@@ -69,7 +69,7 @@ pub fn priorities_follow_a_list()
 /// Whichever job may act after the arrivals of a unit: what its operation leads to is reached by some list. For a release
 /// that is the state in which it was chosen last.
 pub fn each_job_can_be_named()
-    ensures release { (code : Code) (plan : Plan) (choices : List ℕ) (s : State) (place : ℕ) (step : Step) → Reached code plan (by_list choices) Arrived s → IsTrue (job_may_act s (ReleaseAt place)) → ref_op code plan.readings s (ReleaseAt place) ≡ Some step → (others : List ℕ) × Reached code plan (by_list others) Operated (with_turn step.state (TurnOf place)) }
+    ensures release { (code : Code) (plan : Plan) (choices : List ℕ) (s : State) (index : ℕ) (step : Step) → Reached code plan (by_list choices) Arrived s → IsTrue (job_may_act s (ReleaseAt index)) → ref_op code plan.readings s (ReleaseAt index) ≡ Some step → (others : List ℕ) × Reached code plan (by_list others) Operated (with_turn step.state (TurnOf index)) }
     ensures sequencer { (code : Code) (plan : Plan) (choices : List ℕ) (s : State) (step : Step) → Reached code plan (by_list choices) Arrived s → IsTrue (job_may_act s TheSequencer) → ref_op code plan.readings s TheSequencer ≡ Some step → Reached code plan (by_list choices) Operated step.state }
 {}
 

@@ -103,11 +103,11 @@ same-super nodes first at rows (Some x) h w = ap (λ (n : ℕ). 1 + n) (same-one
 same-body : (nodes : List Node) (first at : ℕ) (rows : List ℕ) (node : Node) → Holds nodes first at rows →
     AllWithin first at (children node) → body_height_by (row first rows) node ≡ body_height nodes node
 unfolding body_height_by body_height children AllWithin
-same-body nodes first at rows (Method place name flags result_type parameters (Some body)) h w =
+same-body nodes first at rows (Method position name flags result_type parameters (Some body)) h w =
     let a = within-behind first at (optional flags) _ w in
     same-one nodes first at body rows h (within-behind first at (result_type ∷ optional parameters) (body ∷ []) a)
-same-body nodes first at rows (Method place name flags result_type parameters None) h w = refl
-same-body nodes first at rows (Constructor place name flags parameters super_call body) h w =
+same-body nodes first at rows (Method position name flags result_type parameters None) h w = refl
+same-body nodes first at rows (Constructor position name flags parameters super_call body) h w =
     let a = within-behind first at (optional flags) _ w in
     let b = within-behind first at (optional parameters) _ a in
     let c = within-behind first at (optional super_call) (body ∷ []) b in

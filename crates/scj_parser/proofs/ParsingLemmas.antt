@@ -60,7 +60,7 @@ lexed_fit file before rest tokens (takes file1 before1 w rest1 kind tokens1 d l)
 pub lexed_ends : (bytes : List ℕ) (file : ℕ) (before rest : List ℕ) (tokens : List Token) →
     Lexes file before rest tokens → EndsThere (lexemes_of bytes tokens)
 unfolding lexemes_of lexeme_of
-lexed_ends bytes file before rest tokens (ends file1 before1) = record { front = []; place = _; is = refl }
+lexed_ends bytes file before rest tokens (ends file1 before1) = record { front = []; position = _; is = refl }
 lexed_ends bytes file before rest tokens (skips file1 before1 w rest1 tokens1 d l) =
     lexed_ends bytes file (before ++ w) rest1 tokens l
 lexed_ends bytes file before rest tokens (takes file1 before1 w rest1 kind tokens1 d l) =
@@ -68,7 +68,7 @@ lexed_ends bytes file before rest tokens (takes file1 before1 w rest1 kind token
     record {
       front = lexeme_of bytes (token_at file before kind (length w))
           ∷ later.front;
-      place = later.place;
+      position = later.place;
       is =
           ap (λ i. lexeme_of bytes (token_at file before kind (length w)) ∷ i) later.is;
     }
@@ -102,7 +102,7 @@ never_unfinished N i there h =
     let begins = run_begins N i h.0 reached in
     let given = sym (answer_behind (start N) h.0 i begins.rest reached) ∙ file_run begins.tree in
     let behind : (r : Lexeme) → step h.0 r ≡ None =
-    λ r. nothing_behind (start N) h.0 there.front there.place r (rw there.is at reached) in
+    λ r. nothing_behind (start N) h.0 there.front there.position r (rw there.is at reached) in
     some_none (sym h.2 ∙ rest_is_none h.0 begins.rest behind given)
 
 -- a whole file is a tree

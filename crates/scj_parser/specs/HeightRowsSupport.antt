@@ -24,6 +24,6 @@ super_height_by g None = 0
 super_height_by g (Some id) = 1 + g id
 
 unfoldable pub body_height_by : (ℕ → ℕ) → Node → ℕ
-body_height_by g (Method place name flags result_type parameters (Some body)) = g body
-body_height_by g (Constructor place name flags parameters super_call body) = max (g body) (super_height_by g super_call)
+body_height_by g (Method position name flags result_type parameters (Some body)) = g body
+body_height_by g (Constructor position name flags parameters super_call body) = max (g body) (super_height_by g super_call)
 body_height_by g _ = 0

@@ -6,5 +6,5 @@ use Rattle.scj_tree.specs.Lexemes.{Lexeme, the_end}
 -- the lexemes end with the end of the file
 pub record EndsThere (i : List Lexeme) : Type 0 where
   pub front : List Lexeme
-  pub place : Pos
-  pub is : i ≡ front ++ the_end place ∷ []
+  pub position : Pos
+  pub is : i ≡ front ++ the_end position ∷ []

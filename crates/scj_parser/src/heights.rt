@@ -24,8 +24,8 @@ impl Heights {
     fn of(&self, id: NodeId) -> u32
         ensures { result ≡ row self.now.first self.now.rows.items id }
     {
-        let place = id.place().saturating_sub(self.first);
-        match self.rows.get(place) {
+        let index = id.number().saturating_sub(self.first);
+        match self.rows.get(index) {
             Some(height) => *height,
             None => 0,
         }
@@ -154,7 +154,7 @@ pub fn too_deep(alloc: Global, nodes: &[Node], first: usize) -> Result<Option<Po
     requires behind { first ≤ length nodes.now }
     requires few { length nodes.now < 2 ^ 32 }
     requires children { ChildrenWithin first first (drop first nodes.now) }
-    ensures { IfOk result (λ place. place ≡ place_too_deep first nodes.now) }
+    ensures { IfOk result (λ position. position ≡ place_too_deep first nodes.now) }
 {
     let mut heights = Heights {
         first,
@@ -163,7 +163,7 @@ pub fn too_deep(alloc: Global, nodes: &[Node], first: usize) -> Result<Option<Po
     for next in first..nodes.len() {
         let node = &nodes[next];
         if body_height(&heights, node) > HIGHEST {
-            return Ok(Some(node.place()));
+            return Ok(Some(node.position()));
         }
         let height = weight(node) + highest_child(&heights, node);
         heights.rows.push(height)?;

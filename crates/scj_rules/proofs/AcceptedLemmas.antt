@@ -7,8 +7,8 @@ use Rattle.scj_rules.specs.Phases.{IsFound, NothingBreaks, IsAccepted, class_pha
 use Rattle.scj_rules.proofs.ReportLemmas.{none_contained}
 
 pub nothing_in : (found : List Found) → found ≡ [] → NothingBreaks (IsFound found)
-nothing_in found e rule place h =
-    none_contained (record { pos = place; rule = rule }) (subst (λ fs. IsFound fs rule place) e h)
+nothing_in found e rule position h =
+    none_contained (record { pos = position; rule = rule }) (subst (λ fs. IsFound fs rule position) e h)
 
 pub accepted : (forest : Forest) → class_phase (declarations_of forest) ≡ [] → type_phase (declarations_of forest) ≡ []
     → scope_phase (declarations_of forest) ≡ [] → use_phase (declarations_of forest) ≡ [] → IsAccepted forest

@@ -210,9 +210,9 @@ module _ (forest : Forest) (whole : IsForest forest) where
   parameters-linked : (last : Option ℕ) (q : ℕ) (node : Node) → slice_get nodes q ≡ Some node → link q ≡ last
       → Linked nodes link last (elim (parameter_nodes node) [ None ↦ [] | Some list ↦ list ])
   unfolding Linked parameter_nodes children declared_before
-  parameters-linked last q (Parameters place list) e f =
-      linked-back nodes link last list (children_apart forest whole q (Parameters place list) e)
-      (λ v a. child-links q v (Parameters place list) e a
+  parameters-linked last q (Parameters position list) e f =
+      linked-back nodes link last list (children_apart forest whole q (Parameters position list) e)
+      (λ v a. child-links q v (Parameters position list) e a
       ∙ ap (λ (o : Option ℕ). last_variable nodes o (those_before v list)) f)
   parameters-linked last q _ e f = tt
 
@@ -255,29 +255,29 @@ module _ (forest : Forest) (whole : IsForest forest) where
   declared-linked : (k x : ℕ) (node : Node) → slice_get nodes k ≡ Some node →
       Linked nodes link (link k) (declared_before nodes node x)
   unfolding Linked declared_before children
-  declared-linked k x (Block place statements) e =
+  declared-linked k x (Block position statements) e =
       linked-before nodes link (link k) x statements
-      (linked-back nodes link (link k) statements (children_apart forest whole k (Block place statements) e)
-      (λ v a. child-links k v (Block place statements) e a))
-  declared-linked k x (For place first condition step body) e =
+      (linked-back nodes link (link k) statements (children_apart forest whole k (Block position statements) e)
+      (λ v a. child-links k v (Block position statements) e a))
+  declared-linked k x (For position first condition step body) e =
       linked-before nodes link (link k) x (first ∷ condition ∷ step ∷ body ∷ [])
       (linked-back nodes link (link k) (first ∷ condition ∷ step ∷ body ∷ [])
-      (children_apart forest whole k (For place first condition step body) e)
-      (λ v a. child-links k v (For place first condition step body) e a))
-  declared-linked k x (Parameters place list) e =
+      (children_apart forest whole k (For position first condition step body) e)
+      (λ v a. child-links k v (For position first condition step body) e a))
+  declared-linked k x (Parameters position list) e =
       linked-before nodes link (link k) x list
-      (linked-back nodes link (link k) list (children_apart forest whole k (Parameters place list) e)
-      (λ v a. child-links k v (Parameters place list) e a))
-  declared-linked k x (Method place name flags result_type parameters body) e =
+      (linked-back nodes link (link k) list (children_apart forest whole k (Parameters position list) e)
+      (λ v a. child-links k v (Parameters position list) e a))
+  declared-linked k x (Method position name flags result_type parameters body) e =
       before-linked (link k) parameters x
-      (method-list k (Method place name flags result_type parameters body) parameters e
+      (method-list k (Method position name flags result_type parameters body) parameters e
       (λ q f. among-behind q (optional flags) _
       (or_right (q == result_type) _
       (among-front q (optional parameters) (optional body) (optional-there parameters q f))))
       (λ q f. ap (λ (o : Option ℕ). parameters_before nodes o q) f))
-  declared-linked k x (Constructor place name flags parameters super_call body) e =
+  declared-linked k x (Constructor position name flags parameters super_call body) e =
       before-linked (link k) parameters x
-      (method-list k (Constructor place name flags parameters super_call body) parameters e
+      (method-list k (Constructor position name flags parameters super_call body) parameters e
       (λ q f. among-behind q (optional flags) _
       (among-front q (optional parameters) (optional super_call ++ (body ∷ [])) (optional-there parameters q f)))
       (λ q f. ap (λ (o : Option ℕ). parameters_before nodes o q) f))

@@ -14,7 +14,7 @@ abbrev at : ℕ → ℕ → ℕ → Pos
 at file line col = record { file = file; line = line; col = col }
 
 abbrev found : Rule → Pos → Found
-found rule place = record { pos = place; rule = rule }
+found rule position = record { pos = position; rule = rule }
 
 -- the store of one subject of a guard in a field of the other, in either order
 abbrev pub guarded : Forest

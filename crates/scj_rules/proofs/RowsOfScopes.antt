@@ -16,7 +16,7 @@ abbrev at : ℕ → ℕ → ℕ → Pos
 at file line col = record { file = file; line = line; col = col }
 
 abbrev found : Rule → Pos → Found
-found rule place = record { pos = place; rule = rule }
+found rule position = record { pos = position; rule = rule }
 
 abbrev pub own_field : Forest
 own_field =

@@ -12,7 +12,7 @@ use Rattle.scj_rules.proofs.ReportLemmas.{none_contained}
 pub nothing_found : (breaks : Rule → Pos → Type 0) (found : List Found) → length found ≡ 0 → IsReport breaks found →
     NothingBreaks breaks
 nothing_found breaks [] e r =
-    λ rule place broken. none_contained _ ((r.exact (record { pos = place; rule = rule })).1 broken)
+    λ rule position broken. none_contained _ ((r.exact (record { pos = position; rule = rule })).1 broken)
 nothing_found breaks (first ∷ more) e r = absurd (omega (arith, e))
 
 pub told_of_classes : (forest : Forest) (found : List Found) → 0 < length found →

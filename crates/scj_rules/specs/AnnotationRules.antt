@@ -29,25 +29,25 @@ scoped_variable_at p id =
     (variable_at p.nodes id))
 
 unfoldable pub scoped_declaration_at : Declarations → ℕ → Node → Option ScopedDeclaration
-scoped_declaration_at p id (Field place name flags declared_type equals value) =
+scoped_declaration_at p id (Field position name flags declared_type equals value) =
     in_class p id (λ class. option_map (λ (f : Declared). scoped_field p class f) (field_at p.nodes id))
-scoped_declaration_at p id (Method place name flags result_type parameters body) =
+scoped_declaration_at p id (Method position name flags result_type parameters body) =
     in_class p id (λ class. option_map (λ (m : DeclaredMethod). scoped_result p class m) (method_at p.nodes id))
-scoped_declaration_at p id (Parameter place name flags declared_type) = scoped_variable_at p id
-scoped_declaration_at p id (Local place name flags declared_type) = scoped_variable_at p id
-scoped_declaration_at p id (LocalWithValue place name_place name flags declared_type value) = scoped_variable_at p id
+scoped_declaration_at p id (Parameter position name flags declared_type) = scoped_variable_at p id
+scoped_declaration_at p id (Local position name flags declared_type) = scoped_variable_at p id
+scoped_declaration_at p id (LocalWithValue position name_place name flags declared_type value) = scoped_variable_at p id
 scoped_declaration_at p id _ = None
 
 -- the rule is broken at the value of an annotation, where there is one of which the test holds
 abbrev pub broken_value : Option Written → (Written → Bool) → Rule → List Found
-broken_value written test rule = found_at written (λ w. broken (test w) rule w.place)
+broken_value written test rule = found_at written (λ w. broken (test w) rule w.position)
 
 -- A1, unknown scope
 abbrev pub a1_of_class : Declarations → ℕ → List Found
 a1_of_class p class = broken_value (scope_written_in p class) (λ w. has_unknown_scope p (Some w)) A1
 
 unfoldable pub a1 : Declarations → ℕ → Node → List Found
-a1 p id (Class place name flags header members) = found_at (class_number p.names name) (a1_of_class p)
+a1 p id (Class position name flags header members) = found_at (class_number p.names name) (a1_of_class p)
 a1 p id node = found_at (scoped_declaration_at p id node) (λ t. broken_value t.scope (is_unknown_scope p t) A1)
 
 -- the scope of a class's superclass
@@ -61,13 +61,13 @@ has_other_scope p class =
     differs_from_above p (scope_written_in p class) (scope_above p class) (is_implied_immortal p class)
 
 unfoldable pub a2_place : Pos → Option Written → Pos
-a2_place place None = place
-a2_place place (Some w) = w.place
+a2_place position None = position
+a2_place position (Some w) = w.position
 
 unfoldable pub a2 : Declarations → ℕ → Node → List Found
-a2 p id (Class place name flags header members) =
+a2 p id (Class position name flags header members) =
     found_at (class_number p.names name)
-    (λ class. broken (has_other_scope p class) A2 (a2_place place (scope_written_in p class)))
+    (λ class. broken (has_other_scope p class) A2 (a2_place position (scope_written_in p class)))
 a2 p id _ = []
 
 -- A3, field scope: in an annotated class neither the class's scope nor an outer one. A4, field of unannotated class:
@@ -79,10 +79,10 @@ field_rule _ false = A3
 
 abbrev pub a3_to_a5_of : Declarations → ℕ → Declared → List Found
 a3_to_a5_of p class f =
-    broken (misfits_field p class f) (field_rule (class_scope p class) f.modifiers.is_static) f.place
+    broken (misfits_field p class f) (field_rule (class_scope p class) f.modifiers.is_static) f.position
 
 unfoldable pub a3_to_a5 : Declarations → ℕ → Node → List Found
-a3_to_a5 p id (Field place name flags declared_type equals value) =
+a3_to_a5 p id (Field position name flags declared_type equals value) =
     found_at (context p id).class (λ class. found_at (field_at p.nodes id) (a3_to_a5_of p class))
 a3_to_a5 p id _ = []
 
@@ -126,7 +126,7 @@ overrides_scopes p class m =
     && holds (method_above p.classes class m.declared.name) (misfits_above p class m)
 
 unfoldable pub a6_of : Declarations → ℕ → DeclaredMethod → List Found
-a6_of p class m = broken (overrides_scopes p class m) A6 m.declared.place
+a6_of p class m = broken (overrides_scopes p class m) A6 m.declared.position
 
 -- A7, unknown runs-in; A8, framework runs-in
 unfoldable pub a7_and_a8_of : Declarations → ℕ → DeclaredMethod → List Found
@@ -135,7 +135,7 @@ a7_and_a8_of p class m =
     ++ broken_value m.declared.modifiers.runs_in (has_other_runs_in p class m) A8
 
 unfoldable pub a6_to_a8 : Declarations → ℕ → Node → List Found
-a6_to_a8 p id (Method place name flags result_type parameters body) =
+a6_to_a8 p id (Method position name flags result_type parameters body) =
     found_at (context p id).class
     (λ class. found_at (method_at p.nodes id) (λ m. a6_of p class m ++ a7_and_a8_of p class m))
 a6_to_a8 p id _ = []

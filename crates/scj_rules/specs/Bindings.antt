@@ -96,27 +96,27 @@ method_binding p types r arguments f =
     ]
 
 unfoldable pub binding_of : Declarations → Types → ℕ → Node → Binding
-binding_of p types id (Parameter place name flags declared_type) = variable_binding p id id
-binding_of p types id (Local place name flags declared_type) = variable_binding p id id
-binding_of p types id (LocalWithValue place name_place name flags declared_type value) = variable_binding p id id
-binding_of p types id (Field place name flags declared_type equals value) =
+binding_of p types id (Parameter position name flags declared_type) = variable_binding p id id
+binding_of p types id (Local position name flags declared_type) = variable_binding p id id
+binding_of p types id (LocalWithValue position name_place name flags declared_type value) = variable_binding p id id
+binding_of p types id (Field position name flags declared_type equals value) =
     plain_or (λ (row : FoundField). field_binding p row.field)
     ((context p id).class >>= λ class. accessed_field p (the_class class) name)
-binding_of p types id (Class place name flags header members) =
+binding_of p types id (Class position name flags header members) =
     class_binding (class_number p.names name >>= superclass_in p.classes)
-binding_of p types id (Constructor place name flags parameters super_call body) = class_binding (superclass_at p id)
-binding_of p types id (SuperCall place arguments) = class_binding (superclass_at p id)
-binding_of p types id (SimpleName place name) = meaning_binding p id (meaning p id name)
-binding_of p types id (FieldAccess place name object) =
+binding_of p types id (Constructor position name flags parameters super_call body) = class_binding (superclass_at p id)
+binding_of p types id (SuperCall position arguments) = class_binding (superclass_at p id)
+binding_of p types id (SimpleName position name) = meaning_binding p id (meaning p id name)
+binding_of p types id (FieldAccess position name object) =
     plain_or (λ r. access_binding p r name) (receiver p types object)
-binding_of p types id (Call place name object arguments) =
+binding_of p types id (Call position name object arguments) =
     plain_or (λ r. plain_or (method_binding p types r arguments) (called_method p r name))
     (call_receiver p types id object)
-binding_of p types id (New place name_place name arguments) =
+binding_of p types id (New position name_place name arguments) =
     if is_form_part p id then Plain else class_binding (class_number p.names name)
-binding_of p types id (NewArray place element length) =
+binding_of p types id (NewArray position element length) =
     class_binding (written_type p element >>= array_of >>= array_class p)
-binding_of p types id (Cast place name_place name operand) = class_binding (class_number p.names name)
+binding_of p types id (Cast position name_place name operand) = class_binding (class_number p.names name)
 binding_of p types id _ = Plain
 
 unfoldable pub binding_at : Declarations → Types → ℕ → Binding

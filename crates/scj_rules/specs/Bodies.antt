@@ -102,15 +102,15 @@ is_synchronized_body p body =
 
 -- the number that a body returns, where it is `{ return Number; }`
 unfoldable pub number_literal : Node → Option ℕ
-number_literal (Number place value is_negative) = if is_negative then None else Some value
+number_literal (Number position value is_negative) = if is_negative then None else Some value
 number_literal _ = None
 
 unfoldable pub number_returned : List Node → Node → Option ℕ
-number_returned nodes (Return place (Some value)) = read nodes number_literal value
+number_returned nodes (Return position (Some value)) = read nodes number_literal value
 number_returned nodes _ = None
 
 unfoldable pub size_constant : List Node → Node → Option ℕ
-size_constant nodes (Block place (statement ∷ [])) = read nodes (number_returned nodes) statement
+size_constant nodes (Block position (statement ∷ [])) = read nodes (number_returned nodes) statement
 size_constant nodes _ = None
 
 -- the bytes that a class declares by the method of this name
@@ -134,4 +134,4 @@ safelet_class p = find (is_concrete_safelet p) (numbers_from 0 p.classes)
 
 -- where a user class is named
 unfoldable pub class_place : Declarations → ℕ → Pos
-class_place p class = elim (user_class_in p.classes class) [ None ↦ nowhere | Some c ↦ c.place ]
+class_place p class = elim (user_class_in p.classes class) [ None ↦ nowhere | Some c ↦ c.position ]

@@ -23,7 +23,7 @@ use Rattle.scj_rules.specs.declared.views.WrittenType.TheVariants.{Boolean as bo
 
 -- the rule is broken at each of these names
 abbrev pub broken_at : Rule → List Written → List Found
-broken_at rule names = broken_at_each (λ (w : Written). w.place) rule names
+broken_at rule names = broken_at_each (λ (w : Written). w.position) rule names
 
 -- an earlier class has the name, of the user or of the framework
 abbrev pub is_declared_before : Declarations → ℕ → WrittenClass → Bool
@@ -31,7 +31,7 @@ is_declared_before p class c = holds (class_number p.names c.name) (λ first. na
 
 -- C1, class twice (JLS 7.6)
 unfoldable pub c1 : Declarations → ℕ → WrittenClass → List Found
-c1 p class c = broken (is_declared_before p class c) C1 c.place
+c1 p class c = broken (is_declared_before p class c) C1 c.position
 
 -- C2, unknown super: no class has the name after `extends` or `implements` (JLS 8.1.4, 8.1.5)
 unfoldable pub c2 : Declarations → WrittenClass → List Found
@@ -39,7 +39,7 @@ c2 p c = broken_at C2 (unknown_supers p.names c)
 
 -- C3, class cycle (JLS 8.1.4)
 unfoldable pub c3 : Declarations → ℕ → WrittenClass → List Found
-c3 p class c = broken (is_cyclic p.written class) C3 c.place
+c3 p class c = broken (is_cyclic p.written class) C3 c.position
 
 -- a field of a class above has the name
 abbrev pub hides_field : Declarations → ℕ → Declared → Bool
@@ -49,8 +49,8 @@ hides_field p class f =
 -- C4, field twice: an earlier field of the class has the name, or a field above is hidden (JLS 8.3; hiding is left out)
 unfoldable pub c4 : Declarations → ℕ → ClassRow → List Found
 c4 p class row =
-    broken_at_each (λ (f : Declared). f.place) C4 (named_twice (λ (f : Declared). f.name) [] row.fields)
-    ++ flat_map (λ (f : Declared). broken (hides_field p class f) C4 f.place) row.fields
+    broken_at_each (λ (f : Declared). f.position) C4 (named_twice (λ (f : Declared). f.name) [] row.fields)
+    ++ flat_map (λ (f : Declared). broken (hides_field p class f) C4 f.position) row.fields
 
 -- the names of the methods and constructors that a class declares
 abbrev pub callable_names : Declarations → WrittenClass → List Written
@@ -130,7 +130,7 @@ overrides_wrongly p class m =
 -- C6, override types (JLS 8.4.8.1, 8.4.8.3)
 unfoldable pub c6 : Declarations → ℕ → ClassRow → List Found
 c6 p class row =
-    flat_map (λ (m : DeclaredMethod). broken (overrides_wrongly p class m) C6 m.declared.place) row.methods
+    flat_map (λ (m : DeclaredMethod). broken (overrides_wrongly p class m) C6 m.declared.position) row.methods
 
 -- the abstract methods that a class declares
 abbrev pub own_abstract_methods : List ClassRow → ℕ → List DeclaredMethod
@@ -171,8 +171,8 @@ has_wrong_body m = if m.declared.modifiers.is_abstract then is_some m.body else 
 -- C7, abstract left open (JLS 8.1.1.1, 8.4.3.1, 8.4.7)
 unfoldable pub c7 : Declarations → ℕ → WrittenClass → ClassRow → List Found
 c7 p class c row =
-    broken (leaves_open p class c) C7 c.place
-    ++ flat_map (λ (m : DeclaredMethod). broken (has_wrong_body m) C7 m.declared.place) row.methods
+    broken (leaves_open p class c) C7 c.position
+    ++ flat_map (λ (m : DeclaredMethod). broken (has_wrong_body m) C7 m.declared.position) row.methods
 
 -- a concrete class that implements Safelet, by itself or by a class above
 abbrev pub is_safelet : List ClassRow → ℕ → WrittenClass → Bool
@@ -193,7 +193,7 @@ first_place = record { file = 0; line = 1; col = 1 }
 
 unfoldable pub c8_of : List WrittenClass → List Found
 c8_of [] = record { pos = first_place; rule = C8 } ∷ []
-c8_of (first ∷ others) = broken_at_each (λ (c : WrittenClass). c.place) C8 others
+c8_of (first ∷ others) = broken_at_each (λ (c : WrittenClass). c.position) C8 others
 
 -- C8, not exactly one safelet: there is none, or there are others after the first (JSR 302, Safelet)
 unfoldable pub c8 : Declarations → List Found
@@ -217,11 +217,11 @@ names_no_mission p name =
 
 -- C9 at a declared type, and at the element type of a new array
 unfoldable pub c9_type : Declarations → Node → Option (List Found)
-c9_type p (ClassType place name argument is_array) = Some (broken (names_no_type p name) C9 place)
+c9_type p (ClassType position name argument is_array) = Some (broken (names_no_type p name) C9 position)
 c9_type p _ = None
 
 unfoldable pub c9_element : Declarations → Node → Option (List Found)
-c9_element p (ClassType place name argument is_array) = Some (broken (names_no_class p name) C9 place)
+c9_element p (ClassType position name argument is_array) = Some (broken (names_no_class p name) C9 position)
 c9_element p _ = None
 
 -- what a rule finds at the node of a number
@@ -230,15 +230,15 @@ at_node p rule id = found_at (read p.nodes rule id) (λ found. found)
 
 -- C9, unknown type (JLS 6.5.5)
 unfoldable pub c9 : Declarations → Node → List Found
-c9 p (Field place name flags declared_type equals value) = at_node p (c9_type p) declared_type
-c9 p (Method place name flags result_type parameters body) = at_node p (c9_type p) result_type
-c9 p (Parameter place name flags declared_type) = at_node p (c9_type p) declared_type
-c9 p (Local place name flags declared_type) = at_node p (c9_type p) declared_type
-c9 p (LocalWithValue place name_place name flags declared_type value) = at_node p (c9_type p) declared_type
-c9 p (TypeArgument place name) = broken (names_no_mission p name) C9 place
-c9 p (New place name_place name arguments) = broken (names_no_class p name) C9 name_place
-c9 p (Cast place name_place name operand) = broken (names_no_class p name) C9 name_place
-c9 p (NewArray place element length) = at_node p (c9_element p) element
+c9 p (Field position name flags declared_type equals value) = at_node p (c9_type p) declared_type
+c9 p (Method position name flags result_type parameters body) = at_node p (c9_type p) result_type
+c9 p (Parameter position name flags declared_type) = at_node p (c9_type p) declared_type
+c9 p (Local position name flags declared_type) = at_node p (c9_type p) declared_type
+c9 p (LocalWithValue position name_place name flags declared_type value) = at_node p (c9_type p) declared_type
+c9 p (TypeArgument position name) = broken (names_no_mission p name) C9 position
+c9 p (New position name_place name arguments) = broken (names_no_class p name) C9 name_place
+c9 p (Cast position name_place name operand) = broken (names_no_class p name) C9 name_place
+c9 p (NewArray position element length) = at_node p (c9_element p) element
 c9 p _ = []
 
 -- C10, forbidden super (JLS 8.1.4, 8.1.5; that a class is of one kind at most is this checker's own)
@@ -312,19 +312,19 @@ is_misplaced_on_constructor p id name m =
 
 -- C11, misplaced word (JLS 8.1.1, 8.3.1, 8.4.1, 8.4.3, 8.8)
 unfoldable pub c11 : Declarations → ℕ → Node → List Found
-c11 p id (Class place name flags header members) =
-    broken (is_misplaced_on_class (modifiers_at p.nodes flags)) C11 place
-c11 p id (Field place name flags declared_type equals value) =
-    broken (is_misplaced_on_field (modifiers_at p.nodes flags)) C11 place
-c11 p id (Method place name flags result_type parameters body) =
-    broken (is_misplaced_on_method p id name (modifiers_at p.nodes flags)) C11 place
-c11 p id (Constructor place name flags parameters super_call body) =
-    broken (is_misplaced_on_constructor p id name (modifiers_at p.nodes flags)) C11 place
-c11 p id (Parameter place name flags declared_type) =
-    broken (is_misplaced_on_variable (modifiers_at p.nodes flags)) C11 place
-c11 p id (Local place name flags declared_type) =
-    broken (is_misplaced_on_variable (modifiers_at p.nodes flags)) C11 place
-c11 p id (LocalWithValue place name_place name flags declared_type value) =
+c11 p id (Class position name flags header members) =
+    broken (is_misplaced_on_class (modifiers_at p.nodes flags)) C11 position
+c11 p id (Field position name flags declared_type equals value) =
+    broken (is_misplaced_on_field (modifiers_at p.nodes flags)) C11 position
+c11 p id (Method position name flags result_type parameters body) =
+    broken (is_misplaced_on_method p id name (modifiers_at p.nodes flags)) C11 position
+c11 p id (Constructor position name flags parameters super_call body) =
+    broken (is_misplaced_on_constructor p id name (modifiers_at p.nodes flags)) C11 position
+c11 p id (Parameter position name flags declared_type) =
+    broken (is_misplaced_on_variable (modifiers_at p.nodes flags)) C11 position
+c11 p id (Local position name flags declared_type) =
+    broken (is_misplaced_on_variable (modifiers_at p.nodes flags)) C11 position
+c11 p id (LocalWithValue position name_place name flags declared_type value) =
     broken (is_misplaced_on_variable (modifiers_at p.nodes flags)) C11 name_place
 c11 p id _ = []
 

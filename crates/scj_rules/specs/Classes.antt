@@ -78,7 +78,7 @@ abbrev pub of_framework : List ℕ → Bool → Bool → WrittenType → Declare
 of_framework name is_static is_abstract type =
     record {
       node = 0;
-      place = nowhere;
+      position = nowhere;
       name = name;
       modifiers = record no_modifiers { is_static = is_static; is_abstract = is_abstract };
       declared_type = type;

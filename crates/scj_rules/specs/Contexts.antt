@@ -32,7 +32,7 @@ abbrev pub those_before : ℕ → List ℕ → List ℕ
 those_before id ids = take_while (λ other. not (other == id)) ids
 
 unfoldable pub parameter_nodes : Node → Option (List ℕ)
-parameter_nodes (Parameters place list) = Some list
+parameter_nodes (Parameters position list) = Some list
 parameter_nodes _ = None
 
 -- the parameters of a method or constructor, for a child that isn't their list
@@ -47,30 +47,30 @@ parameters_before nodes (Some parameters) child =
 -- declaration in the block or `for` that it stands in directly; that of a parameter is what follows it in its method
 -- (JLS 6.3)
 unfoldable pub declared_before : List Node → Node → ℕ → List ℕ
-declared_before nodes (Block place statements) child = those_before child statements
-declared_before nodes (For place first condition step body) child =
+declared_before nodes (Block position statements) child = those_before child statements
+declared_before nodes (For position first condition step body) child =
     those_before child (first ∷ condition ∷ step ∷ body ∷ [])
-declared_before nodes (Parameters place list) child = those_before child list
-declared_before nodes (Method place name flags result_type parameters body) child =
+declared_before nodes (Parameters position list) child = those_before child list
+declared_before nodes (Method position name flags result_type parameters body) child =
     parameters_before nodes parameters child
-declared_before nodes (Constructor place name flags parameters super_call body) child =
+declared_before nodes (Constructor position name flags parameters super_call body) child =
     parameters_before nodes parameters child
 declared_before nodes _ child = []
 
 unfoldable pub is_member : Node → Bool
-is_member (Field place name flags declared_type equals value) = true
-is_member (Method place name flags result_type parameters body) = true
-is_member (Constructor place name flags parameters super_call body) = true
+is_member (Field position name flags declared_type equals value) = true
+is_member (Method position name flags result_type parameters body) = true
+is_member (Constructor position name flags parameters super_call body) = true
 is_member _ = false
 
 unfoldable pub is_super_call : Node → Bool
-is_super_call (SuperCall place arguments) = true
+is_super_call (SuperCall position arguments) = true
 is_super_call _ = false
 
 -- the object of an access or a call, which stands directly before its dot
 unfoldable pub object_of : Node → Option ℕ
-object_of (FieldAccess place name object) = Some object
-object_of (Call place name object arguments) = object
+object_of (FieldAccess position name object) = Some object
+object_of (Call position name object arguments) = object
 object_of _ = None
 
 -- the context of a child, from the context of its parent
@@ -179,9 +179,9 @@ variable_named p id name =
 
 -- the annotations and modifiers of a member
 unfoldable pub member_flags : Node → Option (Option ℕ)
-member_flags (Field place name flags declared_type equals value) = Some flags
-member_flags (Method place name flags result_type parameters body) = Some flags
-member_flags (Constructor place name flags parameters super_call body) = Some flags
+member_flags (Field position name flags declared_type equals value) = Some flags
+member_flags (Method position name flags result_type parameters body) = Some flags
+member_flags (Constructor position name flags parameters super_call body) = Some flags
 member_flags _ = None
 
 abbrev pub is_static_member : List Node → ℕ → Bool

@@ -10,23 +10,23 @@ use Rattle.scj_rules.specs.Words.{◌>>=◌}
 
 -- the annotations and modifiers of a class
 unfoldable pub flags_of : Node → Option ℕ
-flags_of (Class place name flags header members) = flags
+flags_of (Class position name flags header members) = flags
 flags_of _ = None
 
 -- `@DefineScope` among annotations and modifiers
 unfoldable pub define_scope_of : Node → Option ℕ
-define_scope_of (Flags place define_scope scope runs_in is_static is_abstract is_synchronized) = define_scope
+define_scope_of (Flags position define_scope scope runs_in is_static is_abstract is_synchronized) = define_scope
 define_scope_of _ = None
 
 -- the two values of `@DefineScope`, the scope's name first and the parent's second
 unfoldable pub values_of : Node → Option (ℕ × ℕ)
-values_of (DefineScope place first second parent_first) =
+values_of (DefineScope position first second parent_first) =
     Some (if parent_first then (second, first) else (first, second))
 values_of _ = None
 
 -- the name of a scope, and where it is written
 unfoldable pub written_of : Node → Option Written
-written_of (ScopeName place name) = Some (record { name = name; place = place })
+written_of (ScopeName position name) = Some (record { name = name; position = position })
 written_of _ = None
 
 -- what a node of a number is by one of these readings

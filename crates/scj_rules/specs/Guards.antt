@@ -29,8 +29,8 @@ subject_of_meaning (a_variable v) = Some (the_variable v)
 subject_of_meaning _ = None
 
 unfoldable pub subject_of : Declarations → ℕ → Node → Option Subject
-subject_of p id (ThisNode place) = Some this_object
-subject_of p id (SimpleName place name) = subject_of_meaning (meaning p id name)
+subject_of p id (ThisNode position) = Some this_object
+subject_of p id (SimpleName position name) = subject_of_meaning (meaning p id name)
 subject_of p id _ = None
 
 abbrev pub subject_at : Declarations → ℕ → Option Subject
@@ -44,7 +44,7 @@ are_same_subject _ _ = false
 -- ---- what an `if` asks
 
 unfoldable pub condition_of : Node → Option ℕ
-condition_of (If place condition first second) = Some condition
+condition_of (If position condition first second) = Some condition
 condition_of _ = None
 
 abbrev pub guard_of : Option Subject → Option Subject → Option Guard
@@ -52,7 +52,7 @@ guard_of a b = a >>= (λ x. option_map (λ y. record { first = x; second = y }) 
 
 -- the subjects of which a condition asks whether their objects lie in one area
 unfoldable pub asked_by : Declarations → Types → ℕ → Node → Option Guard
-asked_by p types id (Call place name object (a ∷ b ∷ [])) =
+asked_by p types id (Call position name object (a ∷ b ∷ [])) =
     if holds (called_builtin p types id object name) (λ number. number == managed_memory_alloc_in_same)
     then guard_of (subject_at p a) (subject_at p b) else None
 asked_by p types id _ = None
@@ -65,7 +65,7 @@ asked_at p types id =
 -- ---- the first parts in which a node stands
 
 unfoldable pub is_first_part : ℕ → Node → Bool
-is_first_part part (If place condition first second) = part == first
+is_first_part part (If position condition first second) = part == first
 is_first_part part _ = false
 
 -- the `if` whose first part a node is
@@ -82,7 +82,7 @@ ifs_around nodes id = filter_map (if_of nodes) (chain (parent_in nodes) (length 
 
 -- the subject to which a node assigns
 unfoldable pub assigned_by : Declarations → Node → Option Subject
-assigned_by p (Assign place target value) = subject_at p target
+assigned_by p (Assign position target value) = subject_at p target
 assigned_by p _ = None
 
 abbrev pub assigned_at : Declarations → ℕ → Option Subject
@@ -125,8 +125,8 @@ field_of_this (a_field f) = Some (Some this_object, f)
 field_of_this _ = None
 
 unfoldable pub stored_field : Declarations → Types → ℕ → Node → Option (Option Subject × FoundField)
-stored_field p types id (SimpleName place name) = field_of_this (meaning p id name)
-stored_field p types id (FieldAccess place name object) =
+stored_field p types id (SimpleName position name) = field_of_this (meaning p id name)
+stored_field p types id (FieldAccess position name object) =
     receiver p types object >>= (λ r. option_map (λ f. (subject_at p object, f)) (accessed_field p r name))
 stored_field p types id _ = None
 

@@ -41,7 +41,7 @@ place_among fields f = position (λ (other : Declared). other.node == f.node) fi
 
 -- the node of the literal with which a field is declared, if one is written (JLS 8.3.2)
 unfoldable pub literal_written : Node → Option ℕ
-literal_written (Field place name flags declared_type equals value) = value
+literal_written (Field position name flags declared_type equals value) = value
 literal_written _ = None
 
 abbrev pub field_literal : Declarations → Declared → Option ℕ

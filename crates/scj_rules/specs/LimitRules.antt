@@ -35,7 +35,7 @@ variables_of p member = filter (is_variable_of p member) (numbers_from 0 p.nodes
 
 -- the rule is broken at each of these declarations
 abbrev pub broken_at_declared : Rule → List Declared → List Found
-broken_at_declared rule list = broken_at_each (λ (d : Declared). d.place) rule list
+broken_at_declared rule list = broken_at_each (λ (d : Declared). d.position) rule list
 
 -- the class is beyond the first 256 of the user
 abbrev pub exceeds_classes : ℕ → Bool
@@ -43,7 +43,7 @@ exceeds_classes class = nat_lt (first_user_class + most_classes) (class + 1)
 
 -- K1, too many classes
 unfoldable pub k1 : ℕ → WrittenClass → List Found
-k1 class c = broken (exceeds_classes class) K1 c.place
+k1 class c = broken (exceeds_classes class) K1 c.position
 
 -- K2, too many locals: parameters count as locals
 unfoldable pub k2 : Declarations → ℕ → List Found
@@ -59,13 +59,13 @@ exceeds_fields p class = nat_lt most_fields (length (instance_fields p.classes c
 
 -- K4, too many fields
 unfoldable pub k4 : Declarations → ℕ → WrittenClass → List Found
-k4 p class c = broken (exceeds_fields p class) K4 c.place
+k4 p class c = broken (exceeds_fields p class) K4 c.position
 
 -- the breaks at a user class, and at a node
 unfoldable pub class_limits : Declarations → ℕ → WrittenClass → List Found
 class_limits p class c = k1 class c ++ k4 p class c
 
 unfoldable pub node_limits : Declarations → ℕ → Node → List Found
-node_limits p id (Method place name flags result_type parameters body) = k2 p id ++ k3 p parameters
-node_limits p id (Constructor place name flags parameters super_call body) = k2 p id ++ k3 p parameters
+node_limits p id (Method position name flags result_type parameters body) = k2 p id ++ k3 p parameters
+node_limits p id (Constructor position name flags parameters super_call body) = k2 p id ++ k3 p parameters
 node_limits p id _ = []

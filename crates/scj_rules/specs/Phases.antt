@@ -57,7 +57,7 @@ use_phase p =
 
 -- the break of a rule at a place is in a list, however often
 abbrev pub IsFound : List Found → Rule → Pos → Type 0
-IsFound found rule place = Contains found (record { pos = place; rule = rule })
+IsFound found rule position = Contains found (record { pos = position; rule = rule })
 
 abbrev pub BreaksClassRules : Forest → Rule → Pos → Type 0
 BreaksClassRules forest = IsFound (class_phase (declarations_of forest))
@@ -72,7 +72,7 @@ abbrev pub BreaksUseRules : Forest → Rule → Pos → Type 0
 BreaksUseRules forest = IsFound (use_phase (declarations_of forest))
 
 abbrev pub NothingBreaks : (Rule → Pos → Type 0) → Type 0
-NothingBreaks breaks = (rule : Rule) (place : Pos) → ¬ (breaks rule place)
+NothingBreaks breaks = (rule : Rule) (position : Pos) → ¬ (breaks rule position)
 
 -- no rule from C1 on is broken
 pub record IsAccepted (forest : Forest) : Type 0 where

@@ -71,7 +71,7 @@ is_defined_already p class d =
 
 -- S1, scope defined twice or reserved
 unfoldable pub s1 : Declarations → ℕ → Definition → List Found
-s1 p class d = broken (is_defined_already p class d) S1 d.scope.place
+s1 p class d = broken (is_defined_already p class d) S1 d.scope.position
 
 -- the parent is neither IMMORTAL nor a scope that a class defines
 abbrev pub has_unknown_parent : Declarations → Definition → Bool
@@ -79,7 +79,7 @@ has_unknown_parent p d = not (is_some (scope_number p d.parent.name))
 
 -- S2, unknown parent
 unfoldable pub s2 : Declarations → ℕ → Definition → List Found
-s2 p class d = broken (has_unknown_parent p d) S2 d.parent.place
+s2 p class d = broken (has_unknown_parent p d) S2 d.parent.position
 
 -- the definition makes the scope of its name
 abbrev pub makes_scope : Declarations → ℕ → Definition → Bool
@@ -91,7 +91,7 @@ is_cyclic_scope p scope = is_among scope (chain_behind (parent_scope p) (length 
 
 -- S3, scope cycle
 unfoldable pub s3 : Declarations → ℕ → Definition → List Found
-s3 p class d = broken (makes_scope p class d && is_cyclic_scope p (scope_of_class class)) S3 d.parent.place
+s3 p class d = broken (makes_scope p class d && is_cyclic_scope p (scope_of_class class)) S3 d.parent.position
 
 -- ---- S4 to S6: the definition and the class that writes it
 
@@ -117,7 +117,7 @@ is_wrong_class p class =
 
 -- S4, wrong class
 unfoldable pub s4 : Declarations → ℕ → Definition → List Found
-s4 p class d = broken (is_wrong_class p class) S4 d.scope.place
+s4 p class d = broken (is_wrong_class p class) S4 d.scope.position
 
 -- the name after @Scope on a class, or on the nearest class above
 unfoldable pub scope_written_in : Declarations → ℕ → Option Written
@@ -144,7 +144,7 @@ has_wrong_parent p class d = holds (scope_number p d.parent.name) (misfits_paren
 
 -- S5, wrong parent
 unfoldable pub s5 : Declarations → ℕ → Definition → List Found
-s5 p class d = broken (has_wrong_parent p class d) S5 d.parent.place
+s5 p class d = broken (has_wrong_parent p class d) S5 d.parent.position
 
 -- objects of the class have a memory of their own: a mission's, or a handler's releases
 abbrev pub needs_scope : Declarations → ℕ → Bool
@@ -159,7 +159,7 @@ lacks_scope p class is_abstract =
 
 -- S6, scope missing
 unfoldable pub s6 : Declarations → ℕ → WrittenClass → List Found
-s6 p class c = broken (lacks_scope p class c.modifiers.is_abstract) S6 c.place
+s6 p class c = broken (lacks_scope p class c.modifiers.is_abstract) S6 c.position
 
 -- what is broken at the definition that a class writes
 unfoldable pub definition_breaks : Declarations → ℕ → List Found

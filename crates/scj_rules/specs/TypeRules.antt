@@ -58,25 +58,25 @@ abbrev pub class_type_named : Declarations → List ℕ → Option Ty
 class_type_named p name = option_map (λ class. ClassTy class) (class_number p.names name)
 
 unfoldable pub type_of : Declarations → Types → ℕ → Node → Option Ty
-type_of p types id (Number place value is_negative) = Some Int
-type_of p types id (True place) = Some Boolean
-type_of p types id (False place) = Some Boolean
-type_of p types id (Null place) = Some NullTy
-type_of p types id (Text place text) = Some Label
-type_of p types id (This place) = option_map (λ class. ClassTy class) (context p id).class
-type_of p types id (SimpleName place name) = type_of_meaning p (meaning p id name)
-type_of p types id (Parenthesized place inner) = types inner
-type_of p types id (Binary place operator left right) =
+type_of p types id (Number position value is_negative) = Some Int
+type_of p types id (True position) = Some Boolean
+type_of p types id (False position) = Some Boolean
+type_of p types id (Null position) = Some NullTy
+type_of p types id (Text position text) = Some Label
+type_of p types id (This position) = option_map (λ class. ClassTy class) (context p id).class
+type_of p types id (SimpleName position name) = type_of_meaning p (meaning p id name)
+type_of p types id (Parenthesized position inner) = types inner
+type_of p types id (Binary position operator left right) =
     types left >>= λ a. types right >>= binary_type p.classes operator a
-type_of p types id (Unary place operator operand) = types operand >>= unary_type operator
-type_of p types id (Cast place name_place name operand) = types operand >>= λ t. class_type_named p name
-type_of p types id (FieldAccess place name object) = receiver p types object >>= λ r. access_type p r name
-type_of p types id (Call place name object arguments) =
+type_of p types id (Unary position operator operand) = types operand >>= unary_type operator
+type_of p types id (Cast position name_place name operand) = types operand >>= λ t. class_type_named p name
+type_of p types id (FieldAccess position name object) = receiver p types object >>= λ r. access_type p r name
+type_of p types id (Call position name object arguments) =
     call_receiver p types id object >>= λ r. all_types types arguments >>= λ ts. call_type p r name
-type_of p types id (Element place array index) = types array >>= λ a. types index >>= λ i. element_type a
-type_of p types id (New place name_place name arguments) =
+type_of p types id (Element position array index) = types array >>= λ a. types index >>= λ i. element_type a
+type_of p types id (New position name_place name arguments) =
     if is_form_part p id then None else all_types types arguments >>= λ ts. class_type_named p name
-type_of p types id (NewArray place element length) = types length >>= λ n. written_type p element >>= array_of
+type_of p types id (NewArray position element length) = types length >>= λ n. written_type p element >>= array_of
 type_of p types id _ = None
 
 -- ---- T1, unknown variable: a name that stands for nothing (JLS 6.5.6.1)
@@ -85,7 +85,7 @@ denotes_no_declaration nothing = true
 denotes_no_declaration _ = false
 
 unfoldable pub t1 : Declarations → Types → ℕ → Node → List Found
-t1 p types id (SimpleName place name) = broken (denotes_no_declaration (meaning p id name)) T1 place
+t1 p types id (SimpleName position name) = broken (denotes_no_declaration (meaning p id name)) T1 position
 t1 p types id _ = []
 
 -- T2, name twice: a local or parameter of the name is known here (JLS 6.4)
@@ -93,9 +93,9 @@ abbrev pub is_declared_already : Declarations → ℕ → List ℕ → Bool
 is_declared_already p id name = is_some (variable_named p id name)
 
 unfoldable pub t2 : Declarations → Types → ℕ → Node → List Found
-t2 p types id (Parameter place name flags declared_type) = broken (is_declared_already p id name) T2 place
-t2 p types id (Local place name flags declared_type) = broken (is_declared_already p id name) T2 place
-t2 p types id (LocalWithValue place name_place name flags declared_type value) =
+t2 p types id (Parameter position name flags declared_type) = broken (is_declared_already p id name) T2 position
+t2 p types id (Local position name flags declared_type) = broken (is_declared_already p id name) T2 position
+t2 p types id (LocalWithValue position name_place name flags declared_type value) =
     broken (is_declared_already p id name) T2 name_place
 t2 p types id _ = []
 
@@ -121,13 +121,13 @@ typed_call p types id object arguments test =
     holds (call_receiver p types id object) (λ r. holds (all_types types arguments) (λ ts. test r))
 
 unfoldable pub t3 : Declarations → Types → ℕ → Node → List Found
-t3 p types id (Binary place operator left right) = broken (misfits_operands p types operator left right) T3 place
-t3 p types id (Unary place operator operand) = broken (misfits_operand types operator operand) T3 place
-t3 p types id (Element place array index) = broken (misfits_index types array index) T3 place
-t3 p types id (NewArray place element length) = broken (misfits_length types length) T3 place
-t3 p types id (FieldAccess place name object) = broken (holds (receiver p types object) is_no_reference) T3 place
-t3 p types id (Call place name object arguments) =
-    broken (typed_call p types id object arguments is_no_reference) T3 place
+t3 p types id (Binary position operator left right) = broken (misfits_operands p types operator left right) T3 position
+t3 p types id (Unary position operator operand) = broken (misfits_operand types operator operand) T3 position
+t3 p types id (Element position array index) = broken (misfits_index types array index) T3 position
+t3 p types id (NewArray position element length) = broken (misfits_length types length) T3 position
+t3 p types id (FieldAccess position name object) = broken (holds (receiver p types object) is_no_reference) T3 position
+t3 p types id (Call position name object arguments) =
+    broken (typed_call p types id object arguments is_no_reference) T3 position
 t3 p types id _ = []
 
 -- T4, no field: no such field of the type, or a static one through a value (JLS 15.11)
@@ -137,8 +137,8 @@ lacks_field p r name =
     && elim (accessed_field p r name) [ None ↦ true | Some f ↦ is_value r && f.field.modifiers.is_static ])
 
 unfoldable pub t4 : Declarations → Types → ℕ → Node → List Found
-t4 p types id (FieldAccess place name object) =
-    broken (holds (receiver p types object) (λ r. lacks_field p r name)) T4 place
+t4 p types id (FieldAccess position name object) =
+    broken (holds (receiver p types object) (λ r. lacks_field p r name)) T4 position
 t4 p types id _ = []
 
 -- T5, no method: no such callable method, a size method, or a static one through a value (JLS 15.12)
@@ -151,8 +151,8 @@ lacks_method p r name =
     && elim (called_method p r name) [ None ↦ true | Some f ↦ cannot_be_called p r f ]
 
 unfoldable pub t5 : Declarations → Types → ℕ → Node → List Found
-t5 p types id (Call place name object arguments) =
-    broken (typed_call p types id object arguments (λ r. lacks_method p r name)) T5 place
+t5 p types id (Call position name object arguments) =
+    broken (typed_call p types id object arguments (λ r. lacks_method p r name)) T5 position
 t5 p types id _ = []
 
 -- T6, arguments: their number or types don't fit (JLS 15.9.3, 15.12.2, 8.8.7)
@@ -216,12 +216,12 @@ misfits_super_call p types id arguments =
     (λ superclass. not (has_form superclass) && misfit p types (constructor_parameters p.classes superclass) arguments)
 
 unfoldable pub t6 : Declarations → Types → ℕ → Node → List Found
-t6 p types id (Call place name object arguments) =
-    broken (holds (call_receiver p types id object) (λ r. misfits_method p types r name arguments)) T6 place
-t6 p types id (New place name_place name arguments) = broken (misfits_new p types id name arguments) T6 place
-t6 p types id (SuperCall place arguments) = broken (misfits_super_call p types id arguments) T6 place
-t6 p types id (Class place name flags header members) =
-    broken (holds (class_number p.names name) (misfits_class p)) T6 place
+t6 p types id (Call position name object arguments) =
+    broken (holds (call_receiver p types id object) (λ r. misfits_method p types r name arguments)) T6 position
+t6 p types id (New position name_place name arguments) = broken (misfits_new p types id name arguments) T6 position
+t6 p types id (SuperCall position arguments) = broken (misfits_super_call p types id arguments) T6 position
+t6 p types id (Class position name flags header members) =
+    broken (holds (class_number p.names name) (misfits_class p)) T6 position
 t6 p types id _ = []
 
 -- T7, assignment: the value isn't assignable, or the target is an array's length (JLS 5.2, 15.26)
@@ -229,7 +229,7 @@ abbrev pub misfits_value : Declarations → Option Ty → Option Ty → Bool
 misfits_value p target value = holds target (λ t. holds value (λ v. not (assigns p.classes v t)))
 
 unfoldable pub is_length_target : Declarations → Types → Node → Option Bool
-is_length_target p types (FieldAccess place name object) =
+is_length_target p types (FieldAccess position name object) =
     Some (holds (receiver p types object) (λ r. is_length_of_array r name))
 is_length_target p types _ = None
 
@@ -242,10 +242,10 @@ abbrev pub misfits_initial_value : Declarations → Types → ℕ → ℕ → Bo
 misfits_initial_value p types declared_type value = misfits_value p (written_type p declared_type) (types value)
 
 unfoldable pub t7 : Declarations → Types → ℕ → Node → List Found
-t7 p types id (Assign place target value) = broken (misfits_assignment p types target value) T7 place
-t7 p types id (LocalWithValue place name_place name flags declared_type value) =
-    broken (misfits_initial_value p types declared_type value) T7 place
-t7 p types id (Field place name flags declared_type (Some equals) (Some value)) =
+t7 p types id (Assign position target value) = broken (misfits_assignment p types target value) T7 position
+t7 p types id (LocalWithValue position name_place name flags declared_type value) =
+    broken (misfits_initial_value p types declared_type value) T7 position
+t7 p types id (Field position name flags declared_type (Some equals) (Some value)) =
     broken (misfits_initial_value p types declared_type value) T7 equals
 t7 p types id _ = []
 
@@ -255,14 +255,14 @@ misfits_condition p types condition =
     broken (holds (types condition) (λ t. not (is_boolean t))) T8 (place_at p.nodes condition)
 
 unfoldable pub t8 : Declarations → Types → ℕ → Node → List Found
-t8 p types id (If place condition then_part else_part) = misfits_condition p types condition
-t8 p types id (While place condition body) = misfits_condition p types condition
-t8 p types id (For place first condition step body) = misfits_condition p types condition
+t8 p types id (If position condition then_part else_part) = misfits_condition p types condition
+t8 p types id (While position condition body) = misfits_condition p types condition
+t8 p types id (For position first condition step body) = misfits_condition p types condition
 t8 p types id _ = []
 
 -- T9, return: a value that isn't assignable, a missing or a forbidden one (JLS 14.17). An int fits a result `long`
 unfoldable pub result_of_member : Node → Option ℕ
-result_of_member (Method place name flags result_type parameters body) = Some result_type
+result_of_member (Method position name flags result_type parameters body) = Some result_type
 result_of_member _ = None
 
 -- the result that is written where the node stands, `void` in a constructor
@@ -285,8 +285,8 @@ abbrev pub misfits_result : Declarations → Types → ℕ → ℕ → Bool
 misfits_result p types id value = holds (types value) (λ t. not (fits_result p (result_at p id) t))
 
 unfoldable pub t9 : Declarations → Types → ℕ → Node → List Found
-t9 p types id (Return place None) = broken (lacks_value p id) T9 place
-t9 p types id (Return place (Some value)) = broken (misfits_result p types id value) T9 place
+t9 p types id (Return position None) = broken (lacks_value p id) T9 position
+t9 p types id (Return position (Some value)) = broken (misfits_result p types id value) T9 position
 t9 p types id _ = []
 
 -- T10, end without return: a body with a result doesn't always return (JLS 8.4.7)
@@ -300,8 +300,8 @@ ends_without_return p result_type body =
     not (is_same_type (type_at p.nodes result_type) void_type) && not (always_returns p body)
 
 unfoldable pub t10 : Declarations → Types → ℕ → Node → List Found
-t10 p types id (Method place name flags result_type parameters (Some body)) =
-    broken (ends_without_return p result_type body) T10 place
+t10 p types id (Method position name flags result_type parameters (Some body)) =
+    broken (ends_without_return p result_type body) T10 position
 t10 p types id _ = []
 
 -- T11, abstract new: `new` of an abstract, interface or static class (JLS 15.9.1)
@@ -313,7 +313,7 @@ makes_no_object p types name arguments =
     holds (all_types types arguments) (λ ts. holds (class_number p.names name) (kind_is is_never_made p))
 
 unfoldable pub t11 : Declarations → Types → ℕ → Node → List Found
-t11 p types id (New place name_place name arguments) = broken (makes_no_object p types name arguments) T11 place
+t11 p types id (New position name_place name arguments) = broken (makes_no_object p types name arguments) T11 position
 t11 p types id _ = []
 
 -- T12, cast: the types aren't related (JLS 15.16)
@@ -326,7 +326,7 @@ misfits_cast p types name operand =
     (λ t. holds (class_number p.names name) (λ class. not (are_related p.classes t (ClassTy class))))
 
 unfoldable pub t12 : Declarations → Types → ℕ → Node → List Found
-t12 p types id (Cast place name_place name operand) = broken (misfits_cast p types name operand) T12 place
+t12 p types id (Cast position name_place name operand) = broken (misfits_cast p types name operand) T12 position
 t12 p types id _ = []
 
 -- T13, this in static: `this` or an instance member where there is no object (JLS 15.8.3, 8.8.7.1)
@@ -349,31 +349,31 @@ lacks_object_of_method p id name r =
     && holds (called_method p r name) (λ (f : FoundMethod). not f.method.declared.modifiers.is_static))
 
 unfoldable pub t13 : Declarations → Types → ℕ → Node → List Found
-t13 p types id (This place) = broken (not (has_object p id)) T13 place
-t13 p types id (SimpleName place name) =
-    broken (is_instance_field (meaning p id name) && not (has_object p id)) T13 place
-t13 p types id (FieldAccess place name object) =
-    broken (holds (receiver p types object) (lacks_object_of_field p id name)) T13 place
-t13 p types id (Call place name object arguments) =
-    broken (typed_call p types id object arguments (lacks_object_of_method p id name)) T13 place
+t13 p types id (This position) = broken (not (has_object p id)) T13 position
+t13 p types id (SimpleName position name) =
+    broken (is_instance_field (meaning p id name) && not (has_object p id)) T13 position
+t13 p types id (FieldAccess position name object) =
+    broken (holds (receiver p types object) (lacks_object_of_field p id name)) T13 position
+t13 p types id (Call position name object arguments) =
+    broken (typed_call p types id object arguments (lacks_object_of_method p id name)) T13 position
 t13 p types id _ = []
 
 -- T14, misplaced framework form: a form class outside a form, a missing form, a size method of another body
 unfoldable pub element_class : Declarations → Node → Option ℕ
-element_class p (ClassType place name argument is_array) = class_number p.names name
+element_class p (ClassType position name argument is_array) = class_number p.names name
 element_class p _ = None
 
 -- `{ return Number; }` (JSR 302 lets a size be any expression; here it is a constant)
 unfoldable pub is_number : Node → Option Bool
-is_number (Number place value is_negative) = Some (not is_negative && nat_lt value 2147483648)
+is_number (Number position value is_negative) = Some (not is_negative && nat_lt value 2147483648)
 is_number _ = None
 
 unfoldable pub returns_number : List Node → Node → Option Bool
-returns_number nodes (Return place (Some value)) = read nodes is_number value
+returns_number nodes (Return position (Some value)) = read nodes is_number value
 returns_number nodes _ = None
 
 unfoldable pub is_size_body : List Node → Node → Option Bool
-is_size_body nodes (Block place (statement ∷ [])) = read nodes (returns_number nodes) statement
+is_size_body nodes (Block position (statement ∷ [])) = read nodes (returns_number nodes) statement
 is_size_body nodes _ = None
 
 -- the framework has a size method of the name for the class
@@ -402,13 +402,13 @@ misfits_long p id name result_type body =
 
 -- asked of a form class whatever the arguments or the length are
 unfoldable pub t14 : Declarations → Types → ℕ → Node → List Found
-t14 p types id (New place name_place name arguments) = broken (is_misplaced_form p id name) T14 place
-t14 p types id (NewArray place element length) =
-    broken (holds (read p.nodes (element_class p) element) (kind_is is_form p)) T14 place
-t14 p types id (Class place name flags header members) =
-    broken (holds (class_number p.names name) (lacks_form p)) T14 place
-t14 p types id (Method place name flags result_type parameters body) =
-    broken (misfits_long p id name result_type body) T14 place
+t14 p types id (New position name_place name arguments) = broken (is_misplaced_form p id name) T14 position
+t14 p types id (NewArray position element length) =
+    broken (holds (read p.nodes (element_class p) element) (kind_is is_form p)) T14 position
+t14 p types id (Class position name flags header members) =
+    broken (holds (class_number p.names name) (lacks_form p)) T14 position
+t14 p types id (Method position name flags result_type parameters body) =
+    broken (misfits_long p id name result_type body) T14 position
 t14 p types id _ = []
 
 -- ---- all of them

@@ -147,7 +147,7 @@ class_in _ = None
 
 -- the class that a node names, where it is a simple name that stands for a class
 unfoldable pub class_at_name : Declarations → ℕ → Node → Option ℕ
-class_at_name p id (SimpleName place name) = class_in (meaning p id name)
+class_at_name p id (SimpleName position name) = class_in (meaning p id name)
 class_at_name p id _ = None
 
 unfoldable pub receiver : Declarations → (ℕ → Option Ty) → ℕ → Option Receiver
@@ -255,7 +255,7 @@ is_form _ = false
 
 -- the arguments of `new class(..)` at this node, where they are so many
 unfoldable pub new_of : Declarations → ℕ → ℕ → Node → Option (List ℕ)
-new_of p class count (New place name_place name arguments) =
+new_of p class count (New position name_place name arguments) =
     if holds (class_number p.names name) (λ c. c == class) && (length arguments == count) then Some arguments else None
 new_of p class count _ = None
 
@@ -312,13 +312,13 @@ is_form_part p id =
 -- ---- statements that always return (as JLS 14.21, but for unreachable statements)
 
 unfoldable pub is_true_literal : Node → Option Bool
-is_true_literal (True place) = Some true
+is_true_literal (True position) = Some true
 is_true_literal _ = None
 
 unfoldable pub returns_of : List Node → (ℕ → Bool) → Node → Bool
-returns_of nodes returns (Return place value) = true
-returns_of nodes returns (Block place statements) = list_any returns statements
-returns_of nodes returns (If place condition then_part else_part) =
+returns_of nodes returns (Return position value) = true
+returns_of nodes returns (Block position statements) = list_any returns statements
+returns_of nodes returns (If position condition then_part else_part) =
     holds else_part (λ other. returns then_part && returns other)
-returns_of nodes returns (While place condition body) = is_some (read nodes is_true_literal condition)
+returns_of nodes returns (While position condition body) = is_some (read nodes is_true_literal condition)
 returns_of nodes returns _ = false

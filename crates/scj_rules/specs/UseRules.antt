@@ -78,19 +78,19 @@ scope_of_element p array (ClassArray class) = scope_in_class p class (option_map
 scope_of_element p array _ = None
 
 unfoldable pub scope_of : Declarations → Types → Scopes → ℕ → Node → Option Scope
-scope_of p types scopes id (ThisNode place) = this_at p id
-scope_of p types scopes id (Null place) = Some Any
-scope_of p types scopes id (Parenthesized place inner) = scopes inner
-scope_of p types scopes id (SimpleName place name) = scope_of_meaning p id (meaning p id name)
-scope_of p types scopes id (FieldAccess place name object) =
+scope_of p types scopes id (ThisNode position) = this_at p id
+scope_of p types scopes id (Null position) = Some Any
+scope_of p types scopes id (Parenthesized position inner) = scopes inner
+scope_of p types scopes id (SimpleName position name) = scope_of_meaning p id (meaning p id name)
+scope_of p types scopes id (FieldAccess position name object) =
     receiver p types object >>= (λ r. accessed_field p r name >>= scope_of_field p (scopes object))
-scope_of p types scopes id (Call place name object arguments) =
+scope_of p types scopes id (Call position name object arguments) =
     call_receiver p types id object >>= (λ r.
     called_method p r name >>= scope_of_call p (receiver_scope p scopes id object) (current_at p id))
-scope_of p types scopes id (New place name_place name arguments) = class_number p.names name >>= scope_of_new p id
-scope_of p types scopes id (NewArray place element length) = current_at p id
-scope_of p types scopes id (Element place array index) = types array >>= scope_of_element p (scopes array)
-scope_of p types scopes id (Cast place name_place name operand) =
+scope_of p types scopes id (New position name_place name arguments) = class_number p.names name >>= scope_of_new p id
+scope_of p types scopes id (NewArray position element length) = current_at p id
+scope_of p types scopes id (Element position array index) = types array >>= scope_of_element p (scopes array)
+scope_of p types scopes id (Cast position name_place name operand) =
     class_number p.names name >>= (λ class. scope_in_class p class (scopes operand))
 scope_of p types scopes id _ = None
 
@@ -112,7 +112,7 @@ abbrev pub misfits_new : Declarations → ℕ → List ℕ → Bool
 misfits_new p id name = holds (class_number p.names name) (lies_elsewhere p id)
 
 unfoldable pub e1 : Declarations → Types → Scopes → ℕ → Node → List Found
-e1 p types scopes id (New place name_place name arguments) = broken (misfits_new p id name) E1 place
+e1 p types scopes id (New position name_place name arguments) = broken (misfits_new p id name) E1 position
 e1 p types scopes id _ = []
 
 -- E2, call: the callee runs neither in CALLER, nor in THIS where the receiver lies in the current scope, nor in a named
@@ -135,8 +135,8 @@ misfits_call p scopes id object f =
     holds (runs_in p f.on f.method) (misfits_runs_in p id (receiver_scope p scopes id object))
 
 unfoldable pub e2 : Declarations → Types → Scopes → ℕ → Node → List Found
-e2 p types scopes id (Call place name object arguments) =
-    broken (holds (called_user_method p types id object name) (misfits_call p scopes id object)) E2 place
+e2 p types scopes id (Call position name object arguments) =
+    broken (holds (called_user_method p types id object name) (misfits_call p scopes id object)) E2 position
 e2 p types scopes id _ = []
 
 -- E3, argument: its scope doesn't fit the parameter's, as the caller sees that
@@ -162,12 +162,12 @@ e3_of_constructor p scopes object arguments class =
     (constructor_parameters p.classes class) arguments
 
 unfoldable pub e3 : Declarations → Types → Scopes → ℕ → Node → List Found
-e3 p types scopes id (Call place name object arguments) =
+e3 p types scopes id (Call position name object arguments) =
     found_at (called_user_method p types id object name)
     (e3_of_call p scopes (receiver_scope p scopes id object) (current_at p id) arguments)
-e3 p types scopes id (New place name_place name arguments) =
+e3 p types scopes id (New position name_place name arguments) =
     found_at (class_number p.names name) (λ class. e3_of_constructor p scopes (scope_of_new p id class) arguments class)
-e3 p types scopes id (SuperCall place arguments) =
+e3 p types scopes id (SuperCall position arguments) =
     found_at (superclass_at p id) (e3_of_constructor p scopes (this_at p id) arguments)
 e3 p types scopes id _ = []
 
@@ -177,17 +177,17 @@ target_of_meaning (a_variable v) = E4
 target_of_meaning _ = E5
 
 unfoldable pub target_rule : Declarations → ℕ → Node → Option Rule
-target_rule p id (SimpleName place name) = Some (target_of_meaning (meaning p id name))
+target_rule p id (SimpleName position name) = Some (target_of_meaning (meaning p id name))
 target_rule p id _ = Some E5
 
 -- E4 to E5: the value's scope doesn't fit the target's, and no guard allows the store
 unfoldable pub e4_and_e5 : Declarations → Types → Scopes → ℕ → Node → List Found
-e4_and_e5 p types scopes id (Assign place target value) =
+e4_and_e5 p types scopes id (Assign position target value) =
     found_at (read p.nodes (target_rule p target) target)
     (λ rule.
-    broken (misfit_scope (scopes value) (scopes target) && not (is_guarded_store p types id target value)) rule place)
-e4_and_e5 p types scopes id (LocalWithValue place name_place name flags declared_type value) =
-    broken (misfit_scope (scopes value) (variable_scope_at p id)) E4 place
+    broken (misfit_scope (scopes value) (scopes target) && not (is_guarded_store p types id target value)) rule position)
+e4_and_e5 p types scopes id (LocalWithValue position name_place name flags declared_type value) =
+    broken (misfit_scope (scopes value) (variable_scope_at p id)) E4 position
 e4_and_e5 p types scopes id _ = []
 
 -- E6, return: the value's scope doesn't fit the result's
@@ -197,8 +197,8 @@ result_scope_at p id =
     (context p id).member >>= method_at p.nodes >>= (λ (m : DeclaredMethod). result_scope p class m))
 
 unfoldable pub e6 : Declarations → Types → Scopes → ℕ → Node → List Found
-e6 p types scopes id (Return place (Some value)) =
-    broken (misfit_scope (scopes value) (result_scope_at p id)) E6 place
+e6 p types scopes id (Return position (Some value)) =
+    broken (misfit_scope (scopes value) (result_scope_at p id)) E6 position
 e6 p types scopes id _ = []
 
 -- the user's `run` of a class
@@ -231,8 +231,8 @@ enters_wrong p types id number r =
     (number == managed_memory_enter_private_memory) && holds (types r) (misfits_enter p id)
 
 unfoldable pub e7 : Declarations → Types → Scopes → ℕ → Node → List Found
-e7 p types scopes id (Call place name object (size ∷ r ∷ [])) =
-    broken (holds (called_builtin p types id object name) (λ number. enters_wrong p types id number r)) E7 place
+e7 p types scopes id (Call position name object (size ∷ r ∷ [])) =
+    broken (holds (called_builtin p types id object name) (λ number. enters_wrong p types id number r)) E7 position
 e7 p types scopes id _ = []
 
 -- E8, execute in area: `o` lies in no named scope, or `r` has no `run` of a user class that runs in it
@@ -253,8 +253,8 @@ executes_wrong p types scopes number o r =
     (number == managed_memory_execute_in_area_of) && holds (types r) (misfits_execute p (scopes o))
 
 unfoldable pub e8 : Declarations → Types → Scopes → ℕ → Node → List Found
-e8 p types scopes id (Call place name object (o ∷ r ∷ [])) =
-    broken (holds (called_builtin p types id object name) (λ number. executes_wrong p types scopes number o r)) E8 place
+e8 p types scopes id (Call position name object (o ∷ r ∷ [])) =
+    broken (holds (called_builtin p types id object name) (λ number. executes_wrong p types scopes number o r)) E8 position
 e8 p types scopes id _ = []
 
 -- E9, cast scope: to an annotated class, of an operand in another scope
@@ -265,7 +265,7 @@ abbrev pub misfits_cast : Declarations → Option Scope → List ℕ → Bool
 misfits_cast p operand name = holds (class_number p.names name) (lies_outside p operand)
 
 unfoldable pub e9 : Declarations → Types → Scopes → ℕ → Node → List Found
-e9 p types scopes id (Cast place name_place name operand) = broken (misfits_cast p (scopes operand) name) E9 place
+e9 p types scopes id (Cast position name_place name operand) = broken (misfits_cast p (scopes operand) name) E9 position
 e9 p types scopes id _ = []
 
 -- E10, array: of a class that is annotated with a scope that is neither the current one, by name, nor outside it
@@ -281,8 +281,8 @@ misfits_element p id (ClassTy class) = is_annotated_and (class_scope p class) (i
 misfits_element p id _ = false
 
 unfoldable pub e10 : Declarations → Types → Scopes → ℕ → Node → List Found
-e10 p types scopes id (NewArray place element length) =
-    broken (holds (written_type p element) (misfits_element p id)) E10 place
+e10 p types scopes id (NewArray position element length) =
+    broken (holds (written_type p element) (misfits_element p id)) E10 position
 e10 p types scopes id _ = []
 
 -- what is broken at a node

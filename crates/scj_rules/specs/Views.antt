@@ -32,7 +32,7 @@ no_modifiers =
     }
 
 unfoldable pub modifiers_of : List Node → Node → Option Modifiers
-modifiers_of nodes (Flags place define_scope scope runs_in is_static is_abstract is_synchronized) =
+modifiers_of nodes (Flags position define_scope scope runs_in is_static is_abstract is_synchronized) =
     Some (record {
       defines_scope = is_some define_scope;
       scope = scope >>= read nodes written_of;
@@ -47,11 +47,11 @@ abbrev pub modifiers_at : List Node → Option ℕ → Modifiers
 modifiers_at nodes flags = unwrap_or (flags >>= read nodes (modifiers_of nodes)) no_modifiers
 
 unfoldable pub type_of_node : Node → Option WrittenType
-type_of_node (IntType place is_array) = Some (if is_array then int_array else int_type)
-type_of_node (BooleanType place is_array) = Some (if is_array then boolean_array else boolean_type)
-type_of_node (ClassType place name argument is_array) = Some (if is_array then class_array name else class_type name)
-type_of_node (VoidType place) = Some void_type
-type_of_node (LongType place) = Some long_type
+type_of_node (IntType position is_array) = Some (if is_array then int_array else int_type)
+type_of_node (BooleanType position is_array) = Some (if is_array then boolean_array else boolean_type)
+type_of_node (ClassType position name argument is_array) = Some (if is_array then class_array name else class_type name)
+type_of_node (VoidType position) = Some void_type
+type_of_node (LongType position) = Some long_type
 type_of_node _ = None
 
 abbrev pub type_at : List Node → ℕ → WrittenType
@@ -59,21 +59,21 @@ type_at nodes id = unwrap_or (read nodes type_of_node id) void_type
 
 -- a class that is named after `extends` or `implements`
 unfoldable pub named_super : Node → Option Written
-named_super (SuperType place name argument) = Some (record { name = name; place = place })
+named_super (SuperType position name argument) = Some (record { name = name; position = position })
 named_super _ = None
 
 -- the names after `extends`, and those after `implements`
 unfoldable pub named_supers : List Node → Node → Option (Option Written × List Written)
-named_supers nodes (Supers place superclass interfaces) =
+named_supers nodes (Supers position superclass interfaces) =
     Some (superclass >>= read nodes named_super, filter_map (read nodes named_super) interfaces)
 named_supers nodes _ = None
 
 -- a declaration at a node, from the nodes of its modifiers and its type
 abbrev pub declared : List Node → ℕ → Pos → List ℕ → Option ℕ → ℕ → Declared
-declared nodes node place name flags declared_type =
+declared nodes node position name flags declared_type =
     record {
       node = node;
-      place = place;
+      position = position;
       name = name;
       modifiers = modifiers_at nodes flags;
       declared_type = type_at nodes declared_type;
@@ -81,10 +81,10 @@ declared nodes node place name flags declared_type =
 
 -- a parameter or a local
 unfoldable pub variable_of : List Node → ℕ → Node → Option Declared
-variable_of nodes id (Parameter place name flags declared_type) =
-    Some (declared nodes id place name flags declared_type)
-variable_of nodes id (Local place name flags declared_type) = Some (declared nodes id place name flags declared_type)
-variable_of nodes id (LocalWithValue place name_place name flags declared_type value) =
+variable_of nodes id (Parameter position name flags declared_type) =
+    Some (declared nodes id position name flags declared_type)
+variable_of nodes id (Local position name flags declared_type) = Some (declared nodes id position name flags declared_type)
+variable_of nodes id (LocalWithValue position name_place name flags declared_type value) =
     Some (declared nodes id name_place name flags declared_type)
 variable_of nodes id _ = None
 
@@ -92,15 +92,15 @@ abbrev pub variable_at : List Node → ℕ → Option Declared
 variable_at nodes id = read nodes (variable_of nodes id) id
 
 unfoldable pub field_of : List Node → ℕ → Node → Option Declared
-field_of nodes id (Field place name flags declared_type equals value) =
-    Some (declared nodes id place name flags declared_type)
+field_of nodes id (Field position name flags declared_type equals value) =
+    Some (declared nodes id position name flags declared_type)
 field_of nodes id _ = None
 
 abbrev pub field_at : List Node → ℕ → Option Declared
 field_at nodes id = read nodes (field_of nodes id) id
 
 unfoldable pub parameters_of : List Node → Node → Option (List Declared)
-parameters_of nodes (Parameters place list) = Some (filter_map (variable_at nodes) list)
+parameters_of nodes (Parameters position list) = Some (filter_map (variable_at nodes) list)
 parameters_of nodes _ = None
 
 abbrev pub parameters_at : List Node → Option ℕ → List Declared
@@ -117,9 +117,9 @@ pub record DeclaredMethod : Type 0 where
   pub overridable : Bool
 
 unfoldable pub method_of : List Node → ℕ → Node → Option DeclaredMethod
-method_of nodes id (Method place name flags result_type parameters body) =
+method_of nodes id (Method position name flags result_type parameters body) =
     Some (record {
-      declared = declared nodes id place name flags result_type;
+      declared = declared nodes id position name flags result_type;
       parameters = parameters_at nodes parameters;
       body = body;
       builtin = None;
@@ -134,7 +134,7 @@ method_at nodes id = read nodes (method_of nodes id) id
 -- a constructor; `super_call` has the arguments of its super call, where it has one
 pub record DeclaredConstructor : Type 0 where
   pub node : ℕ
-  pub place : Pos
+  pub position : Pos
   pub name : List ℕ
   pub modifiers : Modifiers
   pub parameters : List Declared
@@ -142,14 +142,14 @@ pub record DeclaredConstructor : Type 0 where
   pub body : ℕ
 
 unfoldable pub super_arguments : Node → Option (List ℕ)
-super_arguments (SuperCall place arguments) = Some arguments
+super_arguments (SuperCall position arguments) = Some arguments
 super_arguments _ = None
 
 unfoldable pub constructor_of : List Node → ℕ → Node → Option DeclaredConstructor
-constructor_of nodes id (Constructor place name flags parameters super_call body) =
+constructor_of nodes id (Constructor position name flags parameters super_call body) =
     Some (record {
       node = id;
-      place = place;
+      position = position;
       name = name;
       modifiers = modifiers_at nodes flags;
       parameters = parameters_at nodes parameters;
@@ -163,14 +163,14 @@ constructor_at nodes id = read nodes (constructor_of nodes id) id
 
 -- the name of a method or a constructor, and where it is named
 unfoldable pub callable_name : Node → Option Written
-callable_name (Method place name flags result_type parameters body) = Some (record { name = name; place = place })
-callable_name (Constructor place name flags parameters super_call body) = Some (record { name = name; place = place })
+callable_name (Method position name flags result_type parameters body) = Some (record { name = name; position = position })
+callable_name (Constructor position name flags parameters super_call body) = Some (record { name = name; position = position })
 callable_name _ = None
 
 -- a class as it is written
 pub record WrittenClass : Type 0 where
   pub node : ℕ
-  pub place : Pos
+  pub position : Pos
   pub name : List ℕ
   pub modifiers : Modifiers
   pub extends : Option Written
@@ -178,11 +178,11 @@ pub record WrittenClass : Type 0 where
   pub members : List ℕ
 
 unfoldable pub class_of : List Node → ℕ → Node → Option WrittenClass
-class_of nodes id (Class place name flags header members) =
+class_of nodes id (Class position name flags header members) =
     let supers : Option Written × List Written = unwrap_or (header >>= read nodes (named_supers nodes)) (None, []) in
     Some (record {
       node = id;
-      place = place;
+      position = position;
       name = name;
       modifiers = modifiers_at nodes flags;
       extends = supers.0;

@@ -12,11 +12,11 @@ is_among n ns = list_any (λ m. n == m) ns
 
 -- the rule is broken at the place, where the test holds
 abbrev pub broken : Bool → Rule → Pos → List Found
-broken test rule place = if test then record { pos = place; rule = rule } ∷ [] else []
+broken test rule position = if test then record { pos = position; rule = rule } ∷ [] else []
 
 -- the rule is broken at the place of each element
 abbrev pub broken_at_each : {A : Type 0} → (A → Pos) → Rule → List A → List Found
-broken_at_each place rule xs = map (λ x. record { pos = place x; rule = rule }) xs
+broken_at_each position rule xs = map (λ x. record { pos = position x; rule = rule }) xs
 
 -- the first value that f gives along a list
 unfoldable pub along : {A B : Type 0} → (A → Option B) → List A → Option B

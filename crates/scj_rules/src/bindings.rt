@@ -53,7 +53,7 @@ impl Bindings {
     pub fn get(&self, node: NodeId) -> Option<&Binding>
         ensures { option_copied result ≡ slice_get self.now node }
     {
-        self.rows.get(node.place())
+        self.rows.get(node.number())
     }
 
     /// What is told, node by node.

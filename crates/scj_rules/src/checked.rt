@@ -67,6 +67,6 @@ impl Checked {
         ensures { slice_get self.now.bindings node ≡ Some result }
     {
         let rows = self.bindings();
-        rows[node.place()]
+        rows[node.number()]
     }
 }

@@ -10,7 +10,7 @@ pub struct Written {
     /// The name.
     pub name: Name,
     /// Where it is written.
-    pub place: Pos,
+    pub position: Pos,
 }
 
 /// An annotation `@DefineScope(name=.., parent=..)` before a class.

@@ -49,7 +49,7 @@ pub struct Declared {
     /// Its node.
     pub node: NodeId,
     /// Where it is named.
-    pub place: Pos,
+    pub position: Pos,
     /// Its name.
     pub name: Name,
     /// The annotations and modifiers before it.

@@ -221,11 +221,11 @@ pub record Again (R : List Node → List Lexeme → List Node → List Lexeme �
   pub alike : (V : List Node) → Front nodes V → Alike W V id place
 
 pub again_of : {R : List Node → List Lexeme → List Node → List Lexeme → ℕ → Type 0} {W M : List Node}
-    {i o i2 o2 : List Lexeme} {id : ℕ} (nodes : List Node) (place : ℕ) → Front M nodes → R M i2 nodes o2 place →
+    {i o i2 o2 : List Lexeme} {id : ℕ} (nodes : List Node) (index : ℕ) → Front M nodes → R M i2 nodes o2 index →
     head i ≡ head i2 → (head o ≡ head o2 → closes_name i ≡ closes_name i2) →
-    ((V : List Node) → Front nodes V → Alike W V id place) → Again R W M i o i2 o2 id
-again_of nodes place grown read heads closes same =
-    record { nodes = nodes; place = place; grown = grown; read = read; heads = heads; closes = closes; alike = same }
+    ((V : List Node) → Front nodes V → Alike W V id index) → Again R W M i o i2 o2 id
+again_of nodes index grown read heads closes same =
+    record { nodes = nodes; place = index; grown = grown; read = read; heads = heads; closes = closes; alike = same }
 
 pub moved : {R : List Node → List Lexeme → List Node → List Lexeme → ℕ → Type 0} {W M : List Node}
     {i o i2 i3 o2 : List Lexeme} {id : ℕ} → i3 ≡ i2 → Again R W M i o i2 o2 id → Again R W M i o i3 o2 id
@@ -249,8 +249,8 @@ pub all_moved : {R : List Node → List Lexeme → List Node → List Lexeme →
     {i2 i3 o2 : List Lexeme} {ids : List ℕ} → i3 ≡ i2 → AllAgain R W M i2 o2 ids → AllAgain R W M i3 o2 ids
 all_moved {R} {W} {M} {i2} {i3} {o2} {ids} e a = subst (λ (t : List Lexeme). AllAgain R W M t o2 ids) (sym e) a
 
-pub alike-put : {W V : List Node} {ids places : List ℕ} {id place : ℕ} → AllAlike W V ids places → Alike W V id place →
-    AllAlike W V (ids ++ id ∷ []) (places ++ place ∷ [])
+pub alike-put : {W V : List Node} {ids places : List ℕ} {id index : ℕ} → AllAlike W V ids places → Alike W V id index →
+    AllAlike W V (ids ++ id ∷ []) (places ++ index ∷ [])
 alike-put none_alike a = one_alike a none_alike
 alike-put (one_alike b more) a = one_alike b (alike-put more a)
 
@@ -278,9 +278,9 @@ pub record Told (R : List Node → List Lexeme → List Node → List Lexeme →
   pub alike : (V : List Node) → Front nodes V → Alike W V id place
 
 pub told_of : {R : List Node → List Lexeme → List Node → List Lexeme → ℕ → Type 0} {W M : List Node}
-    {i2 o2 : List Lexeme} {id : ℕ} (nodes : List Node) (place : ℕ) → Front M nodes → R M i2 nodes o2 place →
-    ((V : List Node) → Front nodes V → Alike W V id place) → Told R W M i2 o2 id
-told_of nodes place grown read same = record { nodes = nodes; place = place; grown = grown; read = read; alike = same }
+    {i2 o2 : List Lexeme} {id : ℕ} (nodes : List Node) (index : ℕ) → Front M nodes → R M i2 nodes o2 index →
+    ((V : List Node) → Front nodes V → Alike W V id index) → Told R W M i2 o2 id
+told_of nodes index grown read same = record { nodes = nodes; place = index; grown = grown; read = read; alike = same }
 
 pub told_moved : {R : List Node → List Lexeme → List Node → List Lexeme → ℕ → Type 0} {W M : List Node}
     {i2 i3 o2 : List Lexeme} {id : ℕ} → i3 ≡ i2 → Told R W M i2 o2 id → Told R W M i3 o2 id
@@ -314,10 +314,10 @@ pub record MaybeTold (R : List Node → List Lexeme → List Node → List Lexem
   pub alike : (V : List Node) → Front nodes V → MaybeAlike W V id place
 
 pub maybe_told_of : {R : List Node → List Lexeme → List Node → List Lexeme → Option ℕ → Type 0} {W M : List Node}
-    {i2 o2 : List Lexeme} {id : Option ℕ} (nodes : List Node) (place : Option ℕ) → Front M nodes →
-    R M i2 nodes o2 place → ((V : List Node) → Front nodes V → MaybeAlike W V id place) → MaybeTold R W M i2 o2 id
-maybe_told_of nodes place grown read same =
-    record { nodes = nodes; place = place; grown = grown; read = read; alike = same }
+    {i2 o2 : List Lexeme} {id : Option ℕ} (nodes : List Node) (index : Option ℕ) → Front M nodes →
+    R M i2 nodes o2 index → ((V : List Node) → Front nodes V → MaybeAlike W V id index) → MaybeTold R W M i2 o2 id
+maybe_told_of nodes index grown read same =
+    record { nodes = nodes; place = index; grown = grown; read = read; alike = same }
 
 pub maybe_told_moved : {R : List Node → List Lexeme → List Node → List Lexeme → Option ℕ → Type 0} {W M : List Node}
     {i2 i3 o2 : List Lexeme} {id : Option ℕ} → i3 ≡ i2 → MaybeTold R W M i2 o2 id → MaybeTold R W M i3 o2 id

@@ -87,21 +87,21 @@ mutual
   post_lone (new_booleans d) c = absurd (false≢true c)
   post_lone (new_references d) c = absurd (false≢true c)
 
-lone_read : (M nodes : List Node) (i2 o2 : List Lexeme) (place : ℕ) (p q at : Pos) (name : List ℕ) →
+lone_read : (M nodes : List Node) (i2 o2 : List Lexeme) (index : ℕ) (p q at : Pos) (name : List ℕ) →
     i2 ≡ name_at name at ∷ sign_at sign_right_parenthesis q ∷ o2 → nodes ≡ put M (SimpleName at name) →
-    place ≡ length M → begins_unary1 o2 ≡ false → PostRead false Value p M (sign_at sign_left_parenthesis p ∷ i2)
-    (put nodes (Parenthesized p place)) o2 (length nodes)
-lone_read M nodes i2 o2 place p q at name e n s u = rw (e, n, s) (parenthesized_name u)
+    index ≡ length M → begins_unary1 o2 ≡ false → PostRead false Value p M (sign_at sign_left_parenthesis p ∷ i2)
+    (put nodes (Parenthesized p index)) o2 (length nodes)
+lone_read M nodes i2 o2 index p q at name e n s u = rw (e, n, s) (parenthesized_name u)
 
 -- any expression in parentheses
-in_parentheses_read : (M nodes : List Node) (i2 o2 : List Lexeme) (place : ℕ) (p q : Pos) (c : Bool) →
-    closes_name i2 ≡ c → Level 1 M i2 nodes (sign_at sign_right_parenthesis q ∷ o2) place → begins_unary1 o2 ≡ false →
-    PostRead false Value p M (sign_at sign_left_parenthesis p ∷ i2) (put nodes (Parenthesized p place)) o2
+in_parentheses_read : (M nodes : List Node) (i2 o2 : List Lexeme) (index : ℕ) (p q : Pos) (c : Bool) →
+    closes_name i2 ≡ c → Level 1 M i2 nodes (sign_at sign_right_parenthesis q ∷ o2) index → begins_unary1 o2 ≡ false →
+    PostRead false Value p M (sign_at sign_left_parenthesis p ∷ i2) (put nodes (Parenthesized p index)) o2
     (length nodes)
-in_parentheses_read M nodes i2 o2 place p q false e d u = parenthesized e d
-in_parentheses_read M nodes i2 o2 place p q true e d u =
+in_parentheses_read M nodes i2 o2 index p q false e d u = parenthesized e d
+in_parentheses_read M nodes i2 o2 index p q true e d u =
     let k = level_lone d e in
-    lone_read M nodes i2 o2 place p q k.at k.name k.begins k.nodes k.is u
+    lone_read M nodes i2 o2 index p q k.at k.name k.begins k.nodes k.is u
 
 -- ---- the operators of assignments
 

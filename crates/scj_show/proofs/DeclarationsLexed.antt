@@ -70,7 +70,7 @@ definition_lexed : {W : List Node} {id : ℕ} → ChildrenFirst 0 W → IsDefini
 unfolding own_symbols parts_of
 definition_lexed {W} {id} first d = go d.parent_first d.there
   where
-    go : (b : Bool) → slice_get W id ≡ Some (DefineScope d.place d.first d.second b) → IsLexed W id
+    go : (b : Bool) → slice_get W id ≡ Some (DefineScope d.position d.first d.second b) → IsLexed W id
     go false e = node_lexed first e refl (scopes_lexed (scope_lexed first d.of_first) (scope_lexed first d.of_second))
     go true e = node_lexed first e refl (scopes_lexed (scope_lexed first d.of_second) (scope_lexed first d.of_first))
 

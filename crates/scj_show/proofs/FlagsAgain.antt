@@ -28,18 +28,18 @@ use Rattle.scj_show.proofs.Printing.{symbols_of_parts-append}
 
 -- a scope's name among W
 pub record IsScope (W : List Node) (id : ℕ) : Type 0 where
-  pub place : Pos
+  pub position : Pos
   pub name : List ℕ
-  pub there : slice_get W id ≡ Some (ScopeName place name)
+  pub there : slice_get W id ≡ Some (ScopeName position name)
   pub is : is_name name ≡ true
 
 -- a scope's definition among W
 pub record IsDefinition (W : List Node) (id : ℕ) : Type 0 where
-  pub place : Pos
+  pub position : Pos
   pub first : ℕ
   pub second : ℕ
   pub parent_first : Bool
-  pub there : slice_get W id ≡ Some (DefineScope place first second parent_first)
+  pub there : slice_get W id ≡ Some (DefineScope position first second parent_first)
   pub of_first : IsScope W first
   pub of_second : IsScope W second
 
@@ -220,16 +220,16 @@ definition_again is_local W first file M i2 b t id name parent sn sm said same r
     }
 
 either_order : (is_local : Bool) (W : List Node) → ChildrenFirst 0 W →
-    (file : ℕ) (M : List Node) (i2 : List Lexeme) (b : List ℕ) (t : List Lexeme) (id : ℕ) (place : Pos) (x y : ℕ)
-    (parent_first : Bool) → slice_get W id ≡ Some (DefineScope place x y parent_first) → IsScope W x → IsScope W y →
+    (file : ℕ) (M : List Node) (i2 : List Lexeme) (b : List ℕ) (t : List Lexeme) (id : ℕ) (position : Pos) (x y : ℕ)
+    (parent_first : Bool) → slice_get W id ≡ Some (DefineScope position x y parent_first) → IsScope W x → IsScope W y →
     Row is_local W M i2 (laid file b (whole W id ++ []) t) None None None false false false →
     Row is_local W M i2 t (Some id) None None false false false
 unfolding symbols_of_parts symbols_of_part own_symbols parts_of scope_definition definition_symbols shape in_order
     children
-either_order is_local W first file M i2 b t id place x y true e sx sy row =
+either_order is_local W first file M i2 b t id position x y true e sx sy row =
     definition_again is_local W first file M i2 b t id y x sy sx (whole_at W _ _ first e)
     (λ V k n m q h an am. alike e h refl (one_alike an (one_alike am none_alike))) row
-either_order is_local W first file M i2 b t id place x y false e sx sy row =
+either_order is_local W first file M i2 b t id position x y false e sx sy row =
     definition_again is_local W first file M i2 b t id x y sx sy (whole_at W _ _ first e)
     (λ V k n m q h an am. alike e h refl (one_alike an (one_alike am none_alike))) row
 
@@ -241,7 +241,7 @@ with_define_again : (is_local : Bool) (W : List Node) → ChildrenFirst 0 W →
 unfolding maybe_symbols maybe symbols_of_parts symbols_of_part laid
 with_define_again is_local W first file M i2 b t None not_there row = row
 with_define_again is_local W first file M i2 b t (Some id) (is_there d) row =
-    either_order is_local W first file M i2 b t id d.place d.first d.second d.parent_first d.there d.of_first
+    either_order is_local W first file M i2 b t id d.position d.first d.second d.parent_first d.there d.of_first
     d.of_second row
 
 -- ---- modifiers, which stand before no local
@@ -256,7 +256,7 @@ with_static_again W file M i2 b t define scope runs_in true row =
     let f = row.flags in
     let more : FlagSet =
     record {
-      place = f.place;
+      position = f.position;
       define_scope = f.define_scope;
       scope = f.scope;
       runs_in = f.runs_in;
@@ -297,7 +297,7 @@ with_abstract_again W file M i2 b t define scope runs_in is_static true row =
     let f = row.flags in
     let more : FlagSet =
     record {
-      place = f.place;
+      position = f.position;
       define_scope = f.define_scope;
       scope = f.scope;
       runs_in = f.runs_in;
@@ -338,7 +338,7 @@ with_synchronized_again W file M i2 b t define scope runs_in is_static is_abstra
     let f = row.flags in
     let more : FlagSet =
     record {
-      place = f.place;
+      position = f.position;
       define_scope = f.define_scope;
       scope = f.scope;
       runs_in = f.runs_in;
@@ -438,23 +438,23 @@ plain_locals (define_scope_flag d h v w) = plain_locals d
 plain_locals (define_scope_flag_parent_first d h v w) = plain_locals d
 
 abbrev or_place : Pos → Option Pos → Option Pos
-or_place p place = elim place [ None ↦ Some p | Some q ↦ Some q ]
+or_place p position = elim position [ None ↦ Some p | Some q ↦ Some q ]
 
-placed_somewhere : {B : Type 0} (p : Pos) (place : Option Pos) → or_place p place ≡ None → B
+placed_somewhere : {B : Type 0} (p : Pos) (position : Option Pos) → or_place p position ≡ None → B
 placed_somewhere p None e = some_is_none p (sym e)
 placed_somewhere p (Some q) e = some_is_none q (sym e)
 
 -- flags without a place have no effect
 bare_flags : {is_local : Bool} {N N1 : List Node} {i o : List Lexeme} {flags : FlagSet} →
-    FlagRow is_local N i N1 o flags → flags.place ≡ None → has_effect flags ≡ false
+    FlagRow is_local N i N1 o flags → flags.position ≡ None → has_effect flags ≡ false
 unfolding placed with_scope with_runs_in with_define_scope has_effect
 bare_flags no_flag e = refl
-bare_flags (modifier {more = more} {p = p} d h) e = placed_somewhere p more.place e
-bare_flags (effectless {flags = flags} {p = p} d h a) e = placed_somewhere p flags.place e
-bare_flags (scope_flag {flags = flags} {p = p} d h v) e = placed_somewhere p flags.place e
-bare_flags (runs_in_flag {flags = flags} {p = p} d h v) e = placed_somewhere p flags.place e
-bare_flags (define_scope_flag {flags = flags} {p = p} d h v w) e = placed_somewhere p flags.place e
-bare_flags (define_scope_flag_parent_first {flags = flags} {p = p} d h v w) e = placed_somewhere p flags.place e
+bare_flags (modifier {more = more} {p = p} d h) e = placed_somewhere p more.position e
+bare_flags (effectless {flags = flags} {p = p} d h a) e = placed_somewhere p flags.position e
+bare_flags (scope_flag {flags = flags} {p = p} d h v) e = placed_somewhere p flags.position e
+bare_flags (runs_in_flag {flags = flags} {p = p} d h v) e = placed_somewhere p flags.position e
+bare_flags (define_scope_flag {flags = flags} {p = p} d h v w) e = placed_somewhere p flags.position e
+bare_flags (define_scope_flag_parent_first {flags = flags} {p = p} d h v w) e = placed_somewhere p flags.position e
 
 pub record Facts (W : List Node) (flags : FlagSet) : Type 0 where
   pub define : MaybeIs (IsDefinition W) flags.define_scope
@@ -468,9 +468,9 @@ value_front qualified_scope = front-one _
 
 value_is : {W N N1 : List Node} {i o : List Lexeme} {id : ℕ} → ScopeValue N i N1 o id → AreOfSource i → Front N1 W →
     IsScope W id
-value_is (quoted_scope h) src f = record { place = _; name = _; there = front-at _ _ f; is = h }
-value_is bare_scope src f = record { place = _; name = _; there = front-at _ _ f; is = name_first src }
-value_is qualified_scope src f = record { place = _; name = _; there = front-at _ _ f; is = name_first (behind2 src) }
+value_is (quoted_scope h) src f = record { position = _; name = _; there = front-at _ _ f; is = h }
+value_is bare_scope src f = record { position = _; name = _; there = front-at _ _ f; is = name_first src }
+value_is qualified_scope src f = record { position = _; name = _; there = front-at _ _ f; is = name_first (behind2 src) }
 
 pub row_front : {is_local : Bool} {N N1 : List Node} {i o : List Lexeme} {flags : FlagSet} →
     FlagRow is_local N i N1 o flags → Front N N1
@@ -518,7 +518,7 @@ facts (define_scope_flag d h v w) src f =
     record {
       define = is_there
           (record {
-            place = _;
+            position = _;
             first = _;
             second = _;
             parent_first = _;
@@ -537,7 +537,7 @@ facts (define_scope_flag_parent_first d h v w) src f =
     record {
       define = is_there
           (record {
-            place = _;
+            position = _;
             first = _;
             second = _;
             parent_first = _;
@@ -599,9 +599,9 @@ words_again false W file M i2 b1 b2 b3 o2 flags fit row =
     (with_static_again W file M i2 b1 _ flags.define_scope flags.scope flags.runs_in flags.is_static row))
 
 abbrev flag_set : Option Pos → Option ℕ → Option ℕ → Option ℕ → Bool → Bool → Bool → FlagSet
-flag_set place define scope runs_in is_static is_abstract is_synchronized =
+flag_set position define scope runs_in is_static is_abstract is_synchronized =
     record {
-      place = place;
+      position = position;
       define_scope = define;
       scope = scope;
       runs_in = runs_in;
@@ -615,17 +615,17 @@ flag_set place define scope runs_in is_static is_abstract is_synchronized =
       is_synchronized = is_synchronized;
     }
 
-effect_there : (place : Option Pos) (x y z : Option ℕ) (a b c : Bool) →
-    has_effect (flag_set place x y z a b c) ≡ has_effect (flag_set None (there x) (there y) (there z) a b c)
+effect_there : (position : Option Pos) (x y z : Option ℕ) (a b c : Bool) →
+    has_effect (flag_set position x y z a b c) ≡ has_effect (flag_set None (there x) (there y) (there z) a b c)
 unfolding has_effect
-effect_there place None None None a b c = refl
-effect_there place None None (Some z) a b c = refl
-effect_there place None (Some y) None a b c = refl
-effect_there place None (Some y) (Some z) a b c = refl
-effect_there place (Some x) None None a b c = refl
-effect_there place (Some x) None (Some z) a b c = refl
-effect_there place (Some x) (Some y) None a b c = refl
-effect_there place (Some x) (Some y) (Some z) a b c = refl
+effect_there position None None None a b c = refl
+effect_there position None None (Some z) a b c = refl
+effect_there position None (Some y) None a b c = refl
+effect_there position None (Some y) (Some z) a b c = refl
+effect_there position (Some x) None None a b c = refl
+effect_there position (Some x) None (Some z) a b c = refl
+effect_there position (Some x) (Some y) None a b c = refl
+effect_there position (Some x) (Some y) (Some z) a b c = refl
 
 effect_is : (flags : FlagSet) →
     has_effect flags ≡ has_effect
@@ -633,7 +633,7 @@ effect_is : (flags : FlagSet) →
     flags.is_abstract flags.is_synchronized)
 unfolding has_effect
 effect_is flags =
-    effect_there flags.place flags.define_scope flags.scope flags.runs_in flags.is_static flags.is_abstract
+    effect_there flags.position flags.define_scope flags.scope flags.runs_in flags.is_static flags.is_abstract
     flags.is_synchronized
 
 same_effect : (f g : FlagSet) → there f.define_scope ≡ there g.define_scope → there f.scope ≡ there g.scope →
@@ -651,24 +651,24 @@ pub record HasNode (flags : FlagSet) (node : Node) : Type 0 where
   pub at : Pos
   pub is : node ≡ flags_at at flags
 
-has_node_at : (flags : FlagSet) (node : Node) (e : Bool) (place : Option Pos) → has_effect flags ≡ e →
-    (if e then elim place [ None ↦ None | Some p ↦ Some (flags_at p flags) ] else None) ≡ Some node → HasNode flags node
-has_node_at flags node false place is h = some_is_none node h
+has_node_at : (flags : FlagSet) (node : Node) (e : Bool) (position : Option Pos) → has_effect flags ≡ e →
+    (if e then elim position [ None ↦ None | Some p ↦ Some (flags_at p flags) ] else None) ≡ Some node → HasNode flags node
+has_node_at flags node false position is h = some_is_none node h
 has_node_at flags node true None is h = some_is_none node h
 has_node_at flags node true (Some p) is h = let same : node ≡ flags_at p flags =
     cc in record { effect = is; at = p; is = same }
 
 pub has_node : (flags : FlagSet) (node : Node) → flags_node flags ≡ Some node → HasNode flags node
 unfolding flags_node
-has_node flags node h = has_node_at flags node (has_effect flags) flags.place refl h
+has_node flags node h = has_node_at flags node (has_effect flags) flags.position refl h
 
-node_at_place : (flags : FlagSet) (place : Option Pos) → flags.place ≡ place → has_effect flags ≡ true →
-    (place ≡ None → has_effect flags ≡ false) → (p : Pos) × (flags_node flags ≡ Some (flags_at p flags))
+node_at_place : (flags : FlagSet) (position : Option Pos) → flags.position ≡ position → has_effect flags ≡ true →
+    (position ≡ None → has_effect flags ≡ false) → (p : Pos) × (flags_node flags ≡ Some (flags_at p flags))
 unfolding flags_node
 node_at_place flags None is e none = absurd (false≢true (sym (none refl) ∙ e))
 node_at_place flags (Some p) is e none = (
   p,
-  ap (λ (t : Bool). if t then elim flags.place [ None ↦ None | Some q ↦ Some (flags_at q flags) ] else None) e
+  ap (λ (t : Bool). if t then elim flags.position [ None ↦ None | Some q ↦ Some (flags_at q flags) ] else None) e
       ∙ ap (λ (t : Option Pos). elim t [ None ↦ None | Some q ↦ Some (flags_at q flags) ]) is,
 )
 
@@ -748,7 +748,7 @@ some_flags_again is_local W first file M b o2 n p flags fit known effect at =
     (there-same (row.same_scope row.nodes front-none)) (there-same (row.same_runs_in row.nodes front-none))
     (sym row.same_static) (sym row.same_abstract) (sym row.same_synchronized) in
     let found : (q : Pos) × (flags_node row.flags ≡ Some (flags_at q row.flags)) =
-    node_at_place row.flags row.flags.place refl (sym same ∙ effect) (bare_flags row.read) in
+    node_at_place row.flags row.flags.position refl (sym same ∙ effect) (bare_flags row.read) in
     record {
       nodes = row.nodes;
       flags = row.flags;

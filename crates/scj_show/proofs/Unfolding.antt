@@ -131,61 +131,61 @@ ids-object_and_dot (Some id) = refl
 parts_below : (n : ℕ) (node : Node) → AllBelow n (children node) → AllBelow n (ids_of (parts_of node))
 unfolding ids_of children parts_of class_parts flag_parts class_type_parts field_parts method_parts constructor_parts
     super_call_parts block_end return_parts call_parts scope_definition AllBelow
-parts_below n (Class place name flags header members) h = simp (ids-append, ids-maybe, ids-each, append-nil) h
-parts_below n (Flags place define_scope scope runs_in is_static is_abstract is_synchronized) h =
+parts_below n (Class position name flags header members) h = simp (ids-append, ids-maybe, ids-each, append-nil) h
+parts_below n (Flags position define_scope scope runs_in is_static is_abstract is_synchronized) h =
     simp (ids-append, ids-maybe, ids-annotation, ids-word_if_set, append-nil) h
-parts_below n (DefineScope place first second true) h = (h.1.0, (h.0, tt))
-parts_below n (DefineScope place first second false) h = h
-parts_below n (ScopeName place name) h = h
-parts_below n (Supers place superclass interfaces) h = simp (ids-append, ids-extended, ids-implemented) h
-parts_below n (SuperType place name argument) h = simp ids-argument_in_brackets h
-parts_below n (TypeArgument place name) h = h
-parts_below n (IntType place is_array) h = simp ids-brackets h
-parts_below n (BooleanType place is_array) h = simp ids-brackets h
-parts_below n (ClassType place name argument is_array) h =
+parts_below n (DefineScope position first second true) h = (h.1.0, (h.0, tt))
+parts_below n (DefineScope position first second false) h = h
+parts_below n (ScopeName position name) h = h
+parts_below n (Supers position superclass interfaces) h = simp (ids-append, ids-extended, ids-implemented) h
+parts_below n (SuperType position name argument) h = simp ids-argument_in_brackets h
+parts_below n (TypeArgument position name) h = h
+parts_below n (IntType position is_array) h = simp ids-brackets h
+parts_below n (BooleanType position is_array) h = simp ids-brackets h
+parts_below n (ClassType position name argument is_array) h =
     simp (ids-append, ids-argument_in_brackets, ids-brackets, append-nil) h
-parts_below n (VoidType place) h = h
-parts_below n (LongType place) h = h
-parts_below n (Field place name flags declared_type equals value) h =
+parts_below n (VoidType position) h = h
+parts_below n (LongType position) h = h
+parts_below n (Field position name flags declared_type equals value) h =
     simp (ids-append, ids-maybe, ids-assigned, append-nil) h
-parts_below n (Method place name flags result_type parameters body) h =
+parts_below n (Method position name flags result_type parameters body) h =
     simp (ids-append, ids-maybe, ids-parameters_or_none, ids-body_or_semicolon) h
-parts_below n (Constructor place name flags parameters super_call body) h =
+parts_below n (Constructor position name flags parameters super_call body) h =
     simp (ids-append, ids-maybe, ids-parameters_or_none, ids-body_with_call) h
-parts_below n (Parameters place list) h = simp ids-in_parentheses h
-parts_below n (Parameter place name flags declared_type) h = simp (ids-append, ids-maybe) h
-parts_below n (SuperCall place arguments) h = simp (ids-append, ids-in_parentheses, append-nil) h
-parts_below n (Block place statements) h = simp (ids-append, ids-each, append-nil) h
-parts_below n (Empty place) h = h
-parts_below n (Local place name flags declared_type) h = simp (ids-append, ids-maybe) h
-parts_below n (LocalWithValue place name_place name flags declared_type value) h = simp (ids-append, ids-maybe) h
-parts_below n (Assign place target value) h = h
-parts_below n (ExpressionStatement place expression) h = h
-parts_below n (If place condition then_part else_part) h = simp ids-alternative h
-parts_below n (While place condition body) h = h
-parts_below n (For place first condition step body) h = h
-parts_below n (Return place value) h = simp (ids-append, ids-maybe, append-nil) h
-parts_below n (Binary place operator left right) h = h
-parts_below n (Unary place operator operand) h = h
-parts_below n (Cast place name_place name operand) h = h
-parts_below n (Parenthesized place inner) h = h
-parts_below n (SimpleName place name) h = h
-parts_below n (FieldAccess place name object) h = h
-parts_below n (Call place name object arguments) h = simp (ids-append, ids-object_and_dot, ids-in_parentheses) h
-parts_below n (Element place array index) h = h
-parts_below n (New place name_place name arguments) h = simp ids-in_parentheses h
-parts_below n (NewArray place element length) h = h
-parts_below n (Text place text) h = h
-parts_below n (Number place value is_negative) h = simp (ids-append, ids-sign_if_set) h
-parts_below n (True place) h = h
-parts_below n (False place) h = h
-parts_below n (Null place) h = h
-parts_below n (This place) h = h
+parts_below n (Parameters position list) h = simp ids-in_parentheses h
+parts_below n (Parameter position name flags declared_type) h = simp (ids-append, ids-maybe) h
+parts_below n (SuperCall position arguments) h = simp (ids-append, ids-in_parentheses, append-nil) h
+parts_below n (Block position statements) h = simp (ids-append, ids-each, append-nil) h
+parts_below n (Empty position) h = h
+parts_below n (Local position name flags declared_type) h = simp (ids-append, ids-maybe) h
+parts_below n (LocalWithValue position name_place name flags declared_type value) h = simp (ids-append, ids-maybe) h
+parts_below n (Assign position target value) h = h
+parts_below n (ExpressionStatement position expression) h = h
+parts_below n (If position condition then_part else_part) h = simp ids-alternative h
+parts_below n (While position condition body) h = h
+parts_below n (For position first condition step body) h = h
+parts_below n (Return position value) h = simp (ids-append, ids-maybe, append-nil) h
+parts_below n (Binary position operator left right) h = h
+parts_below n (Unary position operator operand) h = h
+parts_below n (Cast position name_place name operand) h = h
+parts_below n (Parenthesized position inner) h = h
+parts_below n (SimpleName position name) h = h
+parts_below n (FieldAccess position name object) h = h
+parts_below n (Call position name object arguments) h = simp (ids-append, ids-object_and_dot, ids-in_parentheses) h
+parts_below n (Element position array index) h = h
+parts_below n (New position name_place name arguments) h = simp ids-in_parentheses h
+parts_below n (NewArray position element length) h = h
+parts_below n (Text position text) h = h
+parts_below n (Number position value is_negative) h = simp (ids-append, ids-sign_if_set) h
+parts_below n (True position) h = h
+parts_below n (False position) h = h
+parts_below n (Null position) h = h
+parts_below n (This position) h = h
 
 bare_below : (n : ℕ) (node : Node) → AllBelow n (children node) → AllBelow n (ids_of (bare_parts node))
 unfolding ids_of children bare_parts block_end AllBelow
-bare_below n (Block place statements) h = simp (ids-append, ids-each, append-nil) h
-bare_below n (Assign place target value) h = h
+bare_below n (Block position statements) h = simp (ids-append, ids-each, append-nil) h
+bare_below n (Assign position target value) h = h
 bare_below n _ h = tt
 
 -- ---- what is said of the nodes below alone

@@ -19,58 +19,58 @@ counted ids = map (λ (id : ℕ). 0) ids
 
 -- a node without its places and without the numbers of its children
 unfoldable pub shape : Node → Node
-shape (Class place name flags header members) = Class nowhere name (there flags) (there header) (counted members)
-shape (Flags place define_scope scope runs_in is_static is_abstract is_synchronized) =
+shape (Class position name flags header members) = Class nowhere name (there flags) (there header) (counted members)
+shape (Flags position define_scope scope runs_in is_static is_abstract is_synchronized) =
     Flags nowhere (there define_scope) (there scope) (there runs_in) is_static is_abstract is_synchronized
-shape (DefineScope place first second parent_first) = DefineScope nowhere 0 0 false
-shape (ScopeName place name) = ScopeName nowhere name
-shape (Supers place superclass interfaces) = Supers nowhere (there superclass) (counted interfaces)
-shape (SuperType place name argument) = SuperType nowhere name (there argument)
-shape (TypeArgument place name) = TypeArgument nowhere name
-shape (IntType place is_array) = IntType nowhere is_array
-shape (BooleanType place is_array) = BooleanType nowhere is_array
-shape (ClassType place name argument is_array) = ClassType nowhere name (there argument) is_array
-shape (VoidType place) = VoidType nowhere
-shape (LongType place) = LongType nowhere
-shape (Field place name flags declared_type equals value) = Field nowhere name (there flags) 0 None (there value)
-shape (Method place name flags result_type parameters body) =
+shape (DefineScope position first second parent_first) = DefineScope nowhere 0 0 false
+shape (ScopeName position name) = ScopeName nowhere name
+shape (Supers position superclass interfaces) = Supers nowhere (there superclass) (counted interfaces)
+shape (SuperType position name argument) = SuperType nowhere name (there argument)
+shape (TypeArgument position name) = TypeArgument nowhere name
+shape (IntType position is_array) = IntType nowhere is_array
+shape (BooleanType position is_array) = BooleanType nowhere is_array
+shape (ClassType position name argument is_array) = ClassType nowhere name (there argument) is_array
+shape (VoidType position) = VoidType nowhere
+shape (LongType position) = LongType nowhere
+shape (Field position name flags declared_type equals value) = Field nowhere name (there flags) 0 None (there value)
+shape (Method position name flags result_type parameters body) =
     Method nowhere name (there flags) 0 (there parameters) (there body)
-shape (Constructor place name flags parameters super_call body) =
+shape (Constructor position name flags parameters super_call body) =
     Constructor nowhere name (there flags) (there parameters) (there super_call) 0
-shape (Parameters place list) = Parameters nowhere (counted list)
-shape (Parameter place name flags declared_type) = Parameter nowhere name (there flags) 0
-shape (SuperCall place arguments) = SuperCall nowhere (counted arguments)
-shape (Block place statements) = Block nowhere (counted statements)
-shape (Empty place) = Empty nowhere
-shape (Local place name flags declared_type) = Local nowhere name (there flags) 0
-shape (LocalWithValue place name_place name flags declared_type value) =
+shape (Parameters position list) = Parameters nowhere (counted list)
+shape (Parameter position name flags declared_type) = Parameter nowhere name (there flags) 0
+shape (SuperCall position arguments) = SuperCall nowhere (counted arguments)
+shape (Block position statements) = Block nowhere (counted statements)
+shape (Empty position) = Empty nowhere
+shape (Local position name flags declared_type) = Local nowhere name (there flags) 0
+shape (LocalWithValue position name_place name flags declared_type value) =
     LocalWithValue nowhere nowhere name (there flags) 0 0
-shape (Assign place target value) = Assign nowhere 0 0
-shape (ExpressionStatement place expression) = ExpressionStatement nowhere 0
-shape (If place condition then_part else_part) = If nowhere 0 0 (there else_part)
-shape (While place condition body) = While nowhere 0 0
-shape (For place first condition step body) = For nowhere 0 0 0 0
-shape (Return place value) = Return nowhere (there value)
-shape (Binary place operator left right) = Binary nowhere operator 0 0
-shape (Unary place operator operand) = Unary nowhere operator 0
-shape (Cast place name_place name operand) = Cast nowhere nowhere name 0
-shape (Parenthesized place inner) = Parenthesized nowhere 0
-shape (SimpleName place name) = SimpleName nowhere name
-shape (FieldAccess place name object) = FieldAccess nowhere name 0
-shape (Call place name object arguments) = Call nowhere name (there object) (counted arguments)
-shape (Element place array index) = Element nowhere 0 0
-shape (New place name_place name arguments) = New nowhere nowhere name (counted arguments)
-shape (NewArray place element length) = NewArray nowhere 0 0
-shape (Text place text) = Text nowhere text
-shape (Number place value is_negative) = Number nowhere value is_negative
-shape (True place) = True nowhere
-shape (False place) = False nowhere
-shape (Null place) = Null nowhere
-shape (This place) = This nowhere
+shape (Assign position target value) = Assign nowhere 0 0
+shape (ExpressionStatement position expression) = ExpressionStatement nowhere 0
+shape (If position condition then_part else_part) = If nowhere 0 0 (there else_part)
+shape (While position condition body) = While nowhere 0 0
+shape (For position first condition step body) = For nowhere 0 0 0 0
+shape (Return position value) = Return nowhere (there value)
+shape (Binary position operator left right) = Binary nowhere operator 0 0
+shape (Unary position operator operand) = Unary nowhere operator 0
+shape (Cast position name_place name operand) = Cast nowhere nowhere name 0
+shape (Parenthesized position inner) = Parenthesized nowhere 0
+shape (SimpleName position name) = SimpleName nowhere name
+shape (FieldAccess position name object) = FieldAccess nowhere name 0
+shape (Call position name object arguments) = Call nowhere name (there object) (counted arguments)
+shape (Element position array index) = Element nowhere 0 0
+shape (New position name_place name arguments) = New nowhere nowhere name (counted arguments)
+shape (NewArray position element length) = NewArray nowhere 0 0
+shape (Text position text) = Text nowhere text
+shape (Number position value is_negative) = Number nowhere value is_negative
+shape (True position) = True nowhere
+shape (False position) = False nowhere
+shape (Null position) = Null nowhere
+shape (This position) = This nowhere
 
 -- the children of a node, of a scope's definition the name first
 unfoldable pub in_order : Node → List ℕ
-in_order (DefineScope place first second true) = second ∷ first ∷ []
+in_order (DefineScope position first second true) = second ∷ first ∷ []
 in_order node = children node
 
 mutual

@@ -146,64 +146,64 @@ call_parts name object arguments = object_and_dot object ++ ((Named name ∷ [])
 
 -- the parts of a node; an assignment with the `;` that makes it a statement
 unfoldable pub parts_of : Node → List Part
-parts_of (Class place name flags header members) = class_parts name flags header members
-parts_of (Flags place define_scope scope runs_in is_static is_abstract is_synchronized) =
+parts_of (Class position name flags header members) = class_parts name flags header members
+parts_of (Flags position define_scope scope runs_in is_static is_abstract is_synchronized) =
     flag_parts define_scope scope runs_in is_static is_abstract is_synchronized
-parts_of (DefineScope place first second parent_first) =
+parts_of (DefineScope position first second parent_first) =
     if parent_first then scope_definition second first else scope_definition first second
-parts_of (ScopeName place name) = Quoted name ∷ []
-parts_of (Supers place superclass interfaces) = extended superclass ++ implemented interfaces
-parts_of (SuperType place name argument) = (Named name ∷ []) ++ argument_in_brackets argument
-parts_of (TypeArgument place name) = Named name ∷ []
-parts_of (IntType place is_array) = (Word word_int ∷ []) ++ brackets is_array
-parts_of (BooleanType place is_array) = (Word word_boolean ∷ []) ++ brackets is_array
-parts_of (ClassType place name argument is_array) = class_type_parts name argument is_array
-parts_of (VoidType place) = Word word_void ∷ []
-parts_of (LongType place) = Word word_long ∷ []
-parts_of (Field place name flags declared_type equals value) = field_parts name flags declared_type value
-parts_of (Method place name flags result_type parameters body) = method_parts name flags result_type parameters body
-parts_of (Constructor place name flags parameters super_call body) =
+parts_of (ScopeName position name) = Quoted name ∷ []
+parts_of (Supers position superclass interfaces) = extended superclass ++ implemented interfaces
+parts_of (SuperType position name argument) = (Named name ∷ []) ++ argument_in_brackets argument
+parts_of (TypeArgument position name) = Named name ∷ []
+parts_of (IntType position is_array) = (Word word_int ∷ []) ++ brackets is_array
+parts_of (BooleanType position is_array) = (Word word_boolean ∷ []) ++ brackets is_array
+parts_of (ClassType position name argument is_array) = class_type_parts name argument is_array
+parts_of (VoidType position) = Word word_void ∷ []
+parts_of (LongType position) = Word word_long ∷ []
+parts_of (Field position name flags declared_type equals value) = field_parts name flags declared_type value
+parts_of (Method position name flags result_type parameters body) = method_parts name flags result_type parameters body
+parts_of (Constructor position name flags parameters super_call body) =
     constructor_parts name flags parameters super_call body
-parts_of (Parameters place list) = in_parentheses list
-parts_of (Parameter place name flags declared_type) = maybe flags ++ (Whole declared_type ∷ Named name ∷ [])
-parts_of (SuperCall place arguments) = super_call_parts arguments
-parts_of (Block place statements) = (Sign sign_left_brace ∷ []) ++ block_end statements
-parts_of (Empty place) = Sign sign_semicolon ∷ []
-parts_of (Local place name flags declared_type) =
+parts_of (Parameters position list) = in_parentheses list
+parts_of (Parameter position name flags declared_type) = maybe flags ++ (Whole declared_type ∷ Named name ∷ [])
+parts_of (SuperCall position arguments) = super_call_parts arguments
+parts_of (Block position statements) = (Sign sign_left_brace ∷ []) ++ block_end statements
+parts_of (Empty position) = Sign sign_semicolon ∷ []
+parts_of (Local position name flags declared_type) =
     maybe flags ++ (Whole declared_type ∷ Named name ∷ Sign sign_semicolon ∷ [])
-parts_of (LocalWithValue place name_place name flags declared_type value) =
+parts_of (LocalWithValue position name_place name flags declared_type value) =
     maybe flags ++ (Whole declared_type ∷ Named name ∷ Sign sign_assign ∷ Whole value ∷ Sign sign_semicolon ∷ [])
-parts_of (Assign place target value) = Whole target ∷ Sign sign_assign ∷ Whole value ∷ Sign sign_semicolon ∷ []
-parts_of (ExpressionStatement place expression) = Whole expression ∷ Sign sign_semicolon ∷ []
-parts_of (If place condition then_part else_part) =
+parts_of (Assign position target value) = Whole target ∷ Sign sign_assign ∷ Whole value ∷ Sign sign_semicolon ∷ []
+parts_of (ExpressionStatement position expression) = Whole expression ∷ Sign sign_semicolon ∷ []
+parts_of (If position condition then_part else_part) =
     (Word word_if ∷ Sign sign_left_parenthesis ∷ Whole condition ∷ Sign sign_right_parenthesis ∷ Whole then_part ∷ [])
     ++ alternative else_part
-parts_of (While place condition body) = Word word_while ∷ Sign sign_left_parenthesis ∷ Whole condition
+parts_of (While position condition body) = Word word_while ∷ Sign sign_left_parenthesis ∷ Whole condition
     ∷ Sign sign_right_parenthesis ∷ Whole body ∷ []
-parts_of (For place first condition step body) = Word word_for ∷ Sign sign_left_parenthesis ∷ Whole first
+parts_of (For position first condition step body) = Word word_for ∷ Sign sign_left_parenthesis ∷ Whole first
     ∷ Whole condition ∷ Sign sign_semicolon ∷ Bare step ∷ Sign sign_right_parenthesis ∷ Whole body ∷ []
-parts_of (Return place value) = return_parts value
-parts_of (Binary place operator left right) = Whole left ∷ Sign operator ∷ Whole right ∷ []
-parts_of (Unary place operator operand) = Sign operator ∷ Whole operand ∷ []
-parts_of (Cast place name_place name operand) = Sign sign_left_parenthesis ∷ Named name ∷ Sign sign_right_parenthesis
+parts_of (Return position value) = return_parts value
+parts_of (Binary position operator left right) = Whole left ∷ Sign operator ∷ Whole right ∷ []
+parts_of (Unary position operator operand) = Sign operator ∷ Whole operand ∷ []
+parts_of (Cast position name_place name operand) = Sign sign_left_parenthesis ∷ Named name ∷ Sign sign_right_parenthesis
     ∷ Whole operand ∷ []
-parts_of (Parenthesized place inner) = Sign sign_left_parenthesis ∷ Whole inner ∷ Sign sign_right_parenthesis ∷ []
-parts_of (SimpleName place name) = Named name ∷ []
-parts_of (FieldAccess place name object) = Whole object ∷ Sign sign_dot ∷ Named name ∷ []
-parts_of (Call place name object arguments) = call_parts name object arguments
-parts_of (Element place array index) = Whole array ∷ Sign sign_left_bracket ∷ Whole index ∷ Sign sign_right_bracket ∷ []
-parts_of (New place name_place name arguments) = (Word word_new ∷ Named name ∷ []) ++ in_parentheses arguments
-parts_of (NewArray place element length) = Word word_new ∷ Whole element ∷ Sign sign_left_bracket ∷ Whole length
+parts_of (Parenthesized position inner) = Sign sign_left_parenthesis ∷ Whole inner ∷ Sign sign_right_parenthesis ∷ []
+parts_of (SimpleName position name) = Named name ∷ []
+parts_of (FieldAccess position name object) = Whole object ∷ Sign sign_dot ∷ Named name ∷ []
+parts_of (Call position name object arguments) = call_parts name object arguments
+parts_of (Element position array index) = Whole array ∷ Sign sign_left_bracket ∷ Whole index ∷ Sign sign_right_bracket ∷ []
+parts_of (New position name_place name arguments) = (Word word_new ∷ Named name ∷ []) ++ in_parentheses arguments
+parts_of (NewArray position element length) = Word word_new ∷ Whole element ∷ Sign sign_left_bracket ∷ Whole length
     ∷ Sign sign_right_bracket ∷ []
-parts_of (Text place text) = []
-parts_of (Number place value is_negative) = sign_if_set is_negative sign_minus ++ (Digits value ∷ [])
-parts_of (True place) = Word word_true ∷ []
-parts_of (False place) = Word word_false ∷ []
-parts_of (Null place) = Word word_null ∷ []
-parts_of (This place) = Word word_this ∷ []
+parts_of (Text position text) = []
+parts_of (Number position value is_negative) = sign_if_set is_negative sign_minus ++ (Digits value ∷ [])
+parts_of (True position) = Word word_true ∷ []
+parts_of (False position) = Word word_false ∷ []
+parts_of (Null position) = Word word_null ∷ []
+parts_of (This position) = Word word_this ∷ []
 
 -- of a block the parts behind its `{`, and of an assignment those before its `;`
 unfoldable pub bare_parts : Node → List Part
-bare_parts (Block place statements) = block_end statements
-bare_parts (Assign place target value) = Whole target ∷ Sign sign_assign ∷ Whole value ∷ []
+bare_parts (Block position statements) = block_end statements
+bare_parts (Assign position target value) = Whole target ∷ Sign sign_assign ∷ Whole value ∷ []
 bare_parts _ = []

@@ -60,7 +60,7 @@ symbols_of_parts sub (part ∷ parts) = symbols_of_part sub part ++ symbols_of_p
 
 -- a text is its own lexeme
 unfoldable pub own_symbols : Node → List Symbol
-own_symbols (Text place text) = a_text text ∷ []
+own_symbols (Text position text) = a_text text ∷ []
 own_symbols _ = []
 
 abbrev pub nothing : Written

@@ -101,7 +101,7 @@ fn print_node(
     ensures smaller { OnOk result
         (work program.now.nodes parts.new < size_of_part (size program.now.nodes) (Part.Whole id)) }
 {
-    if id.place() >= program.len() {
+    if id.number() >= program.len() {
         return Ok(());
     }
     let node = program.node(id);
@@ -118,7 +118,7 @@ fn print_bare(program: &Program, id: NodeId, parts: &mut Parts) -> Result<(), Me
     ensures smaller { OnOk result
         (work program.now.nodes parts.new < size_of_part (size program.now.nodes) (Part.Bare id)) }
 {
-    if id.place() >= program.len() {
+    if id.number() >= program.len() {
         return Ok(());
     }
     put_bare_parts(parts, program.node(id))?;

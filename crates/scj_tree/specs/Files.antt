@@ -17,11 +17,11 @@ pub record FileRead (before : Forest) (lexemes : List Lexeme) (after : Forest) :
   pub files : after.files ≡ before.files ++ classes ∷ []
 
 -- the lexemes are a file, and the place is the name of its first method or constructor whose body is too deep
-pub record IsTooDeep (before : List Node) (lexemes : List Lexeme) (place : Pos) : Type 0 where
+pub record IsTooDeep (before : List Node) (lexemes : List Lexeme) (position : Pos) : Type 0 where
   pub after : List Node
   pub classes : List ℕ
   pub tree : Tree before lexemes after classes
-  pub is_high : too_deep (length before) after ≡ Some place
+  pub is_high : too_deep (length before) after ≡ Some position
 
 -- P1 and P2, of the lexemes of a file that is read behind the nodes of the files before it
 pub data BreaksGrammar (before : List Node) (lexemes : List Lexeme) (found : Found) : Type 0 where

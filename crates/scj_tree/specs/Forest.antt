@@ -40,7 +40,7 @@ ChildrenFirst from (node ∷ nodes) = AllBelow from (children node) × ChildrenF
 
 -- the node is a class
 pub data IsClass : Node → Type 0 where
-  is_class : {place name flags header members : _} → IsClass (Class place name flags header members)
+  is_class : {position name flags header members : _} → IsClass (Class position name flags header members)
 
 -- each number is a class's
 unfoldable pub AllClasses : List Node → List ℕ → Type 0

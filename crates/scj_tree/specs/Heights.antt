@@ -10,31 +10,31 @@ use Rattle.scj_tree.specs.Shape.{place_of, children}
 
 -- statements and expressions count, a text does not; nor do flags, types and the call of a superclass's constructor
 unfoldable pub weight : Node → ℕ
-weight (Block place statements) = 1
-weight (Empty place) = 1
-weight (Local place name flags declared_type) = 1
-weight (LocalWithValue place name_place name flags declared_type value) = 1
-weight (Assign place target value) = 1
-weight (ExpressionStatement place expression) = 1
-weight (If place condition then_part else_part) = 1
-weight (While place condition body) = 1
-weight (For place first condition step body) = 1
-weight (Return place value) = 1
-weight (Binary place operator left right) = 1
-weight (Unary place operator operand) = 1
-weight (Cast place name_place name operand) = 1
-weight (Parenthesized place inner) = 1
-weight (SimpleName place name) = 1
-weight (FieldAccess place name object) = 1
-weight (Call place name object arguments) = 1
-weight (Element place array index) = 1
-weight (New place name_place name arguments) = 1
-weight (NewArray place element length) = 1
-weight (Number place value is_negative) = 1
-weight (True place) = 1
-weight (False place) = 1
-weight (Null place) = 1
-weight (This place) = 1
+weight (Block position statements) = 1
+weight (Empty position) = 1
+weight (Local position name flags declared_type) = 1
+weight (LocalWithValue position name_place name flags declared_type value) = 1
+weight (Assign position target value) = 1
+weight (ExpressionStatement position expression) = 1
+weight (If position condition then_part else_part) = 1
+weight (While position condition body) = 1
+weight (For position first condition step body) = 1
+weight (Return position value) = 1
+weight (Binary position operator left right) = 1
+weight (Unary position operator operand) = 1
+weight (Cast position name_place name operand) = 1
+weight (Parenthesized position inner) = 1
+weight (SimpleName position name) = 1
+weight (FieldAccess position name object) = 1
+weight (Call position name object arguments) = 1
+weight (Element position array index) = 1
+weight (New position name_place name arguments) = 1
+weight (NewArray position element length) = 1
+weight (Number position value is_negative) = 1
+weight (True position) = 1
+weight (False position) = 1
+weight (Null position) = 1
+weight (This position) = 1
 weight _ = 0
 
 -- the greatest of what a list of nodes gives
@@ -57,8 +57,8 @@ super_height nodes None = 0
 super_height nodes (Some id) = 1 + height nodes id
 
 unfoldable pub body_height : List Node → Node → ℕ
-body_height nodes (Method place name flags result_type parameters (Some body)) = height nodes body
-body_height nodes (Constructor place name flags parameters super_call body) =
+body_height nodes (Method position name flags result_type parameters (Some body)) = height nodes body
+body_height nodes (Constructor position name flags parameters super_call body) =
     max (height nodes body) (super_height nodes super_call)
 body_height nodes _ = 0
 

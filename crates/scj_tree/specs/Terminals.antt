@@ -126,7 +126,7 @@ indexable Value = true
 -- no annotation and no modifier
 abbrev pub no_flags : FlagSet
 no_flags = record {
-  place = None;
+  position = None;
   define_scope = None;
   scope = None;
   runs_in = None;
@@ -141,7 +141,7 @@ no_flags = record {
 
 -- with one that stands at p: the first gives the place
 unfoldable pub placed : Pos → FlagSet → FlagSet
-placed p flags = record flags { place = elim flags.place [ None ↦ Some p | Some q ↦ Some q ] }
+placed p flags = record flags { position = elim flags.position [ None ↦ Some p | Some q ↦ Some q ] }
 
 unfoldable pub with_define_scope : ℕ → FlagSet → FlagSet
 with_define_scope id flags = record flags { define_scope = Some id }
@@ -189,7 +189,7 @@ flags_at p flags =
 -- the node of the flags, where at least one has an effect
 unfoldable pub flags_node : FlagSet → Option Node
 flags_node flags =
-    if has_effect flags then elim flags.place [ None ↦ None | Some p ↦ Some (flags_at p flags) ] else None
+    if has_effect flags then elim flags.position [ None ↦ None | Some p ↦ Some (flags_at p flags) ] else None
 
 -- the nodes with the node of the flags, and its number
 unfoldable pub with_flags : List Node → FlagSet → List Node

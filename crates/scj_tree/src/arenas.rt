@@ -79,25 +79,25 @@ impl Arena {
     }
 
     /// The node at a place, if there is one.
-    pub fn get(&self, place: usize) -> Option<&Node>
-        ensures { option_copied result ≡ slice_get self.now place }
+    pub fn get(&self, index: usize) -> Option<&Node>
+        ensures { option_copied result ≡ slice_get self.now index }
     {
-        self.nodes.get(place)
+        self.nodes.get(index)
     }
 
     /// The node at a place.
-    pub fn at(&self, place: usize) -> &Node
-        requires { place < length self.now }
-        ensures { slice_get self.now place ≡ Some result.now }
+    pub fn at(&self, index: usize) -> &Node
+        requires { index < length self.now }
+        ensures { slice_get self.now index ≡ Some result.now }
     {
-        &self.nodes[place]
+        &self.nodes[index]
     }
 
     /// The kind of the node at a place, if there is one.
-    pub fn kind(&self, place: usize) -> Option<NodeKind>
-        ensures { result ≡ option_map kind_of (slice_get self.now place) }
+    pub fn kind(&self, index: usize) -> Option<NodeKind>
+        ensures { result ≡ option_map kind_of (slice_get self.now index) }
     {
-        match self.kinds.get(place) {
+        match self.kinds.get(index) {
             Some(kind) => Some(*kind),
             None => None,
         }

@@ -86,19 +86,19 @@ impl Program {
         ensures ok { OnOk result (self.new ≡ with_node self.old node) }
         ensures err { OnErr result (self.new ≡ self.old) }
     {
-        let place = self.nodes.len();
-        if place >= u32::MAX as usize {
+        let index = self.nodes.len();
+        if index >= u32::MAX as usize {
             return Err(Memory);
         }
         self.nodes.push(node)?;
-        Ok(NodeId::at(place as u32))
+        Ok(NodeId::at(index as u32))
     }
 
     /// The node of a number, if there is one.
     pub fn get(&self, id: NodeId) -> Option<&Node>
         ensures { option_copied result ≡ slice_get self.now.nodes id }
     {
-        self.nodes.get(id.place())
+        self.nodes.get(id.number())
     }
 
     /// The node of a number.
@@ -106,22 +106,22 @@ impl Program {
         requires { id < length self.now.nodes }
         ensures { slice_get self.now.nodes id ≡ Some result.now }
     {
-        self.nodes.at(id.place())
+        self.nodes.at(id.number())
     }
 
     /// The kind of the node of a number, if there is one.
     pub fn kind(&self, id: NodeId) -> Option<NodeKind>
         ensures { result ≡ option_map kind_of (slice_get self.now.nodes id) }
     {
-        self.nodes.kind(id.place())
+        self.nodes.kind(id.number())
     }
 
     /// Where reports name the node of a number.
-    pub fn place(&self, id: NodeId) -> Pos
+    pub fn position(&self, id: NodeId) -> Pos
         requires { id < length self.now.nodes }
         ensures { option_map place_of (slice_get self.now.nodes id) ≡ Some result }
     {
-        self.node(id).place()
+        self.node(id).position()
     }
 
     /// Ends a file with these classes.

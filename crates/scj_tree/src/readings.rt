@@ -19,7 +19,7 @@ pub enum PostKind {
 #[derive(Clone, Copy, Debug)]
 pub struct FlagSet {
     /// The first of them.
-    pub place: Option<Pos>,
+    pub position: Option<Pos>,
     /// The `@DefineScope`.
     pub define_scope: Option<NodeId>,
     /// The value of `@Scope`.

@@ -9,7 +9,7 @@ use scj_base::NodeId;
 pub fn told<T: Copy>(rows: &[T], default: T, id: NodeId) -> T
     ensures { result ≡ lookup default rows.now id }
 {
-    match rows.get(id.place()) {
+    match rows.get(id.number()) {
         Some(row) => *row,
         None => default,
     }

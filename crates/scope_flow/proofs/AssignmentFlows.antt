@@ -21,7 +21,7 @@ use Rattle.scope_flow.specs.StatementFacts.{SetLocalFact, SetOwnFieldFact, SetFi
 use Rattle.scope_flow.proofs.Known.{among_trans, among_more}
 use Rattle.scope_flow.proofs.FlowTools.{FlowsBelow, value, join2, join3, own_reference}
 
-module _ (code : Code) (b c : ℕ) (sig : Signature) (id : ℕ) (sub : ℕ → List Op) (hyp : FlowsBelow code b c sig id sub) (place : _) (target v : ℕ) (there : slice_get code.program.nodes id ≡ Some (Assign place target v)) where
+module _ (code : Code) (b c : ℕ) (sig : Signature) (id : ℕ) (sub : ℕ → List Op) (hyp : FlowsBelow code b c sig id sub) (position : _) (target v : ℕ) (there : slice_get code.program.nodes id ≡ Some (Assign position target v)) where
   abbrev F : List Op → List ℕ → List Kind → Type 0
   F xs ms t = Flow code (Written b) c sig xs ms t
 

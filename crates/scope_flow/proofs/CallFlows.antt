@@ -77,11 +77,11 @@ module _ (code : Code) (b c : ℕ) (sig : Signature) (id : ℕ) (sub : ℕ → L
 
   -- ---- calls of methods
 
-  method_flow : (place : _) (name : List ℕ) (object : Option ℕ) (xs : List ℕ) →
-      slice_get code.program.nodes id ≡ Some (Call place name object xs) → CallFact code b c sig id object xs o →
+  method_flow : (position : _) (name : List ℕ) (object : Option ℕ) (xs : List ℕ) →
+      slice_get code.program.nodes id ≡ Some (Call position name object xs) → CallFact code b c sig id object xs o →
       F (call_ops sub id object xs (binding code id) ++ os) ls s
   unfolding call_ops bound_method argument_count receiver_of
-  method_flow place name object xs there r =
+  method_flow position name object xs there r =
       by_binding (call_ops sub id object xs) _ r.is
       (join3 code b c sig id sub hyp (receiver_ops sub id object) (flat_map sub xs) (CALL id ∷ []) os ls s
       (receiver object r.class r.scope r.receiver_is _ s (λ ms m.
@@ -114,11 +114,11 @@ module _ (code : Code) (b c : ℕ) (sig : Signature) (id : ℕ) (sub : ℕ → L
         goes = next _ r.is_given ns (among_trans ls ms ns m n);
       }))))
 
-  static_flow : (place : _) (name : List ℕ) (object : Option ℕ) (xs : List ℕ) →
-      slice_get code.program.nodes id ≡ Some (Call place name object xs) → StaticCallFact code b c sig id xs o →
+  static_flow : (position : _) (name : List ℕ) (object : Option ℕ) (xs : List ℕ) →
+      slice_get code.program.nodes id ≡ Some (Call position name object xs) → StaticCallFact code b c sig id xs o →
       F (call_ops sub id object xs (binding code id) ++ os) ls s
   unfolding call_ops bound_static_method argument_count
-  static_flow place name object xs there r =
+  static_flow position name object xs there r =
       by_binding (call_ops sub id object xs) _ r.is
       (join2 code b c sig id sub hyp (flat_map sub xs) (CALLSTATIC id ∷ []) os ls s
       (arguments code b c sig id sub hyp xs r.kinds r.arguments_are ls am (CALLSTATIC id ∷ os) s (λ ms m. record {
@@ -161,21 +161,21 @@ module _ (code : Code) (b c : ℕ) (sig : Signature) (id : ℕ) (sub : ℕ → L
       (join2 code b c sig id sub hyp (flat_map sub ys) (op ∷ []) os ls s
       (arguments code b c sig id sub hyp ys ks are ls am (op ∷ os) s h))
 
-  enter_flow : (place : Pos) (name : List ℕ) (object : Option ℕ) (xs : List ℕ) (t : Target) →
-      slice_get code.program.nodes id ≡ Some (Call place name object xs) → binding code id ≡ Builtin t →
+  enter_flow : (position : Pos) (name : List ℕ) (object : Option ℕ) (xs : List ℕ) (t : Target) →
+      slice_get code.program.nodes id ≡ Some (Call position name object xs) → binding code id ≡ Builtin t →
       EnterFact code b c sig id t.id t.on xs o → F ((flat_map sub xs ++ ENTER id ∷ []) ++ os) ls s
   unfolding pushed
-  enter_flow place name object xs t there is r =
+  enter_flow position name object xs t there is r =
       with_arguments xs _ r.are (number ∷ (reference (ClassTy r.class) r.scope ∷ [])) (r.size_is, (r.object_is, tt)) (ENTER id)
       (λ ms m. record {
         out = s;
         needed = record {
-          place = place;
+          position = position;
           name = name;
           object = object;
           size = r.size;
           runnable = r.object;
-          is_there = there ∙ ap (λ zs. Some (Call place name object zs)) r.are;
+          is_there = there ∙ ap (λ zs. Some (Call position name object zs)) r.are;
           target = t;
           is = is;
           class = r.class;
@@ -246,13 +246,13 @@ module _ (code : Code) (b c : ℕ) (sig : Signature) (id : ℕ) (sub : ℕ → L
       })
 
   -- a text has no operation
-  print_flow : (place : _) (name : List ℕ) (object : Option ℕ) (xs : List ℕ) (method : ℕ) →
-      slice_get code.program.nodes id ≡ Some (Call place name object xs) → PrintFact code b c id method xs o →
+  print_flow : (position : _) (name : List ℕ) (object : Option ℕ) (xs : List ℕ) (method : ℕ) →
+      slice_get code.program.nodes id ≡ Some (Call position name object xs) → PrintFact code b c id method xs o →
       F ((flat_map sub xs ++ PRINT id ∷ []) ++ os) ls s
   unfolding pushed first_argument
-  print_flow place name object xs method there r =
+  print_flow position name object xs method there r =
       subst (λ zs. F ((flat_map sub zs ++ PRINT id ∷ []) ++ os) ls s) (sym r.are)
-      (subst (λ (zs : List Op). F (((zs ++ (sub r.value ++ [])) ++ PRINT id ∷ []) ++ os) ls s) (sym (hyp.texts r.label r.is_smaller r.place r.text r.is_text))
+      (subst (λ (zs : List Op). F (((zs ++ (sub r.value ++ [])) ++ PRINT id ∷ []) ++ os) ls s) (sym (hyp.texts r.label r.is_smaller r.position r.text r.is_text))
       (join2 code b c sig id sub hyp (sub r.value ++ []) (PRINT id ∷ []) os ls s
       (join2 code b c sig id sub hyp (sub r.value) [] (PRINT id ∷ os) ls s
       (value code b c sig id sub hyp r.value number r.value_is ls am (PRINT id ∷ os) s (λ ms m. record {
@@ -261,7 +261,7 @@ module _ (code : Code) (b c : ℕ) (sig : Signature) (id : ℕ) (sub : ℕ → L
           label = r.label;
           is =
               ap (at_reading first_argument) there
-              ∙ ap (λ zs. first_argument (Call place name object zs)) r.are;
+              ∙ ap (λ zs. first_argument (Call position name object zs)) r.are;
           takes = refl;
         };
         goes = next None r.is_given ms m;
@@ -323,36 +323,36 @@ module _ (code : Code) (b c : ℕ) (sig : Signature) (id : ℕ) (sub : ℕ → L
       F (builtin_ops sub id object xs is ++ os) ls s → F (builtin_ops sub id object xs method ++ os) ls s
   by_method object xs method is e h = subst (λ x. F (builtin_ops sub id object xs x ++ os) ls s) (sym e) h
 
-  builtin_cases : (place : _) (name : List ℕ) (object : Option ℕ) (xs : List ℕ) (t : Target) →
-      slice_get code.program.nodes id ≡ Some (Call place name object xs) → binding code id ≡ Builtin t →
+  builtin_cases : (position : _) (name : List ℕ) (object : Option ℕ) (xs : List ℕ) (t : Target) →
+      slice_get code.program.nodes id ≡ Some (Call position name object xs) → binding code id ≡ Builtin t →
       BuiltinCases code b c sig id object xs t.id t.on o → F (builtin_ops sub id object xs t.id ++ os) ls s
   unfolding builtin_ops
-  builtin_cases place name object xs t there is (inl r) = by_method object xs t.id _ r.is_method (enter_flow place name object xs t there is r)
-  builtin_cases place name object xs t there is (inr (inl r)) =
+  builtin_cases position name object xs t there is (inl r) = by_method object xs t.id _ r.is_method (enter_flow position name object xs t there is r)
+  builtin_cases position name object xs t there is (inr (inl r)) =
       by_method object xs t.id _ r.is_method (execute_flow xs t is r)
-  builtin_cases place name object xs t there is (inr (inr (inl r))) =
+  builtin_cases position name object xs t there is (inr (inr (inl r))) =
       by_method object xs t.id _ r.is_method (ceiling_flow xs t.id r)
-  builtin_cases place name object xs t there is (inr (inr (inr (inl r)))) =
-      by_method object xs t.id _ r.is_method (print_flow place name object xs t.id there r)
-  builtin_cases place name object xs t there is (inr (inr (inr (inr (inl r))))) =
+  builtin_cases position name object xs t there is (inr (inr (inr (inl r)))) =
+      by_method object xs t.id _ r.is_method (print_flow position name object xs t.id there r)
+  builtin_cases position name object xs t there is (inr (inr (inr (inr (inl r))))) =
       by_method object xs t.id _ r.is_method (read_flow xs t.id r)
-  builtin_cases place name object xs t there is (inr (inr (inr (inr (inr (inl r)))))) =
+  builtin_cases position name object xs t there is (inr (inr (inr (inr (inr (inl r)))))) =
       by_method object xs t.id _ r.0 (terminate_flow object r.1)
-  builtin_cases place name object xs t there is (inr (inr (inr (inr (inr (inr (inl r))))))) =
+  builtin_cases position name object xs t there is (inr (inr (inr (inr (inr (inr (inl r))))))) =
       by_method object xs t.id _ r.0 (release_flow object r.1)
-  builtin_cases place name object xs t there is (inr (inr (inr (inr (inr (inr (inr (inl (inl e, r))))))))) =
+  builtin_cases position name object xs t there is (inr (inr (inr (inr (inr (inr (inr (inl (inl e, r))))))))) =
       by_method object xs t.id _ e (register_flow object r)
-  builtin_cases place name object xs t there is (inr (inr (inr (inr (inr (inr (inr (inl (inr e, r))))))))) =
+  builtin_cases position name object xs t there is (inr (inr (inr (inr (inr (inr (inr (inl (inr e, r))))))))) =
       by_method object xs t.id _ e (register_flow object r)
-  builtin_cases place name object xs t there is (inr (inr (inr (inr (inr (inr (inr (inr r)))))))) =
+  builtin_cases position name object xs t there is (inr (inr (inr (inr (inr (inr (inr (inr r)))))))) =
       by_method object xs t.id _ r.is_method (same_flow xs t.id r)
 
-  pub call_flow : (place : _) (name : List ℕ) (object : Option ℕ) (xs : List ℕ) →
-      slice_get code.program.nodes id ≡ Some (Call place name object xs) →
+  pub call_flow : (position : _) (name : List ℕ) (object : Option ℕ) (xs : List ℕ) →
+      slice_get code.program.nodes id ≡ Some (Call position name object xs) →
       CallFact code b c sig id object xs o ⊎ (StaticCallFact code b c sig id xs o ⊎ BuiltinFact code b c sig id object xs o) →
       F (call_ops sub id object xs (binding code id) ++ os) ls s
   unfolding call_ops
-  call_flow place name object xs there (inl r) = method_flow place name object xs there r
-  call_flow place name object xs there (inr (inl r)) = static_flow place name object xs there r
-  call_flow place name object xs there (inr (inr r)) =
-      by_binding (call_ops sub id object xs) _ r.is (builtin_cases place name object xs r.target there r.is r.cases)
+  call_flow position name object xs there (inl r) = method_flow position name object xs there r
+  call_flow position name object xs there (inr (inl r)) = static_flow position name object xs there r
+  call_flow position name object xs there (inr (inr r)) =
+      by_binding (call_ops sub id object xs) _ r.is (builtin_cases position name object xs r.target there r.is r.cases)

@@ -55,11 +55,11 @@ module _ (code : Code) (facts : Facts code) (b c : ℕ) (sig : Signature) (body 
   same_below id [] l = refl
   same_below id (x ∷ xs) l = cc (below_lt [] id (ops_of code) x l.0, same_below id xs l.1)
 
-  form_ops : (x : ℕ) (place name_place : _) (name xs : List ℕ) →
-      slice_get code.program.nodes x ≡ Some (New place name_place name xs) → binding code x ≡ Plain → AreSmaller x xs →
+  form_ops : (x : ℕ) (position name_place : _) (name xs : List ℕ) →
+      slice_get code.program.nodes x ≡ Some (New position name_place name xs) → binding code x ≡ Plain → AreSmaller x xs →
       ops_of code x ≡ flat_map (ops_of code) xs
   unfolding node_ops new_ops
-  form_ops x place name_place name xs there plain l =
+  form_ops x position name_place name xs there plain l =
       ops_at code x _ there
       ∙ ap (λ (y : Binding). new_ops (below [] x (ops_of code)) x xs y) plain ∙ same_below x xs l
 
@@ -72,8 +72,8 @@ module _ (code : Code) (facts : Facts code) (b c : ℕ) (sig : Signature) (body 
           F (ops_of code x ++ os) ls s
       numbers_flow x _ (one_number inside judged set) ls am os s a =
           value_flows code facts b c sig body x (Some number) inside judged ls (among_trans _ known ls set am) os s a
-      numbers_flow _ _ (form_part {x} {n} {place} {name_place} {name} {xs} there plain l all) ls am os s a =
-          subst (λ ys. F (ys ++ os) ls s) (sym (form_ops x place name_place name xs there plain l))
+      numbers_flow _ _ (form_part {x} {n} {position} {name_place} {name} {xs} there plain l all) ls am os s a =
+          subst (λ ys. F (ys ++ os) ls s) (sym (form_ops x position name_place name xs there plain l))
           (all_numbers_flow xs n all ls am os s a)
 
       all_numbers_flow : (xs : List ℕ) (n : ℕ) → AllNumbers code b c known xs n → (ls : List ℕ) → Among known ls →
@@ -261,7 +261,7 @@ module _ (code : Code) (facts : Facts code) (b c : ℕ) (sig : Signature) (body 
           node = body.node;
           is_body = body.is_there;
           is_call = is_call;
-          place = r.place;
+          position = r.position;
           arguments = r.arguments;
           is_there = r.is_there;
         })) rest next r.super_fact)
@@ -312,12 +312,12 @@ module _ (code : Code) (facts : Facts code) (b c : ℕ) (sig : Signature) (body 
   entry_node : (n : Node) → body.node ≡ n → EntryFact code b c sig n →
       F (node_ops code (below [] b (ops_of code)) b n) (parameters_of code.program b) []
   unfolding EntryFact node_ops super_call_of
-  entry_node (MethodNode place name flags result_type parameters (Some x)) e r = method_flow result_type x r
-  entry_node (MethodNode place name flags result_type parameters None) e r = absurd r
-  entry_node (Constructor place name flags parameters super_call x) e r =
+  entry_node (MethodNode position name flags result_type parameters (Some x)) e r = method_flow result_type x r
+  entry_node (MethodNode position name flags result_type parameters None) e r = absurd r
+  entry_node (Constructor position name flags parameters super_call x) e r =
       constructor_flow super_call (λ call k. ap super_call_of e ∙ k) r.0 (below [] b (ops_of code) x)
       (λ ls am. body_flow x r.1 ls am (LEAVE ∷ []) (inr (λ ms m st. r.0.gives)))
-  entry_node (Class place name flags header members) e r =
+  entry_node (Class position name flags header members) e r =
       constructor_flow None (λ call k. absurd (cc (k))) r [] (λ ls am. r.gives)
   entry_node _ e r = absurd r
 

@@ -58,9 +58,9 @@ module _ (code : Code) (b c : ℕ) (sig : Signature) (id : ℕ) (sub : ℕ → L
         goes = f;
       }
 
-  pub this_flow : (place : _) → ThisFact code.program b c o → F (node_ops code sub id (ThisNode place) ++ os) ls s
+  pub this_flow : (position : _) → ThisFact code.program b c o → F (node_ops code sub id (ThisNode position) ++ os) ls s
   unfolding node_ops
-  this_flow place r = own_reference code b c sig id sub hyp r.own ls os s id (next _ r.is_given ls (among_self ls))
+  this_flow position r = own_reference code b c sig id sub hyp r.own ls os s id (next _ r.is_given ls (among_self ls))
 
   local_flow : LocalFact code b id o → F (name_ops id (binding code id) ++ os) ls s
   unfolding name_ops bound_local
@@ -184,11 +184,11 @@ module _ (code : Code) (b c : ℕ) (sig : Signature) (id : ℕ) (sub : ℕ → L
 
   -- ---- operators
 
-  pub unary_flow : (place : _) (operator operand : ℕ) →
-      slice_get code.program.nodes id ≡ Some (Unary place operator operand) →
+  pub unary_flow : (position : _) (operator operand : ℕ) →
+      slice_get code.program.nodes id ≡ Some (Unary position operator operand) →
       UnaryFact code.program b c id operator operand o → F ((sub operand ++ UNARY id ∷ []) ++ os) ls s
   unfolding operator_of
-  unary_flow place operator operand there r =
+  unary_flow position operator operand there r =
       join2 code b c sig id sub hyp (sub operand) (UNARY id ∷ []) os ls s
       (value code b c sig id sub hyp operand r.kind r.operand_is ls am (UNARY id ∷ os) s (λ ms m.
       go (kind_of_unary operator r.kind) refl ms m))
@@ -212,12 +212,12 @@ module _ (code : Code) (b c : ℕ) (sig : Signature) (id : ℕ) (sub : ℕ → L
             goes = next _ (r.is_given ∙ e) ms m;
           }
 
-  binary_flow : (place : _) (operator left right : ℕ) →
-      slice_get code.program.nodes id ≡ Some (Binary place operator left right) →
+  binary_flow : (position : _) (operator left right : ℕ) →
+      slice_get code.program.nodes id ≡ Some (Binary position operator left right) →
       BinaryFact code.program b c id operator left right o →
       F ((sub left ++ (sub right ++ BIN id ∷ [])) ++ os) ls s
   unfolding operator_of
-  binary_flow place operator left right there r =
+  binary_flow position operator left right there r =
       join3 code b c sig id sub hyp (sub left) (sub right) (BIN id ∷ []) os ls s
       (value code b c sig id sub hyp left r.left_kind r.left_is ls am _ s (λ ms m.
       value code b c sig id sub hyp right r.right_kind r.right_is ms (among_trans _ ls ms am m) (BIN id ∷ os) _ (λ ns n.
@@ -246,11 +246,11 @@ module _ (code : Code) (b c : ℕ) (sig : Signature) (id : ℕ) (sub : ℕ → L
         are_set = among_trans _ _ ms e.0.known (among_trans _ ls ms am m);
       }
 
-  and_flow : (place : _) (operator left right : ℕ) →
-      slice_get code.program.nodes id ≡ Some (Binary place operator left right) →
+  and_flow : (position : _) (operator left right : ℕ) →
+      slice_get code.program.nodes id ≡ Some (Binary position operator left right) →
       ShortFact code.program b c id left right o → F ((sub left ++ AND id ∷ []) ++ os) ls s
   unfolding right_operand
-  and_flow place operator left right there r =
+  and_flow position operator left right there r =
       join2 code b c sig id sub hyp (sub left) (AND id ∷ []) os ls s
       (value code b c sig id sub hyp left truth r.left_is ls am (AND id ∷ os) s (λ ms m. record {
         out = truth ∷ s;
@@ -265,11 +265,11 @@ module _ (code : Code) (b c : ℕ) (sig : Signature) (id : ℕ) (sub : ℕ → L
         goes = next _ r.is_given ms m;
       }))
 
-  or_flow : (place : _) (operator left right : ℕ) →
-      slice_get code.program.nodes id ≡ Some (Binary place operator left right) →
+  or_flow : (position : _) (operator left right : ℕ) →
+      slice_get code.program.nodes id ≡ Some (Binary position operator left right) →
       ShortFact code.program b c id left right o → F ((sub left ++ OR id ∷ []) ++ os) ls s
   unfolding right_operand
-  or_flow place operator left right there r =
+  or_flow position operator left right there r =
       join2 code b c sig id sub hyp (sub left) (OR id ∷ []) os ls s
       (value code b c sig id sub hyp left truth r.left_is ls am (OR id ∷ os) s (λ ms m. record {
         out = truth ∷ s;
@@ -284,21 +284,21 @@ module _ (code : Code) (b c : ℕ) (sig : Signature) (id : ℕ) (sub : ℕ → L
         goes = next _ r.is_given ms m;
       }))
 
-  pub operator_flow : (place : _) (operator left right : ℕ) →
-      slice_get code.program.nodes id ≡ Some (Binary place operator left right) →
+  pub operator_flow : (position : _) (operator left right : ℕ) →
+      slice_get code.program.nodes id ≡ Some (Binary position operator left right) →
       ((is_among operator conditional_operators ≡ true) × ShortFact code.program b c id left right o)
       ⊎ BinaryFact code.program b c id operator left right o → F (binary_ops sub id operator left right ++ os) ls s
   unfolding binary_ops
-  operator_flow place operator left right there (inr r) =
-      rw (r.is_not_and, r.is_not_or) (binary_flow place operator left right there r)
-  operator_flow place operator left right there (inl r) =
+  operator_flow position operator left right there (inr r) =
+      rw (r.is_not_and, r.is_not_or) (binary_flow position operator left right there r)
+  operator_flow position operator left right there (inl r) =
       go (operator == sign_and_and) (operator == sign_or_or) refl refl
     where
       go : (x y : Bool) → (operator == sign_and_and) ≡ x → (operator == sign_or_or) ≡ y →
           F ((if x then sub left ++ AND id ∷ []
           else (if y then sub left ++ OR id ∷ [] else (sub left ++ (sub right ++ BIN id ∷ [])))) ++ os) ls s
-      go true y e f = and_flow place operator left right there r.1
-      go false true e f = or_flow place operator left right there r.1
+      go true y e f = and_flow position operator left right there r.1
+      go false true e f = or_flow position operator left right there r.1
       go false false e f =
           absurd (true≢false (sym r.0 ∙ (let z : is_among operator conditional_operators ≡ false = rw (e, f) refl in z)))
 
@@ -312,11 +312,11 @@ module _ (code : Code) (b c : ℕ) (sig : Signature) (id : ℕ) (sub : ℕ → L
       IsScopeOfExpression code.program id sig.runs_in
   new_is class e = array_is (ClassTy class) e
 
-  pub new_flow : (place name_place : _) (name xs : List ℕ) → Inside code.program b c id →
-      slice_get code.program.nodes id ≡ Some (New place name_place name xs) → NewFact code b c sig id xs o →
+  pub new_flow : (position name_place : _) (name xs : List ℕ) → Inside code.program b c id →
+      slice_get code.program.nodes id ≡ Some (New position name_place name xs) → NewFact code b c sig id xs o →
       F (new_ops sub id xs (binding code id) ++ os) ls s
   unfolding new_ops bound_class argument_count
-  new_flow place name_place name xs inside there r =
+  new_flow position name_place name xs inside there r =
       by_binding (new_ops sub id xs) _ r.is
       (record {
         out = fresh r.class sig.runs_in ∷ s;

@@ -51,8 +51,8 @@ module _ (code : Code) (b c : ℕ) (sig : Signature) where
     pub statements : (x : ℕ) → x < id → StatementFlows (sub x) x
     pub literals : (x : ℕ) → x < id → (node : Node) → slice_get code.program.nodes x ≡ Some node →
         kind_of_literal node ≡ Some yes → sub x ≡ PUSH x ∷ []
-    pub texts : (x : ℕ) → x < id → (place : Pos) (text : List ℕ) →
-        slice_get code.program.nodes x ≡ Some (Text place text) → sub x ≡ []
+    pub texts : (x : ℕ) → x < id → (position : Pos) (text : List ℕ) →
+        slice_get code.program.nodes x ≡ Some (Text position text) → sub x ≡ []
 
 module _ (code : Code) (b c : ℕ) (sig : Signature) (id : ℕ) (sub : ℕ → List Op) (hyp : FlowsBelow code b c sig id sub) where
   -- a child that gives something

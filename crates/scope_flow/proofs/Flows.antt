@@ -39,42 +39,42 @@ module _ (code : Code) (b c : ℕ) (sig : Signature) (id : ℕ) (sub : ℕ → L
       (os : List Op) (s : List Kind) → After code b c sig o ls os s →
       Flow code (Written b) c sig (node_ops code sub id n ++ os) ls s
   unfolding node_ops ExpressionFact kind_of_literal
-  expression_node inside (Number place v n) there o j r ls am os s a =
+  expression_node inside (Number position v n) there o j r ls am os s a =
       literal_flow code b c sig id sub hyp o j ls am os s a number
       (ap (λ (x : Option Node). elim x [ None ↦ None | Some y ↦ kind_of_literal y ]) there) number (inl refl) (of_kind j _ r)
       (behind code b c sig id sub hyp o _ r ls os s a ls (among_self ls))
-  expression_node inside (True place) there o j r ls am os s a =
+  expression_node inside (True position) there o j r ls am os s a =
       literal_flow code b c sig id sub hyp o j ls am os s a yes
       (ap (λ (x : Option Node). elim x [ None ↦ None | Some y ↦ kind_of_literal y ]) there) truth (inr (refl, refl)) (of_kind j _ r)
       (behind code b c sig id sub hyp o _ r ls os s a ls (among_self ls))
-  expression_node inside (False place) there o j r ls am os s a =
+  expression_node inside (False position) there o j r ls am os s a =
       literal_flow code b c sig id sub hyp o j ls am os s a truth
       (ap (λ (x : Option Node). elim x [ None ↦ None | Some y ↦ kind_of_literal y ]) there) truth (inl refl) (of_kind j _ r)
       (behind code b c sig id sub hyp o _ r ls os s a ls (among_self ls))
-  expression_node inside (Null place) there o j r ls am os s a =
+  expression_node inside (Null position) there o j r ls am os s a =
       literal_flow code b c sig id sub hyp o j ls am os s a (reference NullTy Any)
       (ap (λ (x : Option Node). elim x [ None ↦ None | Some y ↦ kind_of_literal y ]) there) (reference NullTy Any) (inl refl) (of_kind j _ r)
       (behind code b c sig id sub hyp o _ r ls os s a ls (among_self ls))
-  expression_node inside (ThisNode place) there o j r ls am os s a = this_flow code b c sig id sub hyp o j ls am os s a place r
-  expression_node inside (SimpleName place name) there o j r ls am os s a = name_flow code b c sig id sub hyp o j ls am os s a r
-  expression_node inside (Parenthesized place inner) there o j r ls am os s a =
+  expression_node inside (ThisNode position) there o j r ls am os s a = this_flow code b c sig id sub hyp o j ls am os s a position r
+  expression_node inside (SimpleName position name) there o j r ls am os s a = name_flow code b c sig id sub hyp o j ls am os s a r
+  expression_node inside (Parenthesized position inner) there o j r ls am os s a =
       expression code b c sig id sub hyp inner o r ls am os s a
-  expression_node inside (FieldAccess place name object) there o j r ls am os s a =
+  expression_node inside (FieldAccess position name object) there o j r ls am os s a =
       access_flow code b c sig id sub hyp o j ls am os s a object r
-  expression_node inside (Element place array index) there o j r ls am os s a =
+  expression_node inside (Element position array index) there o j r ls am os s a =
       element_flow code b c sig id sub hyp o j ls am os s a array index r
-  expression_node inside (Unary place operator operand) there o j r ls am os s a =
-      unary_flow code b c sig id sub hyp o j ls am os s a place operator operand there r
-  expression_node inside (Binary place operator left right) there o j r ls am os s a =
-      operator_flow code b c sig id sub hyp o j ls am os s a place operator left right there r
-  expression_node inside (New place name_place name xs) there o j r ls am os s a =
-      new_flow code b c sig id sub hyp o j ls am os s a place name_place name xs inside there r
-  expression_node inside (NewArray place element count) there o j r ls am os s a =
+  expression_node inside (Unary position operator operand) there o j r ls am os s a =
+      unary_flow code b c sig id sub hyp o j ls am os s a position operator operand there r
+  expression_node inside (Binary position operator left right) there o j r ls am os s a =
+      operator_flow code b c sig id sub hyp o j ls am os s a position operator left right there r
+  expression_node inside (New position name_place name xs) there o j r ls am os s a =
+      new_flow code b c sig id sub hyp o j ls am os s a position name_place name xs inside there r
+  expression_node inside (NewArray position element count) there o j r ls am os s a =
       new_array_flow code b c sig id sub hyp o j ls am os s a count r
-  expression_node inside (Cast place name_place name operand) there o j r ls am os s a =
+  expression_node inside (Cast position name_place name operand) there o j r ls am os s a =
       cast_flow code b c sig id sub hyp o j ls am os s a operand r
-  expression_node inside (Call place name object xs) there o j r ls am os s a =
-      call_flow code b c sig id sub hyp o j ls am os s a place name object xs there r
+  expression_node inside (Call position name object xs) there o j r ls am os s a =
+      call_flow code b c sig id sub hyp o j ls am os s a position name object xs there r
   expression_node inside _ there o j r ls am os s a = absurd r
 
 -- ---- all nodes, by induction
@@ -94,13 +94,13 @@ module _ (code : Code) where
   literal_ops : (id : ℕ) (n : Node) → slice_get code.program.nodes id ≡ Some n → kind_of_literal n ≡ Some yes →
       ops_of code id ≡ PUSH id ∷ []
   unfolding node_ops kind_of_literal
-  literal_ops id (True place) there e = ops_at id (True place) there
+  literal_ops id (True position) there e = ops_at id (True position) there
   literal_ops id _ there e = absurd (cc (e))
 
-  text_ops : (id : ℕ) (place : Pos) (text : List ℕ) → slice_get code.program.nodes id ≡ Some (Text place text) →
+  text_ops : (id : ℕ) (position : Pos) (text : List ℕ) → slice_get code.program.nodes id ≡ Some (Text position text) →
       ops_of code id ≡ []
   unfolding node_ops
-  text_ops id place text there = ops_at id (Text place text) there
+  text_ops id position text there = ops_at id (Text position text) there
 
 module _ (code : Code) (facts : Facts code) (b c : ℕ) (sig : Signature) (body : IsBody code.program b c sig) where
   record Both (id : ℕ) : Type 0 where
@@ -115,7 +115,7 @@ module _ (code : Code) (facts : Facts code) (b c : ℕ) (sig : Signature) (body 
         values = λ x l. subst (λ xs. ValueFlows code b c sig xs x) (sym (same x l)) (hyp x l).value;
         statements = λ x l. subst (λ xs. StatementFlows code b c sig xs x) (sym (same x l)) (hyp x l).statement;
         literals = λ x l n e t. same x l ∙ literal_ops code x n e t;
-        texts = λ x l place text e. same x l ∙ text_ops code x place text e;
+        texts = λ x l position text e. same x l ∙ text_ops code x position text e;
       }
 
   both_step : (id : ℕ) → ((x : ℕ) → x < id → Both x) → Both id

@@ -50,7 +50,7 @@ then_ code b c sig id ls os s e (inr h) ms m st = h ms m st
 true_or : (n : Node) →
     (is_true_literal n ≡ None) ⊎ ((kind_of_literal n ≡ Some yes) × (is_true_literal n ≡ Some true))
 unfolding is_true_literal kind_of_literal
-true_or (True place) = inr (refl, refl)
+true_or (True position) = inr (refl, refl)
 true_or _ = inl refl
 
 module _ (code : Code) (b c : ℕ) (sig : Signature) (id bound : ℕ) (sub : ℕ → List Op) (hyp : FlowsBelow code b c sig bound sub) where
@@ -115,10 +115,10 @@ module _ (code : Code) (b c : ℕ) (sig : Signature) (id : ℕ) (sub : ℕ → L
       IsStatementPart code.program b c ms x
   part_of known x r ms m = record { is = r.is; are_set = among_trans _ known ms r.known m }
 
-  pub always : (place : _) (condition body : ℕ) → slice_get code.program.nodes id ≡ Some (While place condition body) →
+  pub always : (position : _) (condition body : ℕ) → slice_get code.program.nodes id ≡ Some (While position condition body) →
       (n : Node) → slice_get code.program.nodes condition ≡ Some n → always_so ≡ true → is_true_literal n ≡ Some true
   unfolding returns_of
-  always place condition body there n e h = go (is_true_literal n) refl (true_or n)
+  always position condition body there n e h = go (is_true_literal n) refl (true_or n)
     where
       go : (o : Option Bool) → is_true_literal n ≡ o →
           (is_true_literal n ≡ None) ⊎ ((kind_of_literal n ≡ Some yes) × (is_true_literal n ≡ Some true)) →
@@ -128,17 +128,17 @@ module _ (code : Code) (b c : ℕ) (sig : Signature) (id : ℕ) (sub : ℕ → L
           absurd (true≢false (sym h ∙ returns_at code.program id _ there
           ∙ ap (λ (o : Option Node). is_some (elim o [ None ↦ None | Some x ↦ is_true_literal x ])) e ∙ ap (λ x. is_some x) t))
 
-  pub while_flow : (place : _) (condition body : ℕ) →
-      slice_get code.program.nodes id ≡ Some (While place condition body) →
+  pub while_flow : (position : _) (condition body : ℕ) →
+      slice_get code.program.nodes id ≡ Some (While position condition body) →
       WhileFact code.program b c id condition body → (ls : List ℕ) → Among (known_variables code.program id) ls →
       (os : List Op) (s : List Kind) → Behind code b c sig id ls os s → G (sub condition ++ (LOOP id ∷ os)) ls s
   unfolding AreLoopParts variable_of
-  while_flow place condition body there r ls am os s k =
-      condition_flow code b c sig id id sub hyp (While place condition body) there ls parts os s condition r.condition_is.0.smaller
+  while_flow position condition body there r ls am os s k =
+      condition_flow code b c sig id id sub hyp (While position condition body) there ls parts os s condition r.condition_is.0.smaller
       r.condition_is.0.inside r.condition_is.1 (among_trans _ _ ls r.condition_is.0.known am)
-      (always place condition body there) (go k)
+      (always position condition body there) (go k)
     where
-      parts : (ms : List ℕ) → Among ls ms → AreLoopParts code.program b c ms (While place condition body)
+      parts : (ms : List ℕ) → Among ls ms → AreLoopParts code.program b c ms (While position condition body)
       parts ms m = (
         record {
           inside = r.condition_is.0.inside;
@@ -152,17 +152,17 @@ module _ (code : Code) (b c : ℕ) (sig : Signature) (id : ℕ) (sub : ℕ → L
       go (inl h) = inl h
       go (inr h) = inr (λ ms m. h ms m (no_variable code.program id _ there refl ms))
 
-  pub for_flow : (place : _) (first condition step body : ℕ) →
-      slice_get code.program.nodes id ≡ Some (For place first condition step body) →
+  pub for_flow : (position : _) (first condition step body : ℕ) →
+      slice_get code.program.nodes id ≡ Some (For position first condition step body) →
       ForFact code.program b c id first condition step body → (ls : List ℕ) →
       Among (known_variables code.program id) ls → (os : List Op) (s : List Kind) → Behind code b c sig id ls os s →
       G ((sub first ++ (sub condition ++ LOOP id ∷ [])) ++ os) ls s
   unfolding AreLoopParts variable_of returns_of
-  for_flow place first condition step body there r ls am os s k =
+  for_flow position first condition step body there r ls am os s k =
       join2 code b c sig id sub hyp (sub first) (sub condition ++ LOOP id ∷ []) os ls s
       (statement code b c sig id sub hyp first r.first_is ls am _ s (inr (λ ms m st.
       join2 code b c sig id sub hyp (sub condition) (LOOP id ∷ []) os ms s
-      (condition_flow code b c sig id id sub hyp (For place first condition step body) there ms (parts ms m st) os s condition r.condition_smaller
+      (condition_flow code b c sig id id sub hyp (For position first condition step body) there ms (parts ms m st) os s condition r.condition_smaller
       r.condition_inside r.condition_judged (among_trans _ _ ms r.condition_known (behind ms m st))
       (λ n e h. absurd (true≢false (sym h ∙ returns_at code.program id _ there))) (inr (λ ns n. next ns (among_trans ls ms ns m n)))))))
     where
@@ -171,7 +171,7 @@ module _ (code : Code) (b c : ℕ) (sig : Signature) (id : ℕ) (sub : ℕ → L
       behind ms m st = known_set code.program first _ ms (among_trans _ ls ms am m) st
 
       parts : (ms : List ℕ) → Among ls ms → IsSetBy code.program first ms → (ns : List ℕ) → Among ms ns →
-          AreLoopParts code.program b c ns (For place first condition step body)
+          AreLoopParts code.program b c ns (For position first condition step body)
       parts ms m st ns n = (
         record {
           inside = r.condition_inside;

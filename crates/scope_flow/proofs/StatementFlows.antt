@@ -101,17 +101,17 @@ module _ (code : Code) (b c : ℕ) (sig : Signature) (id : ℕ) (sub : ℕ → L
       StatementFact code b c sig id n → (ls : List ℕ) → Among (known_variables code.program id) ls →
       (os : List Op) (s : List Kind) → Behind code b c sig id ls os s → F (node_ops code sub id n ++ os) ls s
   unfolding node_ops StatementFact returns_of variable_of assigned_node bound_local return_ops ReturnFact if_parts
-  statement_node (Block place xs) there me r ls am os s k =
+  statement_node (Block position xs) there me r ls am os s k =
       block_flow xs (known_variables code.program id) r ls am os s (go k)
     where
       go : Behind code b c sig id ls os s →
           (list_any returns xs ≡ true) ⊎ ((ms : List ℕ) → Among ls ms → F os ms s)
       go (inl h) = inl (sym (any_smaller xs _ r) ∙ sym (returns_at code.program id _ there) ∙ h)
       go (inr h) = inr (λ ms m. h ms m (no_variable code.program id _ there refl ms))
-  statement_node (Empty place) there me r ls am os s k =
+  statement_node (Empty position) there me r ls am os s k =
       then_ code b c sig id ls os s (returns_at code.program id _ there) k ls (among_self ls)
       (no_variable code.program id _ there refl ls)
-  statement_node (LocalNode place name flags declared_type) there me r ls am os s k =
+  statement_node (LocalNode position name flags declared_type) there me r ls am os s k =
       record {
         local = r.local;
         is = r.is;
@@ -121,7 +121,7 @@ module _ (code : Code) (b c : ℕ) (sig : Signature) (id : ℕ) (sub : ℕ → L
             then_ code b c sig id ls os s (returns_at code.program id _ there) k (id ∷ ls) (among_more ls id)
             (λ h. among_first ls id);
       }
-  statement_node (LocalWithValue place name_place name flags declared_type v) there me r ls am os s k =
+  statement_node (LocalWithValue position name_place name flags declared_type v) there me r ls am os s k =
       join2 code b c sig id sub hyp (sub v) (STORE id ∷ []) os ls s
       (value code b c sig id sub hyp v r.fits.kind r.fits.value_is ls am (STORE id ∷ os) s (λ ms m. record {
         local = r.declared.local;
@@ -139,17 +139,17 @@ module _ (code : Code) (b c : ℕ) (sig : Signature) (id : ℕ) (sub : ℕ → L
             then_ code b c sig id ls os s (returns_at code.program id _ there) k (id ∷ ms)
             (among_trans ls ms (id ∷ ms) m (among_more ms id)) (λ h. among_first ms id);
       }))
-  statement_node (Assign place target v) there me r ls am os s k =
-      assignment_flow code b c sig id sub hyp place target v there r ls am os s
+  statement_node (Assign position target v) there me r ls am os s k =
+      assignment_flow code b c sig id sub hyp position target v there r ls am os s
       (λ ms m. then_ code b c sig id ls os s (returns_at code.program id _ there) k ms m
       (no_variable code.program id _ there refl ms))
-  statement_node (ExpressionStatement place e) there me r ls am os s k =
+  statement_node (ExpressionStatement position e) there me r ls am os s k =
       join2 code b c sig id sub hyp (sub e) _ os ls s
       (expression code b c sig id sub hyp e r.gives r.expression_is ls am _ s (λ ms m.
       drop_flow r.gives _ r.is ms os s
       (then_ code b c sig id ls os s (returns_at code.program id _ there) k ms m
       (no_variable code.program id _ there refl ms))))
-  statement_node (If place condition then_part else_part) there me r ls am os s k =
+  statement_node (If position condition then_part else_part) there me r ls am os s k =
       join2 code b c sig id sub hyp (sub condition) (IF id ∷ []) os ls s
       (value code b c sig id sub hyp condition truth r.condition_is ls am (IF id ∷ os) s (λ ms m. record {
         parts = (then_part, else_part);
@@ -170,13 +170,13 @@ module _ (code : Code) (b c : ℕ) (sig : Signature) (id : ℕ) (sub : ℕ → L
           inl (sym (both_smaller then_part else_part r.then_is r.else_is)
           ∙ sym (returns_at code.program id _ there) ∙ h)
       go ms m (inr h) = inr (h ms m (no_variable code.program id _ there refl ms))
-  statement_node (While place condition body) there me r ls am os s k =
+  statement_node (While position condition body) there me r ls am os s k =
       join2 code b c sig id sub hyp (sub condition) (LOOP id ∷ []) os ls s
-      (while_flow code b c sig id sub hyp place condition body there r ls am os s k)
-  statement_node (For place first condition step body) there me r ls am os s k =
-      for_flow code b c sig id sub hyp place first condition step body there r ls am os s k
-  statement_node (Return place None) there me r ls am os s k = r
-  statement_node (Return place (Some v)) there me r ls am os s k =
+      (while_flow code b c sig id sub hyp position condition body there r ls am os s k)
+  statement_node (For position first condition step body) there me r ls am os s k =
+      for_flow code b c sig id sub hyp position first condition step body there r ls am os s k
+  statement_node (Return position None) there me r ls am os s k = r
+  statement_node (Return position (Some v)) there me r ls am os s k =
       join2 code b c sig id sub hyp (sub v) (LEAVEWITH id ∷ []) os ls s
       (value code b c sig id sub hyp v r.fits.kind r.fits.value_is ls am (LEAVEWITH id ∷ os) s (λ ms m. record {
         wanted = r.wanted;

@@ -67,18 +67,18 @@ module _ (code : Code) (facts : Facts code) (b c : ℕ) (sig : Signature) (body 
       (always_returns code.program id ≡ true) ⊎ ((ms : List ℕ) → Among known ms → F os ms s) → (turn : List Op) →
       turn_ops code id node ≡ Some turn → F (turn ++ os) known s
   unfolding AreLoopParts turn_ops returns_of
-  turn_flow id (While place condition x) there known parts os s k turn e =
+  turn_flow id (While position condition x) there known parts os s k turn e =
       subst (λ ys. F (ys ++ os) known s) (some_inj _ turn e)
       (subst (λ ys. F ys known s)
       (sym (append_assoc (ops_of code x) (ops_of code condition ++ LOOP id ∷ []) os
       ∙ ap (λ ys. ops_of code x ++ ys) (append_assoc (ops_of code condition) (LOOP id ∷ []) os)))
       (statement_part_flows known x parts.1 (ops_of code condition ++ (LOOP id ∷ os)) s (inr (λ ms m.
-      again_flow id (While place condition x) there os s condition ms
-      (loop_widens code.program b c known ms (While place condition x) m parts)
+      again_flow id (While position condition x) there os s condition ms
+      (loop_widens code.program b c known ms (While position condition x) m parts)
       (value_widens code.program b c known ms condition truth m parts.0)
-      (always code b c sig id (ops_of code) (all_flow code facts b c sig body id) place condition x there)
+      (always code b c sig id (ops_of code) (all_flow code facts b c sig body id) position condition x there)
       (either_on id known ms os s m k)))))
-  turn_flow id (For place first condition step x) there known parts os s k turn e =
+  turn_flow id (For position first condition step x) there known parts os s k turn e =
       subst (λ ys. F (ys ++ os) known s) (some_inj _ turn e)
       (subst (λ ys. F ys known s)
       (sym (append_assoc (ops_of code x) (ops_of code step ++ (ops_of code condition ++ LOOP id ∷ [])) os
@@ -87,8 +87,8 @@ module _ (code : Code) (facts : Facts code) (b c : ℕ) (sig : Signature) (body 
       (statement_part_flows known x parts.2 (ops_of code step ++ (ops_of code condition ++ (LOOP id ∷ os))) s (inr (λ ms m.
       statement_part_flows ms step (statement_widens code.program b c known ms step m parts.1)
       (ops_of code condition ++ (LOOP id ∷ os)) s (inr (λ ns n.
-      again_flow id (For place first condition step x) there os s condition ns
-      (loop_widens code.program b c known ns (For place first condition step x) (among_trans known ms ns m n) parts)
+      again_flow id (For position first condition step x) there os s condition ns
+      (loop_widens code.program b c known ns (For position first condition step x) (among_trans known ms ns m n) parts)
       (value_widens code.program b c known ns condition truth (among_trans known ms ns m n) parts.0)
       (λ n e h. absurd (true≢false (sym h ∙ returns_at code.program id _ there)))
       (either_on id known ns os s (among_trans known ms ns m n) k)))))))

@@ -40,9 +40,9 @@ option_widens p b c ks ls (Some id) a r = statement_widens p b c ks ls id a r
 pub loop_widens : (p : Declarations) (b c : ℕ) (ks ls : List ℕ) (node : Node) → Among ks ls →
     AreLoopParts p b c ks node → AreLoopParts p b c ls node
 unfolding AreLoopParts
-loop_widens p b c ks ls (While place condition body) a r =
+loop_widens p b c ks ls (While position condition body) a r =
     (value_widens p b c ks ls condition truth a r.0, statement_widens p b c ks ls body a r.1)
-loop_widens p b c ks ls (For place first condition step body) a r = (
+loop_widens p b c ks ls (For position first condition step body) a r = (
   value_widens p b c ks ls condition truth a r.0,
   statement_widens p b c ks ls step a r.1,
   statement_widens p b c ks ls body a r.2,

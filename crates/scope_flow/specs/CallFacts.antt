@@ -118,10 +118,10 @@ pub record PrintFact (code : Code) (b c id method : ℕ) (arguments : List ℕ) 
   pub label : ℕ
   pub value : ℕ
   pub are : arguments ≡ label ∷ (value ∷ [])
-  pub place : Pos
+  pub position : Pos
   pub text : List ℕ
   pub is_smaller : label < id
-  pub is_text : slice_get code.program.nodes label ≡ Some (Text place text)
+  pub is_text : slice_get code.program.nodes label ≡ Some (Text position text)
   pub value_is : HasValue code.program b c id value (Some number)
   pub is_given : gives ≡ None
 
@@ -182,25 +182,25 @@ pub record BuiltinFact (code : Code) (b c : ℕ) (sig : Signature) (id : ℕ) (o
 -- ---- all expressions: what a node that is judged so has
 
 unfoldable pub ExpressionFact : Code → ℕ → ℕ → Signature → ℕ → Node → Option Kind → Type 0
-ExpressionFact code b c sig id (Number place value is_negative) o = o ≡ Some number
-ExpressionFact code b c sig id (True place) o = o ≡ Some truth
-ExpressionFact code b c sig id (False place) o = o ≡ Some truth
-ExpressionFact code b c sig id (Null place) o = o ≡ Some (reference NullTy Any)
-ExpressionFact code b c sig id (ThisNode place) o = ThisFact code.program b c o
-ExpressionFact code b c sig id (SimpleName place name) o =
+ExpressionFact code b c sig id (Number position value is_negative) o = o ≡ Some number
+ExpressionFact code b c sig id (True position) o = o ≡ Some truth
+ExpressionFact code b c sig id (False position) o = o ≡ Some truth
+ExpressionFact code b c sig id (Null position) o = o ≡ Some (reference NullTy Any)
+ExpressionFact code b c sig id (ThisNode position) o = ThisFact code.program b c o
+ExpressionFact code b c sig id (SimpleName position name) o =
     LocalFact code b id o ⊎ (OwnFieldFact code b c id o ⊎ StaticFact code id o)
-ExpressionFact code b c sig id (Parenthesized place inner) o = HasValue code.program b c id inner o
-ExpressionFact code b c sig id (FieldAccess place name object) o =
+ExpressionFact code b c sig id (Parenthesized position inner) o = HasValue code.program b c id inner o
+ExpressionFact code b c sig id (FieldAccess position name object) o =
     FieldFact code b c id object o ⊎ (StaticFact code id o ⊎ LengthFact code b c id object o)
-ExpressionFact code b c sig id (Element place array index) o = ElementFact code.program b c id array index o
-ExpressionFact code b c sig id (Unary place operator operand) o = UnaryFact code.program b c id operator operand o
-ExpressionFact code b c sig id (Binary place operator left right) o =
+ExpressionFact code b c sig id (Element position array index) o = ElementFact code.program b c id array index o
+ExpressionFact code b c sig id (Unary position operator operand) o = UnaryFact code.program b c id operator operand o
+ExpressionFact code b c sig id (Binary position operator left right) o =
     ((is_among operator conditional_operators ≡ true) × ShortFact code.program b c id left right o)
     ⊎ BinaryFact code.program b c id operator left right o
-ExpressionFact code b c sig id (New place name_place name arguments) o = NewFact code b c sig id arguments o
-ExpressionFact code b c sig id (NewArray place element count) o = NewArrayFact code b c sig id count o
-ExpressionFact code b c sig id (Cast place name_place name operand) o = CastFact code b c id operand o
-ExpressionFact code b c sig id (Call place name object arguments) o =
+ExpressionFact code b c sig id (New position name_place name arguments) o = NewFact code b c sig id arguments o
+ExpressionFact code b c sig id (NewArray position element count) o = NewArrayFact code b c sig id count o
+ExpressionFact code b c sig id (Cast position name_place name operand) o = CastFact code b c id operand o
+ExpressionFact code b c sig id (Call position name object arguments) o =
     CallFact code b c sig id object arguments o
     ⊎ (StaticCallFact code b c sig id arguments o ⊎ BuiltinFact code b c sig id object arguments o)
 ExpressionFact code b c sig id _ o = ⊥

@@ -31,7 +31,7 @@ use Rattle.scope_flow.specs.ValueFacts.{HasValue}
 
 -- the receiver of a call, if it is written
 unfoldable pub receiver_of : Node → Option (Option ℕ)
-receiver_of (CallNode place name object arguments) = Some object
+receiver_of (CallNode position name object arguments) = Some object
 receiver_of _ = None
 
 pub record CallNeeds (code : Code) (c : ℕ) (sig : Signature) (id : ℕ) (s out : List Kind) : Type 0 where
@@ -95,12 +95,12 @@ pub record CastNeeds (code : Code) (id : ℕ) (s out : List Kind) : Type 0 where
 
 -- the arguments stand in the node, and the second one is a value of the body
 pub record EnterNeeds (code : Code) (body : Body) (c : ℕ) (sig : Signature) (id : ℕ) (s out : List Kind) : Type 0 where
-  pub place : Pos
+  pub position : Pos
   pub name : List ℕ
   pub object : Option ℕ
   pub size : ℕ
   pub runnable : ℕ
-  pub is_there : slice_get code.program.nodes id ≡ Some (CallNode place name object (size ∷ (runnable ∷ [])))
+  pub is_there : slice_get code.program.nodes id ≡ Some (CallNode position name object (size ∷ (runnable ∷ [])))
   pub target : Target
   pub is : binding code id ≡ Builtin target
   pub class : ℕ

@@ -44,8 +44,8 @@ mutual
   pub data Numbers (code : Code) (b c : ℕ) (known : List ℕ) : ℕ → ℕ → Type 0 where
     one_number : {x : ℕ} → Inside code.program b c x → Judged code.program x (Some number) →
         Among (known_variables code.program x) known → Numbers code b c known x 1
-    form_part : {x n : ℕ} {place name_place : Pos} {name xs : List ℕ} →
-        slice_get code.program.nodes x ≡ Some (New place name_place name xs) → binding code x ≡ Plain →
+    form_part : {x n : ℕ} {position name_place : Pos} {name xs : List ℕ} →
+        slice_get code.program.nodes x ≡ Some (New position name_place name xs) → binding code x ≡ Plain →
         AreSmaller x xs → AllNumbers code b c known xs n → Numbers code b c known x n
 
   pub data AllNumbers (code : Code) (b c : ℕ) (known : List ℕ) : List ℕ → ℕ → Type 0 where
@@ -81,9 +81,9 @@ pub record UnwrittenSuperFact (code : Code) (b c : ℕ) (sig : Signature) (node 
 -- where it is written it is that of its node
 pub record WrittenSuperFact (code : Code) (b c : ℕ) (sig : Signature) (call : ℕ) : Type 0 where
   pub smaller : call < b
-  pub place : Pos
+  pub position : Pos
   pub arguments : List ℕ
-  pub is_there : slice_get code.program.nodes call ≡ Some (SuperCall place arguments)
+  pub is_there : slice_get code.program.nodes call ≡ Some (SuperCall position arguments)
   pub are_smaller : AreSmaller call arguments
   pub known : Among (known_variables code.program call) (parameters_of code.program b)
   pub super_fact : SuperFact code b c sig call arguments
@@ -129,11 +129,11 @@ pub record MethodFact (p : Declarations) (b c : ℕ) (sig : Signature) (result_t
   pub returns : is_same_type (type_at p.nodes result_type) void_type ≡ false → always_returns p body ≡ true
 
 unfoldable pub EntryFact : Code → ℕ → ℕ → Signature → Node → Type 0
-EntryFact code b c sig (MethodNode place name flags result_type parameters (Some body)) =
+EntryFact code b c sig (MethodNode position name flags result_type parameters (Some body)) =
     MethodFact code.program b c sig result_type body
-EntryFact code b c sig (Constructor place name flags parameters super_call body) =
+EntryFact code b c sig (Constructor position name flags parameters super_call body) =
     ConstructorFact code b c sig super_call × BodyFact code.program b c body
-EntryFact code b c sig (Class place name flags header members) = ConstructorFact code b c sig None
+EntryFact code b c sig (Class position name flags header members) = ConstructorFact code b c sig None
 EntryFact code b c sig _ = ⊥
 
 -- ---- all of it

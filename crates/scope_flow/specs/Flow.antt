@@ -66,9 +66,9 @@ pub record IfNeeds (code : Code) (b c id : ℕ) (known : List ℕ) (s : List Kin
 
 -- the parts of a loop
 unfoldable pub AreLoopParts : Declarations → ℕ → ℕ → List ℕ → Node → Type 0
-AreLoopParts p b c known (While place condition body) =
+AreLoopParts p b c known (While position condition body) =
     IsValuePart p b c known condition truth × IsStatementPart p b c known body
-AreLoopParts p b c known (For place first condition step body) =
+AreLoopParts p b c known (For position first condition step body) =
     IsValuePart p b c known condition truth × IsStatementPart p b c known step × IsStatementPart p b c known body
 AreLoopParts p b c known _ = ⊥
 

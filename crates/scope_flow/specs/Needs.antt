@@ -138,10 +138,10 @@ LiesWithObject p class _ = ⊥
 
 -- a node is an assignment that a guard allows
 pub record IsGuardedAssign (p : Declarations) (id : ℕ) : Type 0 where
-  pub place : Pos
+  pub position : Pos
   pub target : ℕ
   pub value : ℕ
-  pub is_there : slice_get p.nodes id ≡ Some (Assign place target value)
+  pub is_there : slice_get p.nodes id ≡ Some (Assign position target value)
   pub is_guarded : is_guarded_store p (type_at_node p) id target value ≡ true
 
 -- a value may be stored in a field of this kind of an object of the class, which lies in the scope `home`: it fits, or a
@@ -320,16 +320,16 @@ HasHidden p class count =
 
 -- the super call with which a constructor begins, where it is written
 unfoldable pub super_call_of : Node → Option ℕ
-super_call_of (Constructor place name flags parameters super_call body) = super_call
+super_call_of (Constructor position name flags parameters super_call body) = super_call
 super_call_of _ = None
 
 pub record IsSuperCall (p : Declarations) (b id : ℕ) : Type 0 where
   pub node : Node
   pub is_body : slice_get p.nodes b ≡ Some node
   pub is_call : super_call_of node ≡ Some id
-  pub place : Pos
+  pub position : Pos
   pub arguments : List ℕ
-  pub is_there : slice_get p.nodes id ≡ Some (SuperCall place arguments)
+  pub is_there : slice_get p.nodes id ≡ Some (SuperCall position arguments)
 
 pub record ParamsNeeds (code : Code) (body : Body) (class : ℕ) (id : ℕ) (s out : List Kind) : Type 0 where
   pub is_written : InNode body (λ b. IsSuperCall code.program b id)

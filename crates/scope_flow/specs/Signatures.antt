@@ -58,9 +58,9 @@ kind_given p class b =
 
 -- the node has a body that may run
 unfoldable pub may_run : Node → Bool
-may_run (MethodNode place name flags result_type parameters (Some body)) = true
-may_run (Constructor place name flags parameters super_call body) = true
-may_run (Class place name flags header members) = true
+may_run (MethodNode position name flags result_type parameters (Some body)) = true
+may_run (Constructor position name flags parameters super_call body) = true
+may_run (Class position name flags header members) = true
 may_run _ = false
 
 -- a written body, the class in which it stands, and its signature. A class is the body of its own constructor where none

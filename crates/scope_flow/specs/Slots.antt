@@ -77,13 +77,13 @@ IsImmortal (fresh c s) = ⊥
 IsImmortal _ = Unit {0}
 
 unfoldable pub kind_of_static : Declarations → ℕ → Option Kind
-kind_of_static p place = slice_get (static_fields p) place >>= kind_of_field p
+kind_of_static p index = slice_get (static_fields p) index >>= kind_of_field p
 
 pub record HasStatic (p : Declarations) (field : ℕ) : Type 0 where
-  pub place : ℕ
-  pub is : static_place p field ≡ Some place
+  pub index : ℕ
+  pub is : static_place p field ≡ Some index
   pub kind : Kind
-  pub holds : kind_of_static p place ≡ Some kind
+  pub holds : kind_of_static p index ≡ Some kind
   pub is_immortal : IsImmortal kind
 
 -- ---- types of objects
@@ -99,8 +99,8 @@ IsOfType p class _ = ⊥
 -- ---- literals
 
 unfoldable pub kind_of_literal : Node → Option Kind
-kind_of_literal (Number place value is_negative) = Some number
-kind_of_literal (True place) = Some yes
-kind_of_literal (False place) = Some truth
-kind_of_literal (Null place) = Some (reference NullTy Any)
+kind_of_literal (Number position value is_negative) = Some number
+kind_of_literal (True position) = Some yes
+kind_of_literal (False position) = Some truth
+kind_of_literal (Null position) = Some (reference NullTy Any)
 kind_of_literal _ = None

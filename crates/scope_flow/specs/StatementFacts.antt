@@ -48,9 +48,9 @@ pub record InitialValueFact (code : Code) (b c id value : ℕ) : Type 0 where
 -- ---- assignments, by the target
 
 pub record SetLocalFact (code : Code) (b c id target value : ℕ) : Type 0 where
-  pub place : Pos
+  pub position : Pos
   pub name : List ℕ
-  pub is_there : slice_get code.program.nodes target ≡ Some (SimpleName place name)
+  pub is_there : slice_get code.program.nodes target ≡ Some (SimpleName position name)
   pub local : ℕ
   pub is : binding code target ≡ LocalVariable local
   pub variable : ℕ
@@ -59,9 +59,9 @@ pub record SetLocalFact (code : Code) (b c id target value : ℕ) : Type 0 where
   pub fits : ValueFits code.program b c id value This is_variable.kind
 
 pub record SetOwnFieldFact (code : Code) (b c id target value : ℕ) : Type 0 where
-  pub place : Pos
+  pub position : Pos
   pub name : List ℕ
-  pub is_there : slice_get code.program.nodes target ≡ Some (SimpleName place name)
+  pub is_there : slice_get code.program.nodes target ≡ Some (SimpleName position name)
   pub field : ℕ
   pub is : binding code target ≡ InstanceField field
   pub own : HasObject code.program b c
@@ -69,10 +69,10 @@ pub record SetOwnFieldFact (code : Code) (b c id target value : ℕ) : Type 0 wh
   pub fits : FieldValueFits code.program b c id value c own.home has.kind
 
 pub record SetFieldFact (code : Code) (b c id target value : ℕ) : Type 0 where
-  pub place : Pos
+  pub position : Pos
   pub name : List ℕ
   pub object : ℕ
-  pub is_there : slice_get code.program.nodes target ≡ Some (FieldAccess place name object)
+  pub is_there : slice_get code.program.nodes target ≡ Some (FieldAccess position name object)
   pub field : ℕ
   pub is : binding code target ≡ InstanceField field
   pub class : ℕ
@@ -90,10 +90,10 @@ pub record SetStaticFact (code : Code) (b c id target value : ℕ) : Type 0 wher
   pub fits : ValueFits code.program b c id value This has.kind
 
 pub record SetElementFact (code : Code) (b c id target value : ℕ) : Type 0 where
-  pub place : Pos
+  pub position : Pos
   pub array : ℕ
   pub index : ℕ
-  pub is_there : slice_get code.program.nodes target ≡ Some (Element place array index)
+  pub is_there : slice_get code.program.nodes target ≡ Some (Element position array index)
   pub is : binding code target ≡ Plain
   pub type : Ty
   pub scope : Scope
@@ -146,18 +146,18 @@ ReturnFact p b c sig id None = sig.gives ≡ None
 ReturnFact p b c sig id (Some value) = ReturnValueFact p b c sig id value
 
 unfoldable pub StatementFact : Code → ℕ → ℕ → Signature → ℕ → Node → Type 0
-StatementFact code b c sig id (Block place statements) =
+StatementFact code b c sig id (Block position statements) =
     HaveStatements code.program b c id (known_variables code.program id) statements
-StatementFact code b c sig id (EmptyStatement place) = Unit {0}
-StatementFact code b c sig id (LocalNode place name flags declared_type) = DeclaredFact code b id
-StatementFact code b c sig id (LocalWithValue place name_place name flags declared_type value) =
+StatementFact code b c sig id (EmptyStatement position) = Unit {0}
+StatementFact code b c sig id (LocalNode position name flags declared_type) = DeclaredFact code b id
+StatementFact code b c sig id (LocalWithValue position name_place name flags declared_type value) =
     InitialValueFact code b c id value
-StatementFact code b c sig id (Assign place target value) = AssignFact code b c id target value
-StatementFact code b c sig id (ExpressionStatement place expression) = InvocationFact code b c id expression
-StatementFact code b c sig id (If place condition then_part else_part) =
+StatementFact code b c sig id (Assign position target value) = AssignFact code b c id target value
+StatementFact code b c sig id (ExpressionStatement position expression) = InvocationFact code b c id expression
+StatementFact code b c sig id (If position condition then_part else_part) =
     IfFact code.program b c id condition then_part else_part
-StatementFact code b c sig id (While place condition body) = WhileFact code.program b c id condition body
-StatementFact code b c sig id (For place first condition step body) =
+StatementFact code b c sig id (While position condition body) = WhileFact code.program b c id condition body
+StatementFact code b c sig id (For position first condition step body) =
     ForFact code.program b c id first condition step body
-StatementFact code b c sig id (Return place value) = ReturnFact code.program b c sig id value
+StatementFact code b c sig id (Return position value) = ReturnFact code.program b c sig id value
 StatementFact code b c sig id _ = ⊥

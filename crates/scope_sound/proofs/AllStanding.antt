@@ -75,7 +75,7 @@ immortal_under code w base activity fine f below has =
 
 abbrev pub HaveFrames : State → Type 0
 HaveFrames s =
-    (place : ℕ) (activity : Activity) → activity_of s (ReleaseAt place) ≡ Some activity → HasFrame activity
+    (index : ℕ) (activity : Activity) → activity_of s (ReleaseAt index) ≡ Some activity → HasFrame activity
 
 -- the job has frames, if it is a release and under way
 abbrev pub HasFramesIfRelease : State → Job → Type 0
@@ -94,15 +94,15 @@ same_or_other (ReleaseAt n) (ReleaseAt m) = go (m == n) refl
 
 pub have_frames_after : (s after : State) (job : Job) → OthersStand s job after → HaveFrames s →
     HasFramesIfRelease after job → HaveFrames after
-have_frames_after s after job stand have own place activity is = go (same_or_other job (ReleaseAt place))
+have_frames_after s after job stand have own index activity is = go (same_or_other job (ReleaseAt index))
   where
-    mine : ReleaseAt place ≡ job → HasFrame activity ⊎ (job ≡ TheSequencer) → HasFrame activity
+    mine : ReleaseAt index ≡ job → HasFrame activity ⊎ (job ≡ TheSequencer) → HasFrame activity
     mine e (inl h) = h
-    mine e (inr h) = absurd (let x : ReleaseAt place ≡ TheSequencer = e ∙ h in cc (x))
+    mine e (inr h) = absurd (let x : ReleaseAt index ≡ TheSequencer = e ∙ h in cc (x))
 
-    go : (ReleaseAt place ≡ job) ⊎ (ReleaseAt place ≡ job → ⊥) → HasFrame activity
+    go : (ReleaseAt index ≡ job) ⊎ (ReleaseAt index ≡ job → ⊥) → HasFrame activity
     go (inl e) = mine e (own activity (ap (activity_of after) (sym e) ∙ is))
-    go (inr n) = have place activity (sym (stand (ReleaseAt place) n) ∙ is)
+    go (inr n) = have index activity (sym (stand (ReleaseAt index) n) ∙ is)
 
 -- ---- areas after an operation
 

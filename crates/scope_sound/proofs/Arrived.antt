@@ -68,8 +68,8 @@ module _ (code : Code) where
       go None events = record { activity = refl; phase = refl }
       go (Some handler) events = taken_still s handler
 
-  at_still : (fires : List Fire) (s : State) (place : ℕ) → StandsStill s (fired_at code fires s place).state
-  at_still fires s place = go (slice_get fires place)
+  at_still : (fires : List Fire) (s : State) (index : ℕ) → StandsStill s (fired_at code fires s index).state
+  at_still fires s index = go (slice_get fires index)
     where
       go : (o : Option Fire) →
           StandsStill s (elim o as (λ z. Step) [ None ↦ silently s | Some fire ↦ fired code s fire ]).state

@@ -138,8 +138,8 @@ calls_by_types code facts =
         registrations = λ plan s job op f r o reached does found.
             registered_is_handler code facts plan s reached job op f r o does found;
       };
-      opens = λ plan s place op f g scope bytes r o reached does this found.
-          opened_is_runnable code facts plan s reached (ReleaseAt place) op f g scope bytes r o does this found;
+      opens = λ plan s index op f g scope bytes r o reached does this found.
+          opened_is_runnable code facts plan s reached (ReleaseAt index) op f g scope bytes r o does this found;
     }
 
 pub safe_by_priority : (forest : Forest) → IsAcceptedProgram forest → HasFacts (code_of forest) →

@@ -106,9 +106,9 @@ module _ (code : Code) where
   unfolding activity_of
   frameless s t same none not_started TheSequencer activity e =
       ap (λ (a : Activity). a.frames) (sym (sequencer_activity t activity e)) ∙ (same.frames ∙ none)
-  frameless s t same none not_started (ReleaseAt place) activity e =
-      absurd (not_under_way s not_started place activity
-      (subst (λ (rs : List Release). activity_of (record t { releases = rs }) (ReleaseAt place) ≡ Some activity)
+  frameless s t same none not_started (ReleaseAt index) activity e =
+      absurd (not_under_way s not_started index activity
+      (subst (λ (rs : List Release). activity_of (record t { releases = rs }) (ReleaseAt index) ≡ Some activity)
       same.releases e))
 
   module _ (s : State) (a : SoundAfter code s) where

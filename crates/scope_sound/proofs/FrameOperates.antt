@@ -30,13 +30,13 @@ use Rattle.scope_sound.proofs.Registers.{registers_fine}
 
 -- ---- frames and areas of a job that has come to its end
 
-ended_is : (s : State) (place : ℕ) → HasEnded s place → activity_of s (ReleaseAt place) ≡ None
+ended_is : (s : State) (index : ℕ) → HasEnded s index → activity_of s (ReleaseAt index) ≡ None
 unfolding activity_of activity_in
-ended_is s place h =
+ended_is s index h =
     ap (λ (o : Option Release). o >>= (λ r. activity_in r.status)) h.is ∙ ap activity_in h.ended
 
-pub ended_has_frames : (s : State) (place : ℕ) → HasEnded s place → HasFramesIfRelease s (ReleaseAt place)
-ended_has_frames s place h activity is = absurd (let none = ended_is s place h in cc (none, is))
+pub ended_has_frames : (s : State) (index : ℕ) → HasEnded s index → HasFramesIfRelease s (ReleaseAt index)
+ended_has_frames s index h activity is = absurd (let none = ended_is s index h in cc (none, is))
 
 pub none_is_new : (code : Code) (s : State) (frames : List Frame) (after : State) → IsClosedBehind s frames after →
     NewAreNoMissions code s after
@@ -124,35 +124,35 @@ module _ (code : Code) (facts : Facts code) (promised : SequencerFacts code) (ro
 -- ---- of a release
 
 pub release_operates : (code : Code) → Facts code → SequencerFacts code → (rows : List ReadingRow) (s : State) →
-    Sound code s → (place : ℕ) (activity : Activity) → activity_of s (ReleaseAt place) ≡ Some activity → (f : Frame)
+    Sound code s → (index : ℕ) (activity : Activity) → activity_of s (ReleaseAt index) ≡ Some activity → (f : Frame)
     (below : List Frame) → activity.frames ≡ f ∷ below →
-    OperatesSoundly code (frame_op code rows s (ReleaseAt place) activity)
-release_operates code facts promised rows s sound place activity is f below has =
+    OperatesSoundly code (frame_op code rows s (ReleaseAt index) activity)
+release_operates code facts promised rows s sound index activity is f below has =
     record {
       step = k.step;
       is = k.is;
       after =
-          release_keeps_sound code s sound.settled.invariant sound.settled.followed place activity.frames k.step.state
+          release_keeps_sound code s sound.settled.invariant sound.settled.followed index activity.frames k.step.state
           (go k.either);
     }
   where
-    outside : ReleaseAt place ≡ TheSequencer → is_exec s.phase ≡ false
+    outside : ReleaseAt index ≡ TheSequencer → is_exec s.phase ≡ false
     outside e = absurd (cc (e))
 
-    k : KeepsItsJob code s (ReleaseAt place) activity (areas_of sound.settled.invariant.base) f below
-        (frame_op code rows s (ReleaseAt place) activity)
-    k = own code facts promised rows s sound (ReleaseAt place) activity is f below has outside
+    k : KeepsItsJob code s (ReleaseAt index) activity (areas_of sound.settled.invariant.base) f below
+        (frame_op code rows s (ReleaseAt index) activity)
+    k = own code facts promised rows s sound (ReleaseAt index) activity is f below has outside
 
-    go : JobGoesOn code s (ReleaseAt place) (areas_of sound.settled.invariant.base) f below k.step.state
+    go : JobGoesOn code s (ReleaseAt index) (areas_of sound.settled.invariant.base) f below k.step.state
         ⊎ (((below ≡ [])
-        × HasLeft code s (ReleaseAt place) (areas_of sound.settled.invariant.base) f k.step.state)
-        ⊎ HasFaulted code s (ReleaseAt place) activity k.step) →
-        Keeps code s sound.settled.invariant (ReleaseAt place) activity.frames k.step.state
-    go (inl g) = goes_on_keeps code facts promised rows s sound (ReleaseAt place) activity is f below has outside k g
+        × HasLeft code s (ReleaseAt index) (areas_of sound.settled.invariant.base) f k.step.state)
+        ⊎ HasFaulted code s (ReleaseAt index) activity k.step) →
+        Keeps code s sound.settled.invariant (ReleaseAt index) activity.frames k.step.state
+    go (inl g) = goes_on_keeps code facts promised rows s sound (ReleaseAt index) activity is f below has outside k g
     go (inr (inl x)) =
-        keeps code facts promised rows s sound (ReleaseAt place) activity is f below has outside k
-        (none_is_new code s (f ∷ []) k.step.state x.1.closed) (ended_has_frames k.step.state place x.1.ends)
+        keeps code facts promised rows s sound (ReleaseAt index) activity is f below has outside k
+        (none_is_new code s (f ∷ []) k.step.state x.1.closed) (ended_has_frames k.step.state index x.1.ends)
     go (inr (inr x)) =
-        keeps code facts promised rows s sound (ReleaseAt place) activity is f below has outside k
+        keeps code facts promised rows s sound (ReleaseAt index) activity is f below has outside k
         (none_is_new code s activity.frames k.step.state x.ends.closed)
-        (ended_has_frames k.step.state place x.ends.ended)
+        (ended_has_frames k.step.state index x.ends.ended)

@@ -47,14 +47,14 @@ module _ (s : State) (goes_on : is_over s.phase ≡ false) where
   bound None f h = record { is = λ step e. absurd (cc (e)) }
   bound (Some x) f h = h x
 
-  opened_stays : (place : Pos) (scope bytes : ℕ) → Stays (area_opened s place scope bytes)
+  opened_stays : (position : Pos) (scope bytes : ℕ) → Stays (area_opened s position scope bytes)
   unfolding area_opened opening fault_in
-  opened_stays place scope bytes =
+  opened_stays position scope bytes =
       either (has_store_for s bytes) _ _ (λ over. absurd (true≢false (sym over ∙ goes_on))) (λ over. refl)
 
-  made_stays : (code : Code) (place : Pos) (class area : ℕ) → Stays (safelet_made code s place class area)
+  made_stays : (code : Code) (position : Pos) (class area : ℕ) → Stays (safelet_made code s position class area)
   unfolding safelet_made allocating fault_in
-  made_stays code place class area =
+  made_stays code position class area =
       either (has_room s area _) _ _ (λ over. absurd (true≢false (sym over ∙ goes_on))) (λ over. refl)
 
   called_halts : (code : Code) (r : ℕ) (body : Body) → Halts (body_called code s r body)

@@ -48,15 +48,15 @@ started_in_mission (CleanUp r) outcome base exec h = absurd (true≢false (sym e
 started_in_mission Finished outcome base exec h = absurd (true≢false (sym exec))
 
 module _ (code : Code) (s : State) (i : Invariant code s) (held : ReferencesHold s (areas_of i.base)) where
-  release_in_mission : (place : ℕ) (activity : Activity) → activity_of s (ReleaseAt place) ≡ Some activity →
+  release_in_mission : (index : ℕ) (activity : Activity) → activity_of s (ReleaseAt index) ≡ Some activity →
       IsInMission i.base
-  release_in_mission place activity is = go (is_exec s.phase) refl
+  release_in_mission index activity is = go (is_exec s.phase) refl
     where
       go : (t : Bool) → is_exec s.phase ≡ t → IsInMission i.base
       go true e =
           started_in_mission s.operation s.outcome i.base (sym (ap is_exec i.sequencer.phase) ∙ e)
           i.sequencer.base_suits
-      go false e = absurd (not_under_way s (i.handlers.none_started e) place activity is)
+      go false e = absurd (not_under_way s (i.handlers.none_started e) index activity is)
 
   pub framed : (job : Job) → Framed code s job
   framed job =
@@ -64,8 +64,8 @@ module _ (code : Code) (s : State) (i : Invariant code s) (held : ReferencesHold
         base = i.base;
         suits = i.sequencer.base_suits;
         memory = i.sequencer.base_fine;
-        of_release = λ place activity e is.
-            release_in_mission place activity (ap (activity_of s) (sym e) ∙ is);
+        of_release = λ index activity e is.
+            release_in_mission index activity (ap (activity_of s) (sym e) ∙ is);
         frames = i.memories.jobs job;
         each = λ activity is.
             frames_framed code (world_of s) (areas_of i.base) activity.frames (i.memories.jobs job activity is).frames;

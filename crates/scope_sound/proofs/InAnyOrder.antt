@@ -79,14 +79,14 @@ module _ (code : Code) (facts : HasFacts code) (operates : AllOperate code) wher
             (some_step (telling second.state (first.events ++ second.events)) step e) (x.is second refl);
       }
 
-  named_may_act : (s : State) (place : ℕ) → is_exec s.phase ≡ true → may_act s place ≡ true →
-      job_may_act (with_turn s (TurnOf place)) (ReleaseAt place) ≡ true
+  named_may_act : (s : State) (index : ℕ) → is_exec s.phase ≡ true → may_act s index ≡ true →
+      job_may_act (with_turn s (TurnOf index)) (ReleaseAt index) ≡ true
   unfolding job_may_act may_act candidate
-  named_may_act s place exec may = ap (λ b. b && may_act s place) exec ∙ may
+  named_may_act s index exec may = ap (λ b. b && may_act s index) exec ∙ may
 
   module _ (rows : List ReadingRow) (s : State) (sound : Sound code s) where
     turn_leads : (turn : Turn) → is_exec s.phase ≡ true →
-        ((place : ℕ) → turn ≡ TurnOf place → may_act s place ≡ true) →
+        ((index : ℕ) → turn ≡ TurnOf index → may_act s index ≡ true) →
         Lead (then_try (turn_taken s turn) (turn_acts code rows turn))
     unfolding turn_taken turn_acts
     turn_leads IdleTurn exec may =
@@ -96,10 +96,10 @@ module _ (code : Code) (facts : HasFacts code) (operates : AllOperate code) wher
               subst (λ (y : Step). SoundAfter code y.state) (some_step (silently (with_turn s IdleTurn)) step e)
               (rested (with_turn s IdleTurn) (turned s IdleTurn sound));
         })
-    turn_leads (TurnOf place) exec may =
-        told_leads (turn_taken s (TurnOf place)) (ref_op code rows (with_turn s (TurnOf place)) (ReleaseAt place))
-        (leads _ (operates rows (with_turn s (TurnOf place)) (ReleaseAt place) (turned s (TurnOf place) sound)
-        (named_may_act s place exec (may place refl))))
+    turn_leads (TurnOf index) exec may =
+        told_leads (turn_taken s (TurnOf index)) (ref_op code rows (with_turn s (TurnOf index)) (ReleaseAt index))
+        (leads _ (operates rows (with_turn s (TurnOf index)) (ReleaseAt index) (turned s (TurnOf index) sound)
+        (named_may_act s index exec (may index refl))))
 
     list_leads : (choices : List ℕ) → is_exec s.phase ≡ true →
         Lead (by_list choices s >>= (λ turn. then_try (turn_taken s turn) (turn_acts code rows turn)))
@@ -109,22 +109,22 @@ module _ (code : Code) (facts : HasFacts code) (operates : AllOperate code) wher
         next : Turn → Option Step
         next turn = then_try (turn_taken s turn) (turn_acts code rows turn)
 
-        chosen : (place : ℕ) (b : Bool) → may_act s place ≡ b →
-            Lead ((if b then Some (TurnOf place) else None) >>= next)
-        chosen place true e =
-            turn_leads (TurnOf place) exec (λ q same. (let p : place ≡ q = cc (same) in ap (may_act s) (sym p) ∙ e))
-        chosen place false e = record { is = λ step e. absurd (cc (e)) }
+        chosen : (index : ℕ) (b : Bool) → may_act s index ≡ b →
+            Lead ((if b then Some (TurnOf index) else None) >>= next)
+        chosen index true e =
+            turn_leads (TurnOf index) exec (λ q same. (let p : index ≡ q = cc (same) in ap (may_act s) (sym p) ∙ e))
+        chosen index false e = record { is = λ step e. absurd (cc (e)) }
 
         named : (o : Option ℕ) →
-            Lead ((o >>= (λ place. if may_act s place then Some (TurnOf place) else None)) >>= next)
+            Lead ((o >>= (λ index. if may_act s index then Some (TurnOf index) else None)) >>= next)
         named None = record { is = λ step e. absurd (cc (e)) }
-        named (Some place) = chosen place (may_act s place) refl
+        named (Some index) = chosen index (may_act s index) refl
 
         go : (cs : List Candidate) →
             Lead ((elim cs as (λ z. Option Turn) [
               | [] ↦ Some IdleTurn
               | c ∷ more ↦
-                  slice_get choices s.unit >>= (λ place. if may_act s place then Some (TurnOf place) else None)
+                  slice_get choices s.unit >>= (λ index. if may_act s index then Some (TurnOf index) else None)
             ]) >>= next)
         go [] = turn_leads IdleTurn exec (λ q same. absurd (cc (same)))
         go (c ∷ more) = named (slice_get choices s.unit)

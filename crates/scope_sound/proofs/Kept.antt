@@ -59,8 +59,8 @@ module _ (code : Code) (s : State) (i : Invariant code s) where
 
   -- ---- a release acts
 
-  module _ (followed : s.outcome ≡ None) (place : ℕ) (frames : List Frame) (after : State)
-      (k : Keeps (ReleaseAt place) frames after) where
+  module _ (followed : s.outcome ≡ None) (index : ℕ) (frames : List Frame) (after : State)
+      (k : Keeps (ReleaseAt index) frames after) where
     same_activity : (after.activity ≡ s.activity) × (after.outcome ≡ s.outcome)
     same_activity = elim k.others.activity as (λ z. (after.activity ≡ s.activity) × (after.outcome ≡ s.outcome)) [
       | inl e ↦ absurd (cc (e))
@@ -70,13 +70,13 @@ module _ (code : Code) (s : State) (i : Invariant code s) where
     same_operation : KeepsOperation s after
     same_operation = go k.others.sequencer
       where
-        go : SequencerStays s (ReleaseAt place) after → KeepsOperation s after
+        go : SequencerStays s (ReleaseAt index) after → KeepsOperation s after
         go (inl e) = record { phase = e.0; operation = e.1 }
-        go (inr e) = absurd (let x : ReleaseAt place ≡ TheSequencer = e.0 in cc (x))
+        go (inr e) = absurd (let x : ReleaseAt index ≡ TheSequencer = e.0 in cc (x))
 
     pub release_keeps_sound : SoundAfter code after
     release_keeps_sound =
-        sound_after (ReleaseAt place) frames after k
+        sound_after (ReleaseAt index) frames after k
         (record {
           operation = same_operation;
           suits = subst (λ v. BaseSuits s.operation v i.base) (sym same_activity.1) i.sequencer.base_suits;

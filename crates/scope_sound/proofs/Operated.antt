@@ -42,35 +42,35 @@ module _ (code : Code) (facts : Facts code) (promised : SequencerFacts code) (ro
 
   -- ---- a release that waits or is started
 
-  module _ (exec : is_exec s.phase ≡ true) (place : ℕ) (r : Release) (there : slice_get s.releases place ≡ Some r) where
-    waiting_operates : r.status ≡ Waits → OperatesSoundly code (start_op code s place r)
+  module _ (exec : is_exec s.phase ≡ true) (index : ℕ) (r : Release) (there : slice_get s.releases index ≡ Some r) where
+    waiting_operates : r.status ≡ Waits → OperatesSoundly code (start_op code s index r)
     unfolding is_waiting
     waiting_operates e =
-        let row = i.handlers.handled place r there
+        let row = i.handlers.handled index r there
         (ap (λ (status : ReleaseStatus). is_waiting status || is_started status) e) in
-        start_operates code facts promised s sound exec place r there e row.0 row.1
+        start_operates code facts promised s sound exec index r there e row.0 row.1
 
     started_operates : (activity : Activity) → r.status ≡ Started activity →
-        OperatesSoundly code (frame_op code rows s (ReleaseAt place) activity)
+        OperatesSoundly code (frame_op code rows s (ReleaseAt index) activity)
     unfolding activity_of activity_in
     started_operates activity e =
-        let is : activity_of s (ReleaseAt place) ≡ Some activity =
+        let is : activity_of s (ReleaseAt index) ≡ Some activity =
         ap (λ (o : Option Release). o >>= (λ r. activity_in r.status)) there ∙ ap activity_in e in
-        let h = i.memories.have_frames place activity is in
-        release_operates code facts promised rows s sound place activity is h.highest h.below h.are
+        let h = i.memories.have_frames index activity is in
+        release_operates code facts promised rows s sound index activity is h.highest h.below h.are
 
-    candidate_operates : is_some (candidate s place r) ≡ true → OperatesSoundly code (release_op_of code rows s place r)
+    candidate_operates : is_some (candidate s index r) ≡ true → OperatesSoundly code (release_op_of code rows s index r)
     unfolding candidate release_op_of
     candidate_operates acts = go r.status refl acts
       where
         go : (status : ReleaseStatus) → r.status ≡ status → is_some (elim status as (λ z. Option Candidate) [
-          | Waits ↦ Some (record { place = place; priority = handler_priority s r.handler; is_started = false })
-          | Started activity ↦ Some (record { place = place; priority = activity.priority; is_started = true })
+          | Waits ↦ Some (record { index = index; priority = handler_priority s r.handler; is_started = false })
+          | Started activity ↦ Some (record { index = index; priority = activity.priority; is_started = true })
           | Ended ↦ None
           | Dropped ↦ None
         ]) ≡ true → OperatesSoundly code (elim status as (λ z. Option Step) [
-          | Waits ↦ start_op code s place r
-          | Started activity ↦ frame_op code rows s (ReleaseAt place) activity
+          | Waits ↦ start_op code s index r
+          | Started activity ↦ frame_op code rows s (ReleaseAt index) activity
           | Ended ↦ None
           | Dropped ↦ None
         ])
@@ -79,16 +79,16 @@ module _ (code : Code) (facts : Facts code) (promised : SequencerFacts code) (ro
         go Ended e acts = absurd (true≢false (sym acts))
         go Dropped e acts = absurd (true≢false (sym acts))
 
-  release_operated : is_exec s.phase ≡ true → (place : ℕ) → may_act s place ≡ true →
-      OperatesSoundly code (ref_op code rows s (ReleaseAt place))
+  release_operated : is_exec s.phase ≡ true → (index : ℕ) → may_act s index ≡ true →
+      OperatesSoundly code (ref_op code rows s (ReleaseAt index))
   unfolding ref_op may_act
-  release_operated exec place acts = go (slice_get s.releases place) refl acts
+  release_operated exec index acts = go (slice_get s.releases index) refl acts
     where
-      go : (o : Option Release) → slice_get s.releases place ≡ o →
-          holds o (λ r. is_some (candidate s place r)) ≡ true →
-          OperatesSoundly code (o >>= release_op_of code rows s place)
+      go : (o : Option Release) → slice_get s.releases index ≡ o →
+          holds o (λ r. is_some (candidate s index r)) ≡ true →
+          OperatesSoundly code (o >>= release_op_of code rows s index)
       go None e acts = absurd (true≢false (sym acts))
-      go (Some r) e acts = candidate_operates exec place r e acts
+      go (Some r) e acts = candidate_operates exec index r e acts
 
   -- ---- the sequencer
 
@@ -97,8 +97,8 @@ module _ (code : Code) (facts : Facts code) (promised : SequencerFacts code) (ro
         activity_of s job ≡ Some activity → activity.frames ≡ []
     nobody_under_way none TheSequencer activity e =
         ap (λ (a : Activity). a.frames) (sym (sequencer_activity s activity e)) ∙ none
-    nobody_under_way none (ReleaseAt place) activity e =
-        absurd (not_under_way s (i.handlers.none_started outside) place activity e)
+    nobody_under_way none (ReleaseAt index) activity e =
+        absurd (not_under_way s (i.handlers.none_started outside) index activity e)
 
     -- whatever it has without frames afterwards, no reference speaks of it
     alone_operates : s.activity.frames ≡ [] → OperatesSoundly code (sequencer_op code s s.operation)
@@ -135,6 +135,6 @@ unfolding job_may_act
 operated code facts promised rows s TheSequencer sound acts =
     let t = both (not (is_exec s.phase)) (not (is_over s.phase)) acts in
     sequencer_operated code facts promised rows s sound (is_off (is_exec s.phase) t.0) (is_off (is_over s.phase) t.1)
-operated code facts promised rows s (ReleaseAt place) sound acts =
-    let t = both (is_exec s.phase) (may_act s place) acts in
-    release_operated code facts promised rows s sound t.0 place t.1
+operated code facts promised rows s (ReleaseAt index) sound acts =
+    let t = both (is_exec s.phase) (may_act s index) acts in
+    release_operated code facts promised rows s sound t.0 index t.1

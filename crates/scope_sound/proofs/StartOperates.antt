@@ -55,7 +55,7 @@ module _ (code : Code) (s : State) (i : Invariant code s) (frameless : s.activit
 -- ---- the first operation of a release
 
 module _ (code : Code) (facts : Facts code) (promised : SequencerFacts code) (s : State) (sound : Sound code s)
-    (exec : is_exec s.phase ≡ true) (place : ℕ) (r : Release) (there : slice_get s.releases place ≡ Some r)
+    (exec : is_exec s.phase ≡ true) (index : ℕ) (r : Release) (there : slice_get s.releases index ≡ Some r)
     (waits : r.status ≡ Waits) (row : HandlerRow) (registered : handler_row s.registry r.handler ≡ Some row) where
   abbrev i : Invariant code s
   i = sound.settled.invariant
@@ -76,33 +76,33 @@ module _ (code : Code) (facts : Facts code) (promised : SequencerFacts code) (s 
   may : MayStart code s row
   may = registered_may_start code promised s i frameless r.handler row registered
 
-  module _ (k : Starts code s place row may.handler (start_op code s place r)) where
+  module _ (k : Starts code s index row may.handler (start_op code s index r)) where
     all_after : AllStand code k.step.state list
     all_after = subst (λ (t : Step). AllStand code t.state list) (some_inj l.step k.step (sym l.is ∙ k.is)) l.stand
       where
-        l : LetsAllStand code list (start_op code s place r)
+        l : LetsAllStand code list (start_op code s index r)
         l =
-            start_lets_stand code s list (all_stand code s i.base i.memories fine) frameless place r there waits facts
+            start_lets_stand code s list (all_stand code s i.base i.memories fine) frameless index r there waits facts
             row registered may.handler
 
-    keeps : NewAreNoMissions code s k.step.state → HasFramesIfRelease k.step.state (ReleaseAt place) →
-        Keeps code s i (ReleaseAt place) [] k.step.state
+    keeps : NewAreNoMissions code s k.step.state → HasFramesIfRelease k.step.state (ReleaseAt index) →
+        Keeps code s i (ReleaseAt index) [] k.step.state
     keeps new frames =
         record {
-          others = start_keeps code s place r k.step k.is;
+          others = start_keeps code s index r k.step k.is;
           off = λ a on. refl;
           fine = fine;
           all = all_after;
           new = new;
           own = frames;
-          handlers = start_handled code i.base s place r k.step there waits exec i.handlers k.is;
+          handlers = start_handled code i.base s index r k.step there waits exec i.handlers k.is;
           references =
-              (start_keeps_references code s list sound.references (inner_there code s i frameless) place r).gives
+              (start_keeps_references code s list sound.references (inner_there code s i frameless) index r).gives
               k.step k.is;
         }
 
-    either_keeps : HasStarted code s place row may.handler.scope may.handler.may_open.inner k.step.state
-        ⊎ HasFaulted code s (ReleaseAt place) no_activity k.step → Keeps code s i (ReleaseAt place) [] k.step.state
+    either_keeps : HasStarted code s index row may.handler.scope may.handler.may_open.inner k.step.state
+        ⊎ HasFaulted code s (ReleaseAt index) no_activity k.step → Keeps code s i (ReleaseAt index) [] k.step.state
     either_keeps (inl x) =
         keeps (λ a y none here.
         (let n = (new_area_owned s [] k.step.state x.frame [] _ x.areas x.opened refl).new a y none here in
@@ -113,15 +113,15 @@ module _ (code : Code) (facts : Facts code) (promised : SequencerFacts code) (s 
           are = ap (λ (a : Activity). a.frames) (some_inj activity x.stands.activity (sym is ∙ x.stands.is)) ∙ x.are;
         }))
     either_keeps (inr x) =
-        keeps (none_is_new code s [] k.step.state x.ends.closed) (ended_has_frames k.step.state place x.ends.ended)
+        keeps (none_is_new code s [] k.step.state x.ends.closed) (ended_has_frames k.step.state index x.ends.ended)
 
-  pub start_operates : OperatesSoundly code (start_op code s place r)
+  pub start_operates : OperatesSoundly code (start_op code s index r)
   start_operates =
       record {
         step = k.step;
         is = k.is;
-        after = release_keeps_sound code s i sound.settled.followed place [] k.step.state (either_keeps k k.either);
+        after = release_keeps_sound code s i sound.settled.followed index [] k.step.state (either_keeps k k.either);
       }
     where
-      k : Starts code s place row may.handler (start_op code s place r)
-      k = starts code facts s place r there row i.memories.memory may.handler registered
+      k : Starts code s index row may.handler (start_op code s index r)
+      k = starts code facts s index r there row i.memories.memory may.handler registered

@@ -83,7 +83,7 @@ pub record Framed (code : Code) (s : State) (job : Job) : Type 0 where
   pub base : Base
   pub suits : BaseSuits s.operation s.outcome base
   pub memory : BaseFine code s base
-  pub of_release : (place : ℕ) (activity : Activity) → job ≡ ReleaseAt place →
+  pub of_release : (index : ℕ) (activity : Activity) → job ≡ ReleaseAt index →
       activity_of s job ≡ Some activity → IsInMission base
   pub frames : (activity : Activity) → activity_of s job ≡ Some activity →
       JobFine code (world_of s) (areas_of base) activity

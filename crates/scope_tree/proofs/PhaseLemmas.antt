@@ -19,12 +19,12 @@ unfolding over_classes
 classes_joined p rule = joined_all (at_class p rule) p.classes
 
 -- S6 by the parts of a class, and where there is none
-pub missing_at : (p : Declarations) (class : ℕ) (o : Option WrittenClass) (m : Modifiers) (place : Pos)
-    → Some m ≡ option_map (λ (c : WrittenClass). c.modifiers) o → Some place ≡ option_map (λ (c : WrittenClass). c.place) o
-    → broken (lacks_scope p class m.is_abstract) S6 place ≡ found_at o (s6 p class)
+pub missing_at : (p : Declarations) (class : ℕ) (o : Option WrittenClass) (m : Modifiers) (position : Pos)
+    → Some m ≡ option_map (λ (c : WrittenClass). c.modifiers) o → Some position ≡ option_map (λ (c : WrittenClass). c.position) o
+    → broken (lacks_scope p class m.is_abstract) S6 position ≡ found_at o (s6 p class)
 unfolding s6
-missing_at p class None m place h k = cc
-missing_at p class (Some c) m place h k = grind (arith, h, k)
+missing_at p class None m position h k = cc
+missing_at p class (Some c) m position h k = grind (arith, h, k)
 
 none_written : (p : Declarations) (class : ℕ) → user_class_in p.classes class ≡ None → definition_breaks p class ≡ []
 unfolding definition_breaks definition_in

@@ -38,7 +38,7 @@ fn values(program: &Program, class: NodeId) -> Option<(NodeId, NodeId)>
     };
     match program.get((*define_scope)?)? {
         Node::DefineScope {
-            place: _,
+            position: _,
             first,
             second,
             parent_first,
@@ -92,7 +92,7 @@ pub fn modifiers_in(classes: &ClassTable, class: ClassId) -> Option<Modifiers>
 /// Where a user class is named.
 #[tactic(auto, using(class_rows::proofs::UserLemmas::written_stays))]
 pub fn place_in(classes: &ClassTable, class: ClassId) -> Option<Pos>
-    ensures { result ≡ option_map (λ (c : WrittenClass). c.place)
+    ensures { result ≡ option_map (λ (c : WrittenClass). c.position)
         (user_class_in (declarations_of classes.now).classes class) }
 {
     let program = classes.program();

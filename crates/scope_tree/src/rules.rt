@@ -135,8 +135,8 @@ fn note_definition(
         OnOk result (found.new.items ≡ found.old.items ++ (s1 p class definition.now ++ s2 p class definition.now
         ++ s3 p class definition.now ++ s4 p class definition.now ++ s5 p class definition.now)) }
 {
-    let scope = definition.scope.place;
-    let parent = definition.parent.place;
+    let scope = definition.scope.position;
+    let parent = definition.parent.position;
     let is_taken = is_defined_already(facts, class, definition);
     let is_unknown = facts.scope_number(&definition.parent.name).is_none();
     let is_cycle = makes_scope(facts, class, definition) && is_cyclic(facts, class);
@@ -190,9 +190,9 @@ fn note_missing(found: &mut Vec<Found>, facts: &Facts, class: ClassId) -> Result
 {
     let classes = facts.classes();
     match (modifiers_in(classes, class), place_in(classes, class)) {
-        (Some(modifiers), Some(place)) => {
+        (Some(modifiers), Some(position)) => {
             let test = lacks_scope(facts, class, modifiers.is_abstract);
-            report_if(found, test, Rule::S6, place)
+            report_if(found, test, Rule::S6, position)
         }
         _ => Ok(()),
     }

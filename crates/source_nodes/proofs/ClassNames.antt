@@ -27,7 +27,7 @@ labels_fit nodes files longest fit id = go (slice_get nodes id) refl
         list_all is_text_byte
         (elim (o >>= bytes_of_text) as (λ _. List ℕ) [ None ↦ [] | Some bytes ↦ bytes ]) ≡ true
     go None e = refl
-    go (Some (node.Text place bytes)) e = fit.words id (node.Text place bytes) e
+    go (Some (node.Text position bytes)) e = fit.words id (node.Text position bytes) e
     go (Some _) e = refl
 
 -- ---- names of rows
@@ -108,11 +108,11 @@ written_at nodes files longest fit id = go (slice_get nodes id) refl
   where
     go : (o : Option Node) → slice_get nodes id ≡ o → IsWritten (o >>= class_of nodes id)
     go None e = record { is = λ c f. absurd (cc (f)) }
-    go (Some (node.Class place name flags header members)) e =
+    go (Some (node.Class position name flags header members)) e =
         record {
           is = λ c f.
               ap is_name (sym (ap (λ (o : Option WrittenClass). name_or name o) f))
-              ∙ fit.words id (node.Class place name flags header members) e;
+              ∙ fit.words id (node.Class position name flags header members) e;
         }
       where
         name_or : List ℕ → Option WrittenClass → List ℕ

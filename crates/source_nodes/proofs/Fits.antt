@@ -60,16 +60,16 @@ below n e h = grind (arith, nat_tests)
 -- ---- flags
 
 pub record FlagsFit (Q : Pos → Type 0) (flags : FlagSet) : Type 0 where
-  pub place : (p : Pos) → flags.place ≡ Some p → Q p
+  pub place : (p : Pos) → flags.position ≡ Some p → Q p
 
 some_place : (p q : Pos) → Some p ≡ Some q → p ≡ q
 some_place p q e = cc (e)
 
 pub flags_placed : {Q : Pos → Type 0} (p : Pos) (flags : FlagSet) → Q p → FlagsFit Q flags → FlagsFit Q (placed p flags)
 unfolding placed
-flags_placed {Q} p flags h f = record { place = λ q e. go flags.place refl q e }
+flags_placed {Q} p flags h f = record { place = λ q e. go flags.position refl q e }
   where
-    go : (o : Option Pos) → flags.place ≡ o → (q : Pos) →
+    go : (o : Option Pos) → flags.position ≡ o → (q : Pos) →
         elim o as (λ _. Option Pos) [ None ↦ Some p | Some r ↦ Some r ] ≡ Some q → Q q
     go None k q e = subst Q (some_place p q e) h
     go (Some r) k q e = subst Q (some_place r q e) (f.place r k)
@@ -77,9 +77,9 @@ flags_placed {Q} p flags h f = record { place = λ q e. go flags.place refl q e 
 pub fine_flags : {Q : Pos → Type 0} {N : List Node} {o : List Lexeme} (flags : FlagSet) → FlagsFit Q flags → Fine Q N o →
     Fine Q (with_flags N flags) o
 unfolding with_flags flags_node flags_at place_of HasWords
-fine_flags {Q} {N} {o} flags h f = go (has_effect flags) flags.place refl
+fine_flags {Q} {N} {o} flags h f = go (has_effect flags) flags.position refl
   where
-    go : (b : Bool) (p : Option Pos) → flags.place ≡ p →
+    go : (b : Bool) (p : Option Pos) → flags.position ≡ p →
         Fine Q
         (elim (if b then elim p as (λ _. Option Node) [ None ↦ None | Some q ↦ Some (flags_at q flags) ] else None)
         as (λ _. List Node) [ None ↦ N | Some node ↦ put N node ]) o

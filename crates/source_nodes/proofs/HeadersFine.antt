@@ -56,21 +56,21 @@ value_fine bare_scope f = fine_put _ (record { place = f.lexemes.0.0; words = tt
 value_fine qualified_scope f = fine_put _ (record { place = f.lexemes.0.0; words = tt }) (behind3 f)
 
 -- a modifier leaves the place
-unless_place : (b : Bool) (flags next more : FlagSet) → next.place ≡ flags.place → unless_there b next ≡ Some more →
-    more.place ≡ flags.place
+unless_place : (b : Bool) (flags next more : FlagSet) → next.position ≡ flags.position → unless_there b next ≡ Some more →
+    more.position ≡ flags.position
 unless_place true flags next more e h = absurd (cc (h))
 unless_place false flags next more e h = ap (λ (o : Option FlagSet). place_or flags o) (sym h) ∙ e
   where
     place_or : FlagSet → Option FlagSet → Option Pos
-    place_or flags o = elim o [ None ↦ flags.place | Some x ↦ x.place ]
+    place_or flags o = elim o [ None ↦ flags.position | Some x ↦ x.position ]
 
-if_place : (b : Bool) (x y : Option FlagSet) (flags more : FlagSet) → (x ≡ Some more → more.place ≡ flags.place) →
-    (y ≡ Some more → more.place ≡ flags.place) → (if b then x else y) ≡ Some more → more.place ≡ flags.place
+if_place : (b : Bool) (x y : Option FlagSet) (flags more : FlagSet) → (x ≡ Some more → more.position ≡ flags.position) →
+    (y ≡ Some more → more.position ≡ flags.position) → (if b then x else y) ≡ Some more → more.position ≡ flags.position
 if_place true x y flags more h k e = h e
 if_place false x y flags more h k e = k e
 
 modifier_place : (is_local : Bool) (w : ℕ) (flags more : FlagSet) → add_modifier is_local w flags ≡ Some more →
-    more.place ≡ flags.place
+    more.position ≡ flags.position
 unfolding add_modifier with_modifier
 modifier_place is_local w flags more h =
     if_place (is_local && not (w == word_final)) None _ flags more (λ e. absurd (cc (e)))
@@ -88,7 +88,7 @@ pub record RowFine (Q : Pos → Type 0) (N : List Node) (o : List Lexeme) (flags
   pub fine : Fine Q N o
   pub fit : FlagsFit Q flags
 
-flags_same : {Q : Pos → Type 0} (flags more : FlagSet) → more.place ≡ flags.place → FlagsFit Q flags → FlagsFit Q more
+flags_same : {Q : Pos → Type 0} (flags more : FlagSet) → more.position ≡ flags.position → FlagsFit Q flags → FlagsFit Q more
 flags_same flags more e f = record { place = λ p h. f.place p (sym e ∙ h) }
 
 modifier_fits : {Q : Pos → Type 0} (is_local : Bool) (w : ℕ) (flags more : FlagSet) →

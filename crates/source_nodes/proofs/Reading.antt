@@ -160,8 +160,8 @@ some_length (text ∷ texts) =
 
 an_int : (node : Node) → HasWords node → HasInt node
 unfolding HasWords HasInt
-an_int (node.Number place value true) h = h
-an_int (node.Number place value false) h = h
+an_int (node.Number position value true) h = h
+an_int (node.Number position value false) h = h
 an_int _ h = tt
 
 pub numbers_are_ints : (texts : List (List ℕ)) (forest : Forest) → Reads texts forest → (id : ℕ) (node : Node) →

@@ -9,9 +9,9 @@ use Rattle.value_operators.specs.Literals.{HasInt}
 
 -- the name of a class is a name, the bytes of a text may stand between quotes, and a number is an int
 unfoldable pub HasWords : Node → Type 0
-HasWords (Class place name flags header members) = is_name name ≡ true
-HasWords (Text place bytes) = AllOf is_text_byte bytes
-HasWords (Number place value is_negative) = HasInt (Number place value is_negative)
+HasWords (Class position name flags header members) = is_name name ≡ true
+HasWords (Text position bytes) = AllOf is_text_byte bytes
+HasWords (Number position value is_negative) = HasInt (Number position value is_negative)
 HasWords _ = Unit {0}
 
 -- a place in one of so many files, of which none has more bytes than this

@@ -38,10 +38,10 @@ pub fn target_start(
         gives result nodes.new.all stack.new awaited ≡ awaited }
     ensures kept { nodes.new.kept ≡ nodes.old.kept }
 {
-    if let View::Sign(sign, place) = view {
+    if let View::Sign(sign, position) = view {
         if *sign == LEFT_PARENTHESIS {
             stack.push(Entry::Target)?;
-            return Ok(Some(Mode::Opened { place: *place }));
+            return Ok(Some(Mode::Opened { position: *position }));
         }
         return Ok(None);
     }
@@ -61,22 +61,22 @@ pub fn first_start(
     ensures kept { nodes.new.kept ≡ nodes.old.kept }
 {
     match view {
-        View::Name(name, place) => Ok(Some(Mode::NameFirst {
-            place: *place,
+        View::Name(name, position) => Ok(Some(Mode::NameFirst {
+            position: *position,
             name: name.share()?,
         })),
-        View::Word(word, place) => {
+        View::Word(word, position) => {
             if *word == INT {
                 stack.push(Entry::LocalOpen { flags: None })?;
                 return Ok(Some(Mode::TypeEnd {
-                    place: *place,
+                    position: *position,
                     element: ElementType::Int,
                 }));
             }
             if *word == BOOLEAN {
                 stack.push(Entry::LocalOpen { flags: None })?;
                 return Ok(Some(Mode::TypeEnd {
-                    place: *place,
+                    position: *position,
                     element: ElementType::Boolean,
                 }));
             }
@@ -91,12 +91,12 @@ pub fn first_start(
 pub fn name_first_sign(
     nodes: &mut Nodes,
     stack: &mut Stack,
-    place: Pos,
+    position: Pos,
     name: &SharedName,
     sign: u8,
     sign_place: Pos,
 ) -> Result<Option<Mode>, Memory>
-    ensures step { let awaited = name_first_step place name.now nodes.old.all stack.old (a_sign sign sign_place) in
+    ensures step { let awaited = name_first_step position name.now nodes.old.all stack.old (a_sign sign sign_place) in
         gives result nodes.new.all stack.new awaited ≡ awaited }
     ensures kept { nodes.new.kept ≡ nodes.old.kept }
 {
@@ -104,7 +104,7 @@ pub fn name_first_sign(
         if has_type_argument(name) {
             stack.push(Entry::LocalOpen { flags: None })?;
             return Ok(Some(Mode::TypeArgumentName {
-                place,
+                position,
                 name: name.share()?,
             }));
         }
@@ -112,14 +112,14 @@ pub fn name_first_sign(
     }
     if sign == LEFT_BRACKET {
         return Ok(Some(Mode::NameBracket {
-            place,
+            position,
             name: name.share()?,
             bracket: sign_place,
         }));
     }
     stack.push(Entry::Target)?;
     let view = View::Sign(sign, sign_place);
-    name_step(nodes, stack, &view, place, name)
+    name_step(nodes, stack, &view, position, name)
 }
 
 /// Behind a name where a statement is due.
@@ -128,17 +128,17 @@ pub fn name_first_step(
     nodes: &mut Nodes,
     stack: &mut Stack,
     view: &View,
-    place: Pos,
+    position: Pos,
     name: &SharedName,
 ) -> Result<Option<Mode>, Memory>
-    ensures step { let awaited = name_first_step place name.now nodes.old.all stack.old (seen view.now) in
+    ensures step { let awaited = name_first_step position name.now nodes.old.all stack.old (seen view.now) in
         gives result nodes.new.all stack.new awaited ≡ awaited }
     ensures kept { nodes.new.kept ≡ nodes.old.kept }
 {
     match view {
         View::Name(_, _) => {
             let id = nodes.put(Node::ClassType {
-                place,
+                position,
                 name: name.share()?,
                 argument: None,
                 is_array: false,
@@ -149,7 +149,7 @@ pub fn name_first_step(
         View::Sign(sign, sign_place) => name_first_sign(
             nodes,
             stack,
-            place,
+            position,
             name,
             *sign,
             *sign_place,
@@ -164,22 +164,22 @@ pub fn name_index(
     nodes: &mut Nodes,
     stack: &mut Stack,
     view: &View,
-    place: Pos,
+    position: Pos,
     name: &SharedName,
     bracket: Pos,
 ) -> Result<Option<Mode>, Memory>
-    ensures step { let awaited = operand_start (put nodes.old.all (SimpleName place name.now))
+    ensures step { let awaited = operand_start (put nodes.old.all (SimpleName position name.now))
         (IndexOpen bracket (length nodes.old.all) ∷ Target ∷ stack.old) (seen view.now) in
         gives result nodes.new.all stack.new awaited ≡ awaited }
     ensures kept { nodes.new.kept ≡ nodes.old.kept }
 {
     let array = nodes.put(Node::SimpleName {
-        place,
+        position,
         name: name.share()?,
     })?;
     stack.push(Entry::Target)?;
     stack.push(Entry::IndexOpen {
-        place: bracket,
+        position: bracket,
         array,
     })?;
     operand_start(nodes, stack, view)
@@ -191,18 +191,18 @@ pub fn name_bracket_step(
     nodes: &mut Nodes,
     stack: &mut Stack,
     view: &View,
-    place: Pos,
+    position: Pos,
     name: &SharedName,
     bracket: Pos,
 ) -> Result<Option<Mode>, Memory>
-    ensures step { let awaited = name_bracket_step place name.now bracket nodes.old.all stack.old (seen view.now) in
+    ensures step { let awaited = name_bracket_step position name.now bracket nodes.old.all stack.old (seen view.now) in
         gives result nodes.new.all stack.new awaited ≡ awaited }
     ensures kept { nodes.new.kept ≡ nodes.old.kept }
 {
     if let View::Sign(sign, _) = view {
         if *sign == RIGHT_BRACKET {
             let id = nodes.put(Node::ClassType {
-                place,
+                position,
                 name: name.share()?,
                 argument: None,
                 is_array: true,
@@ -210,9 +210,9 @@ pub fn name_bracket_step(
             stack.push(Entry::LocalOpen { flags: None })?;
             return Ok(Some(Mode::TypeDone { id }));
         }
-        return name_index(nodes, stack, view, place, name, bracket);
+        return name_index(nodes, stack, view, position, name, bracket);
     }
-    name_index(nodes, stack, view, place, name, bracket)
+    name_index(nodes, stack, view, position, name, bracket)
 }
 
 /// Behind a local without a value.
@@ -222,10 +222,10 @@ pub fn local_ended(
     stack: &mut Stack,
     flags: Option<NodeId>,
     declared_type: NodeId,
-    place: Pos,
+    position: Pos,
     name: &SharedName,
 ) -> Result<Option<Mode>, Memory>
-    ensures step { let awaited = local_ended flags declared_type place name.now nodes.old.all stack.old in
+    ensures step { let awaited = local_ended flags declared_type position name.now nodes.old.all stack.old in
         gives result nodes.new.all stack.new awaited ≡ awaited }
     ensures kept { nodes.new.kept ≡ nodes.old.kept }
 {
@@ -235,7 +235,7 @@ pub fn local_ended(
     match entry {
         Entry::Simple => {
             let id = nodes.put(Node::Local {
-                place,
+                position,
                 name: name.share()?,
                 flags,
                 declared_type,
@@ -254,10 +254,10 @@ pub fn local_named_step(
     view: &View,
     flags: Option<NodeId>,
     declared_type: NodeId,
-    place: Pos,
+    position: Pos,
     name: &SharedName,
 ) -> Result<Option<Mode>, Memory>
-    ensures step { let awaited = local_named_step flags declared_type place name.now nodes.old.all stack.old
+    ensures step { let awaited = local_named_step flags declared_type position name.now nodes.old.all stack.old
         (seen view.now) in gives result nodes.new.all stack.new awaited ≡ awaited }
     ensures kept { nodes.new.kept ≡ nodes.old.kept }
 {
@@ -266,8 +266,8 @@ pub fn local_named_step(
     };
     if *sign == ASSIGN {
         stack.push(Entry::LocalValue {
-            place: *sign_place,
-            name_place: place,
+            position: *sign_place,
+            name_place: position,
             name: name.share()?,
             flags,
             declared_type,
@@ -275,7 +275,7 @@ pub fn local_named_step(
         return Ok(Some(Mode::Operand));
     }
     if *sign == SEMICOLON {
-        return local_ended(nodes, stack, flags, declared_type, place, name);
+        return local_ended(nodes, stack, flags, declared_type, position, name);
     }
     Ok(None)
 }
@@ -308,13 +308,13 @@ pub fn if_open_step(
     nodes: &mut Nodes,
     stack: &mut Stack,
     view: &View,
-    place: Pos,
+    position: Pos,
 ) -> Result<Option<Mode>, Memory>
-    ensures step { let awaited = test_open_step Operand (IfTest place) nodes.old.all stack.old (seen view.now) in
+    ensures step { let awaited = test_open_step Operand (IfTest position) nodes.old.all stack.old (seen view.now) in
         gives result nodes.new.all stack.new awaited ≡ awaited }
     ensures kept { nodes.new.kept ≡ nodes.old.kept }
 {
-    test_open_step(nodes, stack, view, Mode::Operand, Entry::IfTest { place })
+    test_open_step(nodes, stack, view, Mode::Operand, Entry::IfTest { position })
 }
 
 /// Behind `while`.
@@ -322,9 +322,9 @@ pub fn while_open_step(
     nodes: &mut Nodes,
     stack: &mut Stack,
     view: &View,
-    place: Pos,
+    position: Pos,
 ) -> Result<Option<Mode>, Memory>
-    ensures step { let awaited = test_open_step Operand (WhileTest place) nodes.old.all stack.old (seen view.now) in
+    ensures step { let awaited = test_open_step Operand (WhileTest position) nodes.old.all stack.old (seen view.now) in
         gives result nodes.new.all stack.new awaited ≡ awaited }
     ensures kept { nodes.new.kept ≡ nodes.old.kept }
 {
@@ -333,7 +333,7 @@ pub fn while_open_step(
         stack,
         view,
         Mode::Operand,
-        Entry::WhileTest { place },
+        Entry::WhileTest { position },
     )
 }
 
@@ -342,13 +342,13 @@ pub fn for_open_step(
     nodes: &mut Nodes,
     stack: &mut Stack,
     view: &View,
-    place: Pos,
+    position: Pos,
 ) -> Result<Option<Mode>, Memory>
-    ensures step { let awaited = test_open_step ForFirst (ForHead place) nodes.old.all stack.old (seen view.now) in
+    ensures step { let awaited = test_open_step ForFirst (ForHead position) nodes.old.all stack.old (seen view.now) in
         gives result nodes.new.all stack.new awaited ≡ awaited }
     ensures kept { nodes.new.kept ≡ nodes.old.kept }
 {
-    test_open_step(nodes, stack, view, Mode::ForFirst, Entry::ForHead { place })
+    test_open_step(nodes, stack, view, Mode::ForFirst, Entry::ForHead { position })
 }
 
 /// Behind `return`.
@@ -357,21 +357,21 @@ pub fn return_step(
     nodes: &mut Nodes,
     stack: &mut Stack,
     view: &View,
-    place: Pos,
+    position: Pos,
 ) -> Result<Option<Mode>, Memory>
-    ensures step { let awaited = return_step place nodes.old.all stack.old (seen view.now) in
+    ensures step { let awaited = return_step position nodes.old.all stack.old (seen view.now) in
         gives result nodes.new.all stack.new awaited ≡ awaited }
     ensures kept { nodes.new.kept ≡ nodes.old.kept }
 {
     if let View::Sign(sign, _) = view {
         if *sign == SEMICOLON {
-            let id = nodes.put(Node::Return { place, value: None })?;
+            let id = nodes.put(Node::Return { position, value: None })?;
             return Ok(Some(Mode::StatementEnd { id }));
         }
-        stack.push(Entry::ReturnValue { place })?;
+        stack.push(Entry::ReturnValue { position })?;
         return operand_start(nodes, stack, view);
     }
-    stack.push(Entry::ReturnValue { place })?;
+    stack.push(Entry::ReturnValue { position })?;
     operand_start(nodes, stack, view)
 }
 
@@ -381,21 +381,21 @@ pub fn statement_word(
     nodes: &mut Nodes,
     stack: &mut Stack,
     word: u8,
-    place: Pos,
+    position: Pos,
 ) -> Result<Option<Mode>, Memory>
-    ensures step { let awaited = statement_word word place nodes.old.all stack.old in
+    ensures step { let awaited = statement_word word position nodes.old.all stack.old in
         gives result nodes.new.all stack.new awaited ≡ awaited }
     ensures kept { nodes.new.kept ≡ nodes.old.kept }
 {
     match word {
-        IF => return Ok(Some(Mode::IfOpen { place })),
-        WHILE => return Ok(Some(Mode::WhileOpen { place })),
-        FOR => return Ok(Some(Mode::ForOpen { place })),
-        RETURN => return Ok(Some(Mode::ReturnStart { place })),
+        IF => return Ok(Some(Mode::IfOpen { position })),
+        WHILE => return Ok(Some(Mode::WhileOpen { position })),
+        FOR => return Ok(Some(Mode::ForOpen { position })),
+        RETURN => return Ok(Some(Mode::ReturnStart { position })),
         _ => {}
     }
     stack.push(Entry::Simple)?;
-    let view = View::Word(word, place);
+    let view = View::Word(word, position);
     if word == FINAL {
         return flags_step(nodes, stack, &view, true, no_flags());
     }
@@ -408,25 +408,25 @@ pub fn statement_sign(
     nodes: &mut Nodes,
     stack: &mut Stack,
     sign: u8,
-    place: Pos,
+    position: Pos,
 ) -> Result<Option<Mode>, Memory>
-    ensures step { let awaited = statement_sign sign place nodes.old.all stack.old in
+    ensures step { let awaited = statement_sign sign position nodes.old.all stack.old in
         gives result nodes.new.all stack.new awaited ≡ awaited }
     ensures kept { nodes.new.kept ≡ nodes.old.kept }
 {
     if sign == LEFT_BRACE {
         stack.push(Entry::BlockOpen {
-            place,
+            position,
             statements: nodes.empty_list(),
         })?;
         return Ok(Some(Mode::InStatements));
     }
     if sign == SEMICOLON {
-        let id = nodes.put(Node::Empty { place })?;
+        let id = nodes.put(Node::Empty { position })?;
         return Ok(Some(Mode::StatementEnd { id }));
     }
     stack.push(Entry::Simple)?;
-    let view = View::Sign(sign, place);
+    let view = View::Sign(sign, position);
     if sign == AT {
         return flags_step(nodes, stack, &view, true, no_flags());
     }
@@ -445,8 +445,8 @@ pub fn statement_start(
     ensures kept { nodes.new.kept ≡ nodes.old.kept }
 {
     match view {
-        View::Word(word, place) => statement_word(nodes, stack, *word, *place),
-        View::Sign(sign, place) => statement_sign(nodes, stack, *sign, *place),
+        View::Word(word, position) => statement_word(nodes, stack, *word, *position),
+        View::Sign(sign, position) => statement_sign(nodes, stack, *sign, *position),
         _ => {
             stack.push(Entry::Simple)?;
             first_start(nodes, stack, view)
@@ -465,8 +465,8 @@ pub fn block_ended(nodes: &mut Nodes, stack: &mut Stack) -> Result<Option<Mode>,
         return Ok(None);
     };
     match entry {
-        Entry::BlockOpen { place, statements } => {
-            let id = nodes.put(Node::Block { place, statements })?;
+        Entry::BlockOpen { position, statements } => {
+            let id = nodes.put(Node::Block { position, statements })?;
             Ok(Some(Mode::StatementEnd { id }))
         }
         _other => Ok(None),

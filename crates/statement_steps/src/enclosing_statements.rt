@@ -29,39 +29,39 @@ pub fn enclosing(entry: &Entry, view: &View, id: NodeId) -> Option<Node>
     ensures { result ≡ enclosing_node entry.now (seen view.now) id }
 {
     match entry {
-        Entry::IfThen { place, condition } => {
+        Entry::IfThen { position, condition } => {
             if is_else(view) {
                 return None;
             }
             Some(Node::If {
-                place: *place,
+                position: *position,
                 condition: *condition,
                 then_part: id,
                 else_part: None,
             })
         }
         Entry::IfElse {
-            place,
+            position,
             condition,
             then_part,
         } => Some(Node::If {
-            place: *place,
+            position: *position,
             condition: *condition,
             then_part: *then_part,
             else_part: Some(id),
         }),
-        Entry::WhileBody { place, condition } => Some(Node::While {
-            place: *place,
+        Entry::WhileBody { position, condition } => Some(Node::While {
+            position: *position,
             condition: *condition,
             body: id,
         }),
         Entry::ForBody {
-            place,
+            position,
             first,
             condition,
             step,
         } => Some(Node::For {
-            place: *place,
+            position: *position,
             first: *first,
             condition: *condition,
             step: *step,

@@ -33,11 +33,11 @@ pub fn class_ended(nodes: &mut Nodes, stack: &mut Stack) -> Result<Option<Mode>,
     match entry {
         Entry::ClassBody {
             flags,
-            place,
+            position,
             name,
             header,
             members,
-        } => class_read(nodes, stack, flags, place, name, header, members),
+        } => class_read(nodes, stack, flags, position, name, header, members),
         _other => Ok(None),
     }
 }
@@ -48,12 +48,12 @@ pub fn class_read(
     nodes: &mut Nodes,
     stack: &mut Stack,
     flags: Option<NodeId>,
-    place: Pos,
+    position: Pos,
     name: SharedName,
     header: Option<NodeId>,
     members: NodeList,
 ) -> Result<Option<Mode>, Memory>
-    ensures step { let awaited = class_ended nodes.old.all (ClassBody flags place name header members ∷ stack.old) in
+    ensures step { let awaited = class_ended nodes.old.all (ClassBody flags position name header members ∷ stack.old) in
         gives result nodes.new.all stack.new awaited ≡ awaited }
     ensures kept { nodes.new.kept ≡ nodes.old.kept }
 {
@@ -63,7 +63,7 @@ pub fn class_read(
     match entry {
         Entry::FileOpen { classes } => {
             let id = nodes.put(Node::Class {
-                place,
+                position,
                 name,
                 flags,
                 header,
@@ -115,7 +115,7 @@ pub fn member_ended(
     match entry {
         Entry::ClassBody {
             flags,
-            place,
+            position,
             name,
             header,
             members,
@@ -123,7 +123,7 @@ pub fn member_ended(
             let members = with_item(members, id)?;
             stack.push(Entry::ClassBody {
                 flags,
-                place,
+                position,
                 name,
                 header,
                 members,
@@ -143,16 +143,16 @@ pub fn method_ended(
     id: NodeId,
     flags: Option<NodeId>,
     result_type: NodeId,
-    place: Pos,
+    position: Pos,
     name: SharedName,
     parameters: Option<NodeId>,
 ) -> Result<Option<Mode>, Memory>
-    ensures step { let awaited = statement_ended id nodes.old.all (MethodBody flags result_type place name parameters
+    ensures step { let awaited = statement_ended id nodes.old.all (MethodBody flags result_type position name parameters
         ∷ stack.old) (seen view.now) in gives result nodes.new.all stack.new awaited ≡ awaited }
     ensures kept { nodes.new.kept ≡ nodes.old.kept }
 {
     let id = nodes.put(Node::Method {
-        place,
+        position,
         name,
         flags,
         result_type,
@@ -170,18 +170,18 @@ pub fn constructor_ended(
     view: &View,
     id: NodeId,
     flags: Option<NodeId>,
-    place: Pos,
+    position: Pos,
     name: SharedName,
     parameters: Option<NodeId>,
     super_call: Option<NodeId>,
 ) -> Result<Option<Mode>, Memory>
     ensures step { let awaited = statement_ended id nodes.old.all
-        (ConstructorBody flags place name parameters super_call ∷ stack.old) (seen view.now) in
+        (ConstructorBody flags position name parameters super_call ∷ stack.old) (seen view.now) in
         gives result nodes.new.all stack.new awaited ≡ awaited }
     ensures kept { nodes.new.kept ≡ nodes.old.kept }
 {
     let id = nodes.put(Node::Constructor {
-        place,
+        position,
         name,
         flags,
         parameters,
@@ -198,15 +198,15 @@ pub fn block_statement_ended(
     stack: &mut Stack,
     view: &View,
     id: NodeId,
-    place: Pos,
+    position: Pos,
     statements: NodeList,
 ) -> Result<Option<Mode>, Memory>
-    ensures step { let awaited = statement_ended id nodes.old.all (BlockOpen place statements ∷ stack.old)
+    ensures step { let awaited = statement_ended id nodes.old.all (BlockOpen position statements ∷ stack.old)
         (seen view.now) in gives result nodes.new.all stack.new awaited ≡ awaited }
     ensures kept { nodes.new.kept ≡ nodes.old.kept }
 {
     let statements = with_item(statements, id)?;
-    stack.push(Entry::BlockOpen { place, statements })?;
+    stack.push(Entry::BlockOpen { position, statements })?;
     statements_step(nodes, stack, view)
 }
 
@@ -225,13 +225,13 @@ pub fn whole_ended(
     ensures kept { nodes.new.kept ≡ nodes.old.kept }
 {
     match entry {
-        Entry::BlockOpen { place, statements } => block_statement_ended(
-            nodes, stack, view, id, place, statements,
+        Entry::BlockOpen { position, statements } => block_statement_ended(
+            nodes, stack, view, id, position, statements,
         ),
         Entry::MethodBody {
             flags,
             result_type,
-            place,
+            position,
             name,
             parameters,
         } => method_ended(
@@ -241,23 +241,23 @@ pub fn whole_ended(
             id,
             flags,
             result_type,
-            place,
+            position,
             name,
             parameters,
         ),
         Entry::ConstructorBody {
             flags,
-            place,
+            position,
             name,
             parameters,
             super_call,
         } => constructor_ended(
-            nodes, stack, view, id, flags, place, name, parameters, super_call,
+            nodes, stack, view, id, flags, position, name, parameters, super_call,
         ),
-        Entry::IfThen { place, condition } => {
+        Entry::IfThen { position, condition } => {
             if is_else(view) {
                 stack.push(Entry::IfElse {
-                    place,
+                    position,
                     condition,
                     then_part: id,
                 })?;

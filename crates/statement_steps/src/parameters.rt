@@ -30,14 +30,14 @@ pub fn parameters_first(
     nodes: &mut Nodes,
     stack: &mut Stack,
     view: &View,
-    place: Pos,
+    position: Pos,
 ) -> Result<Option<Mode>, Memory>
-    ensures step { let awaited = flags_step false no_flags nodes.old.all (ParametersOpen place [] ∷ stack.old)
+    ensures step { let awaited = flags_step false no_flags nodes.old.all (ParametersOpen position [] ∷ stack.old)
         (seen view.now) in gives result nodes.new.all stack.new awaited ≡ awaited }
     ensures kept { nodes.new.kept ≡ nodes.old.kept }
 {
     stack.push(Entry::ParametersOpen {
-        place,
+        position,
         list: nodes.empty_list(),
     })?;
     flags_step(nodes, stack, view, false, no_flags())
@@ -49,9 +49,9 @@ pub fn parameters_first_step(
     nodes: &mut Nodes,
     stack: &mut Stack,
     view: &View,
-    place: Pos,
+    position: Pos,
 ) -> Result<Option<Mode>, Memory>
-    ensures step { let awaited = parameters_first_step place nodes.old.all stack.old (seen view.now) in
+    ensures step { let awaited = parameters_first_step position nodes.old.all stack.old (seen view.now) in
         gives result nodes.new.all stack.new awaited ≡ awaited }
     ensures kept { nodes.new.kept ≡ nodes.old.kept }
 {
@@ -59,9 +59,9 @@ pub fn parameters_first_step(
         if *sign == RIGHT_PARENTHESIS {
             return Ok(Some(Mode::ParametersDone { parameters: None }));
         }
-        return parameters_first(nodes, stack, view, place);
+        return parameters_first(nodes, stack, view, position);
     }
-    parameters_first(nodes, stack, view, place)
+    parameters_first(nodes, stack, view, position)
 }
 
 /// Behind a parameter and a sign.
@@ -80,17 +80,17 @@ pub fn parameter_ended(
         return Ok(None);
     };
     match entry {
-        Entry::ParametersOpen { place, list } => {
+        Entry::ParametersOpen { position, list } => {
             let list = with_item(list, id)?;
             if sign == COMMA {
-                stack.push(Entry::ParametersOpen { place, list })?;
+                stack.push(Entry::ParametersOpen { position, list })?;
                 return Ok(Some(Mode::FlagsRead {
                     is_local: false,
                     flags: no_flags(),
                 }));
             }
             if sign == RIGHT_PARENTHESIS {
-                let id = nodes.put(Node::Parameters { place, list })?;
+                let id = nodes.put(Node::Parameters { position, list })?;
                 return Ok(Some(Mode::ParametersDone {
                     parameters: Some(id),
                 }));
@@ -129,10 +129,10 @@ pub fn method_body_step(
     sign_place: Pos,
     flags: Option<NodeId>,
     result_type: NodeId,
-    place: Pos,
+    position: Pos,
     name: SharedName,
 ) -> Result<Option<Mode>, Memory>
-    ensures step { let awaited = body_step parameters nodes.old.all (MethodOpen flags result_type place name
+    ensures step { let awaited = body_step parameters nodes.old.all (MethodOpen flags result_type position name
         ∷ stack.old) sign sign_place in gives result nodes.new.all stack.new awaited ≡ awaited }
     ensures kept { nodes.new.kept ≡ nodes.old.kept }
 {
@@ -140,19 +140,19 @@ pub fn method_body_step(
         stack.push(Entry::MethodBody {
             flags,
             result_type,
-            place,
+            position,
             name,
             parameters,
         })?;
         stack.push(Entry::BlockOpen {
-            place: sign_place,
+            position: sign_place,
             statements: nodes.empty_list(),
         })?;
         return Ok(Some(Mode::InStatements));
     }
     if sign == SEMICOLON {
         let id = nodes.put(Node::Method {
-            place,
+            position,
             name,
             flags,
             result_type,
@@ -184,7 +184,7 @@ pub fn body_step(
         Entry::MethodOpen {
             flags,
             result_type,
-            place,
+            position,
             name,
         } => method_body_step(
             nodes,
@@ -194,19 +194,19 @@ pub fn body_step(
             sign_place,
             flags,
             result_type,
-            place,
+            position,
             name,
         ),
-        Entry::ConstructorOpen { flags, place, name } => {
+        Entry::ConstructorOpen { flags, position, name } => {
             if sign == LEFT_BRACE {
                 stack.push(Entry::ConstructorBody {
                     flags,
-                    place,
+                    position,
                     name,
                     parameters,
                     super_call: None,
                 })?;
-                Ok(Some(Mode::ConstructorStart { place: sign_place }))
+                Ok(Some(Mode::ConstructorStart { position: sign_place }))
             } else {
                 Ok(None)
             }
@@ -239,14 +239,14 @@ pub fn block_start(
     nodes: &mut Nodes,
     stack: &mut Stack,
     view: &View,
-    place: Pos,
+    position: Pos,
 ) -> Result<Option<Mode>, Memory>
-    ensures step { let awaited = statements_step nodes.old.all (BlockOpen place [] ∷ stack.old) (seen view.now) in
+    ensures step { let awaited = statements_step nodes.old.all (BlockOpen position [] ∷ stack.old) (seen view.now) in
         gives result nodes.new.all stack.new awaited ≡ awaited }
     ensures kept { nodes.new.kept ≡ nodes.old.kept }
 {
     stack.push(Entry::BlockOpen {
-        place,
+        position,
         statements: nodes.empty_list(),
     })?;
     statements_step(nodes, stack, view)
@@ -264,11 +264,11 @@ pub fn constructor_start_step(
         gives result nodes.new.all stack.new awaited ≡ awaited }
     ensures kept { nodes.new.kept ≡ nodes.old.kept }
 {
-    if let View::Word(word, place) = view {
+    if let View::Word(word, position) = view {
         if *word == SUPER {
             return Ok(Some(Mode::SuperOpen {
                 block_place,
-                place: *place,
+                position: *position,
             }));
         }
         return block_start(nodes, stack, view, block_place);
@@ -283,9 +283,9 @@ pub fn super_open_step(
     stack: &mut Stack,
     view: &View,
     block_place: Pos,
-    place: Pos,
+    position: Pos,
 ) -> Result<Option<Mode>, Memory>
-    ensures step { let awaited = super_open_step block_place place nodes.old.all stack.old (seen view.now) in
+    ensures step { let awaited = super_open_step block_place position nodes.old.all stack.old (seen view.now) in
         gives result nodes.new.all stack.new awaited ≡ awaited }
     ensures kept { nodes.new.kept ≡ nodes.old.kept }
 {
@@ -295,7 +295,7 @@ pub fn super_open_step(
     if *sign != LEFT_PARENTHESIS {
         return Ok(None);
     }
-    stack.push(Entry::SuperCallOpen { block_place, place })?;
+    stack.push(Entry::SuperCallOpen { block_place, position })?;
     stack.push(Entry::ArgumentsOpen {
         list: nodes.empty_list(),
     })?;
@@ -321,7 +321,7 @@ pub fn super_end_step(
         return Ok(None);
     }
     stack.push(Entry::BlockOpen {
-        place: block_place,
+        position: block_place,
         statements: nodes.empty_list(),
     })?;
     Ok(Some(Mode::InStatements))

@@ -192,7 +192,7 @@ fn rows_of(alloc: Global, facts: &Facts) -> Result<BTreeMap<usize, Option<Scope>
     let classes = facts.classes();
     let mut rows = BTreeMap::new(alloc);
     for id in classes.field_nodes().iter().chain(classes.method_nodes()) {
-        rows.insert(id.place(), run_at(facts, *id))?;
+        rows.insert(id.number(), run_at(facts, *id))?;
     }
     Ok(rows)
 }
@@ -211,11 +211,11 @@ pub fn variables_of(alloc: Global, facts: &Facts) -> Result<Variables, Memory>
 {
     let program = facts.program();
     let mut rows = BTreeMap::new(alloc);
-    for place in 0..program.len() {
-        let id = NodeId::at(place as u32);
+    for number in 0..program.len() {
+        let id = NodeId::at(number as u32);
         if is_variable(program, id) {
             if let Some(scope) = find_variable_scope(facts, id) {
-                rows.insert(place, scope)?;
+                rows.insert(number, scope)?;
             }
         }
     }

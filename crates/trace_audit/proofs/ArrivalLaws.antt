@@ -24,27 +24,27 @@ module _ (handlers : List Handler) (releases : List Release) (k : ℕ) (h after 
   here = get_set_same handlers k after within
 
   -- what was kept is kept
-  still_kept : (handler number place : ℕ) → place_kept handlers handler number ≡ Some place →
-      place_kept (slice_set handlers k after) handler number ≡ Some place
-  still_kept handler number place e = by_row (handler_there handlers handler number place e)
+  still_kept : (handler number index : ℕ) → place_kept handlers handler number ≡ Some index →
+      place_kept (slice_set handlers k after) handler number ≡ Some index
+  still_kept handler number index e = by_row (handler_there handlers handler number index e)
     where
-      by_row : HandlerThere handlers handler number place →
-          place_kept (slice_set handlers k after) handler number ≡ Some place
+      by_row : HandlerThere handlers handler number index →
+          place_kept (slice_set handlers k after) handler number ≡ Some index
       by_row at =
           ap (λ (n : ℕ). place_kept (slice_set handlers k after) n number) at.is_handler
           ∙ (ap (place_kept (slice_set handlers k after) (suc at.k)) at.is_number ∙ by_test (at.k == k) refl)
         where
           by_test : (b : Bool) → (at.k == k) ≡ b →
-              place_kept (slice_set handlers k after) (suc at.k) (suc at.i) ≡ Some place
+              place_kept (slice_set handlers k after) (suc at.k) (suc at.i) ≡ Some index
           by_test true t =
               let q : at.k ≡ k = grind (arith, nat_tests, t) in
               let row : h ≡ at.row = some_inj h at.row (sym there ∙ (ap (slice_get handlers) (sym q) ∙ at.there)) in
-              let kept : slice_get h.places.items at.i ≡ Some place =
-              subst (λ (x : Handler). slice_get x.places.items at.i ≡ Some place) (sym row) at.kept in
+              let kept : slice_get h.places.items at.i ≡ Some index =
+              subst (λ (x : Handler). slice_get x.places.items at.i ≡ Some index) (sym row) at.kept in
               kept_at (slice_set handlers k after) at.k at.i after
               (ap (slice_get (slice_set handlers k after)) q ∙ here)
               ∙ (ap (λ (ps : List ℕ). slice_get ps at.i) pushed
-              ∙ get_left h.places.items (length releases ∷ []) at.i place kept)
+              ∙ get_left h.places.items (length releases ∷ []) at.i index kept)
           by_test false t =
               let q : k ≡ at.k → ⊥ = λ g. (let e : at.k ≡ k = sym g in grind (arith, nat_tests, t, e)) in
               kept_at (slice_set handlers k after) at.k at.i at.row
@@ -61,44 +61,44 @@ module _ (handlers : List Handler) (releases : List Release) (k : ℕ) (h after 
   pub places_arrived : HasPlaces handlers releases → HasPlaces (slice_set handlers k after) (releases ++ r ∷ [])
   places_arrived has =
       record {
-        kept = λ place t e. kept place t e (place == length releases) refl;
-        right = λ handler number place e.
-            right handler number place (handler_there (slice_set handlers k after) handler number place e);
+        kept = λ index t e. kept index t e (index == length releases) refl;
+        right = λ handler number index e.
+            right handler number index (handler_there (slice_set handlers k after) handler number index e);
       }
     where
       last : slice_get (releases ++ r ∷ []) (length releases) ≡ Some r
       last = get_last releases r
 
-      kept : (place : ℕ) (t : Release) → slice_get (releases ++ r ∷ []) place ≡ Some t → (b : Bool) →
-          (place == length releases) ≡ b → place_kept (slice_set handlers k after) t.handler t.number ≡ Some place
-      kept place t e true g =
-          let q : place ≡ length releases = grind (arith, nat_tests, g) in
+      kept : (index : ℕ) (t : Release) → slice_get (releases ++ r ∷ []) index ≡ Some t → (b : Bool) →
+          (index == length releases) ≡ b → place_kept (slice_set handlers k after) t.handler t.number ≡ Some index
+      kept index t e true g =
+          let q : index ≡ length releases = grind (arith, nat_tests, g) in
           let same : r ≡ t = some_inj r t (sym last ∙ (ap (slice_get (releases ++ r ∷ [])) (sym q) ∙ e)) in
-          subst (λ (u : Release). place_kept (slice_set handlers k after) u.handler u.number ≡ Some place) same
+          subst (λ (u : Release). place_kept (slice_set handlers k after) u.handler u.number ≡ Some index) same
           (new_kept ∙ ap (λ (n : ℕ). Some n) (sym q))
-      kept place t e false g =
-          still_kept t.handler t.number place
-          (has.kept place t (before_last releases r place t e (λ q. grind (arith, nat_tests, g, q))))
+      kept index t e false g =
+          still_kept t.handler t.number index
+          (has.kept index t (before_last releases r index t e (λ q. grind (arith, nat_tests, g, q))))
 
-      by_row : (handler number place : ℕ) → (at : HandlerThere (slice_set handlers k after) handler number place) →
-          (b : Bool) → (at.k == k) ≡ b → holds (slice_get (releases ++ r ∷ []) place) (is_named handler number) ≡ true
-      by_row handler number place at true t =
+      by_row : (handler number index : ℕ) → (at : HandlerThere (slice_set handlers k after) handler number index) →
+          (b : Bool) → (at.k == k) ≡ b → holds (slice_get (releases ++ r ∷ []) index) (is_named handler number) ≡ true
+      by_row handler number index at true t =
           let q : at.k ≡ k = grind (arith, nat_tests, t) in
           let row : after ≡ at.row =
           some_inj after at.row (sym here ∙ (ap (slice_get (slice_set handlers k after)) (sym q) ∙ at.there)) in
-          let kept : slice_get (h.places.items ++ length releases ∷ []) at.i ≡ Some place =
-          subst (λ (ps : List ℕ). slice_get ps at.i ≡ Some place) pushed
-          (subst (λ (x : Handler). slice_get x.places.items at.i ≡ Some place) (sym row) at.kept) in
-          by_place handler number place at q kept (at.i == length h.places.items) refl
+          let kept : slice_get (h.places.items ++ length releases ∷ []) at.i ≡ Some index =
+          subst (λ (ps : List ℕ). slice_get ps at.i ≡ Some index) pushed
+          (subst (λ (x : Handler). slice_get x.places.items at.i ≡ Some index) (sym row) at.kept) in
+          by_place handler number index at q kept (at.i == length h.places.items) refl
         where
-          by_place : (handler number place : ℕ) (at : HandlerThere (slice_set handlers k after) handler number place) →
-              at.k ≡ k → slice_get (h.places.items ++ length releases ∷ []) at.i ≡ Some place → (b : Bool) →
+          by_place : (handler number index : ℕ) (at : HandlerThere (slice_set handlers k after) handler number index) →
+              at.k ≡ k → slice_get (h.places.items ++ length releases ∷ []) at.i ≡ Some index → (b : Bool) →
               (at.i == length h.places.items) ≡ b →
-              holds (slice_get (releases ++ r ∷ []) place) (is_named handler number) ≡ true
-          by_place handler number place at q kept true g =
+              holds (slice_get (releases ++ r ∷ []) index) (is_named handler number) ≡ true
+          by_place handler number index at q kept true g =
               let i_is : at.i ≡ length h.places.items = grind (arith, nat_tests, g) in
-              let place_is : length releases ≡ place =
-              some_inj (length releases) place
+              let place_is : length releases ≡ index =
+              some_inj (length releases) index
               (sym (get_last h.places.items (length releases))
               ∙ (ap (slice_get (h.places.items ++ length releases ∷ [])) (sym i_is) ∙ kept)) in
               let e : r.handler ≡ handler = of ∙ (ap suc (sym q) ∙ sym at.is_handler) in
@@ -106,24 +106,24 @@ module _ (handlers : List Handler) (releases : List Release) (k : ℕ) (h after 
               ap (λ (n : ℕ). holds (slice_get (releases ++ r ∷ []) n) (is_named handler number)) (sym place_is)
               ∙ (ap (λ (o : Option Release). holds o (is_named handler number)) last
               ∙ grind (arith, nat_tests, e, f))
-          by_place handler number place at q kept false g =
-              old_holds releases r place (is_named handler number)
-              (has.right handler number place
+          by_place handler number index at q kept false g =
+              old_holds releases r index (is_named handler number)
+              (has.right handler number index
               (ap (λ (n : ℕ). place_kept handlers n number) (at.is_handler ∙ ap suc q)
               ∙ (ap (place_kept handlers (suc k)) at.is_number
               ∙ (kept_at handlers k at.i h there
-              ∙ before_last h.places.items (length releases) at.i place kept (λ x. grind (arith, nat_tests, g, x))))))
-      by_row handler number place at false t =
+              ∙ before_last h.places.items (length releases) at.i index kept (λ x. grind (arith, nat_tests, g, x))))))
+      by_row handler number index at false t =
           let q : k ≡ at.k → ⊥ = λ g. (let e : at.k ≡ k = sym g in grind (arith, nat_tests, t, e)) in
-          old_holds releases r place (is_named handler number)
-          (has.right handler number place
+          old_holds releases r index (is_named handler number)
+          (has.right handler number index
           (ap (λ (n : ℕ). place_kept handlers n number) at.is_handler
           ∙ (ap (place_kept handlers (suc at.k)) at.is_number
           ∙ (kept_at handlers at.k at.i at.row (sym (get_set_other handlers k at.k after q) ∙ at.there) ∙ at.kept))))
 
-      right : (handler number place : ℕ) → HandlerThere (slice_set handlers k after) handler number place →
-          holds (slice_get (releases ++ r ∷ []) place) (is_named handler number) ≡ true
-      right handler number place at = by_row handler number place at (at.k == k) refl
+      right : (handler number index : ℕ) → HandlerThere (slice_set handlers k after) handler number index →
+          holds (slice_get (releases ++ r ∷ []) index) (is_named handler number) ≡ true
+      right handler number index at = by_row handler number index at (at.k == k) refl
 
   seen_arrived : map handler_seen (slice_set handlers k after)
       ≡ slice_set (map handler_seen handlers) k (one_more (handler_seen h))
@@ -172,19 +172,19 @@ module _ (handlers : List Handler) (releases : List Release) (k : ℕ) (h after 
       (record {
         few = let l : length (releases ++ r ∷ []) ≡ length releases + 1 = length_push releases r in
             omega (arith, l, few);
-        is = λ place rank t e f. by_test place rank t e f (place == length releases) refl;
+        is = λ index rank t e f. by_test index rank t e f (index == length releases) refl;
       })
-      (λ place t e. same_at t.handler)
+      (λ index t e. same_at t.handler)
     where
-      by_test : (place rank : ℕ) (t : Release) → slice_get (releases ++ r ∷ []) place ≡ Some t →
-          rank_of (map handler_seen handlers) t ≡ Some rank → (b : Bool) → (place == length releases) ≡ b →
-          is_among_keys (key_of rank place) more ≡ true
-      by_test place rank t e f true g =
-          let q : place ≡ length releases = grind (arith, nat_tests, g) in
+      by_test : (index rank : ℕ) (t : Release) → slice_get (releases ++ r ∷ []) index ≡ Some t →
+          rank_of (map handler_seen handlers) t ≡ Some rank → (b : Bool) → (index == length releases) ≡ b →
+          is_among_keys (key_of rank index) more ≡ true
+      by_test index rank t e f true g =
+          let q : index ≡ length releases = grind (arith, nat_tests, g) in
           let same : r ≡ t =
           some_inj r t (sym (get_last releases r) ∙ (ap (slice_get (releases ++ r ∷ [])) (sym q) ∙ e)) in
           subst (λ (m : ℕ). is_among_keys (key_of rank m) more ≡ true) (sym q)
           (added.new rank (ap (rank_of (map handler_seen handlers)) same ∙ f))
-      by_test place rank t e f false g =
-          added.stay (key_of rank place)
-          (has.is place rank t (before_last releases r place t e (λ q. grind (arith, nat_tests, g, q))) f)
+      by_test index rank t e f false g =
+          added.stay (key_of rank index)
+          (has.is index rank t (before_last releases r index t e (λ q. grind (arith, nat_tests, g, q))) f)

@@ -15,7 +15,7 @@ use Rattle.trace_audit.specs.StandsFor.{StandsFor, release_seen}
 -- ---- a place further on
 
 abbrev moved : ℕ → Candidate → Candidate
-moved base c = record c { place = base + c.place }
+moved base c = record c { index = base + c.index }
 
 abbrev of_two : Option Candidate → Candidate → Option Candidate
 of_two o c =
@@ -83,38 +83,38 @@ same_priority s all stands (suc k) =
     ∙ (ap priority_in (slice_get-map (λ (h : HandlerSeen). h.priority) all.handlers k)
     ∙ sym (seen_by all.handlers k))))
 
-one_moved : (s : State) (all : Releases) → StandsFor s all → (base place : ℕ) (r : ReleaseNow) →
-    candidate s (base + place) r ≡ option_map (moved base) (candidate_at all.handlers place (release_seen r))
+one_moved : (s : State) (all : Releases) → StandsFor s all → (base index : ℕ) (r : ReleaseNow) →
+    candidate s (base + index) r ≡ option_map (moved base) (candidate_at all.handlers index (release_seen r))
 unfolding candidate
-one_moved s all stands base place r = go r.status refl
+one_moved s all stands base index r = go r.status refl
   where
     go : (status : ReleaseStatus) → r.status ≡ status →
-        candidate s (base + place) r ≡ option_map (moved base) (candidate_at all.handlers place (release_seen r))
+        candidate s (base + index) r ≡ option_map (moved base) (candidate_at all.handlers index (release_seen r))
     go WaitsNow e =
-        rw e (ap (λ (p : ℕ). Some (record { place = base + place; priority = p; is_started = false }))
+        rw e (ap (λ (p : ℕ). Some (record { index = base + index; priority = p; is_started = false }))
         (same_priority s all stands r.handler))
     go (StartedNow activity) e = rw e refl
     go Ended e = rw e refl
     go Dropped e = rw e refl
 
-now_none : (s : State) (place : ℕ) → candidates_now s place [] ≡ []
+now_none : (s : State) (index : ℕ) → candidates_now s index [] ≡ []
 unfolding candidates_now
-now_none s place = refl
+now_none s index = refl
 
-now_more : (s : State) (place : ℕ) (r : ReleaseNow) (rs : List ReleaseNow) →
-    candidates_now s place (r ∷ rs) ≡ option_to_list (candidate s place r) ++ candidates_now s (place + 1) rs
+now_more : (s : State) (index : ℕ) (r : ReleaseNow) (rs : List ReleaseNow) →
+    candidates_now s index (r ∷ rs) ≡ option_to_list (candidate s index r) ++ candidates_now s (index + 1) rs
 unfolding candidates_now
-now_more s place r rs = refl
+now_more s index r rs = refl
 
-seen_none : (handlers : List HandlerSeen) (place : ℕ) → candidates_from handlers place [] ≡ []
+seen_none : (handlers : List HandlerSeen) (index : ℕ) → candidates_from handlers index [] ≡ []
 unfolding candidates_from
-seen_none handlers place = refl
+seen_none handlers index = refl
 
-seen_more : (handlers : List HandlerSeen) (place : ℕ) (r : Release) (rs : List Release) →
-    candidates_from handlers place (r ∷ rs)
-    ≡ option_to_list (candidate_at handlers place r) ++ candidates_from handlers (place + 1) rs
+seen_more : (handlers : List HandlerSeen) (index : ℕ) (r : Release) (rs : List Release) →
+    candidates_from handlers index (r ∷ rs)
+    ≡ option_to_list (candidate_at handlers index r) ++ candidates_from handlers (index + 1) rs
 unfolding candidates_from
-seen_more handlers place r rs = refl
+seen_more handlers index r rs = refl
 
 list_moved : (base : ℕ) (o : Option Candidate) (cs : List Candidate) →
     option_to_list (option_map (moved base) o) ++ map (moved base) cs
@@ -122,38 +122,38 @@ list_moved : (base : ℕ) (o : Option Candidate) (cs : List Candidate) →
 list_moved base None cs = refl
 list_moved base (Some c) cs = refl
 
-all_moved : (s : State) (all : Releases) → StandsFor s all → (base place : ℕ) (rs : List ReleaseNow) →
-    candidates_now s (base + place) rs
-    ≡ map (moved base) (candidates_from all.handlers place (map release_seen rs))
-all_moved s all stands base place [] =
-    now_none s (base + place) ∙ sym (ap (map (moved base)) (seen_none all.handlers place))
-all_moved s all stands base place (r ∷ rs) =
-    let next : base + place + 1 ≡ base + (place + 1) = omega arith in
-    now_more s (base + place) r rs
-    ∙ (ap (λ (o : Option Candidate). option_to_list o ++ candidates_now s (base + place + 1) rs)
-    (one_moved s all stands base place r)
-    ∙ (ap (λ (n : ℕ). option_to_list (option_map (moved base) (candidate_at all.handlers place (release_seen r)))
+all_moved : (s : State) (all : Releases) → StandsFor s all → (base index : ℕ) (rs : List ReleaseNow) →
+    candidates_now s (base + index) rs
+    ≡ map (moved base) (candidates_from all.handlers index (map release_seen rs))
+all_moved s all stands base index [] =
+    now_none s (base + index) ∙ sym (ap (map (moved base)) (seen_none all.handlers index))
+all_moved s all stands base index (r ∷ rs) =
+    let next : base + index + 1 ≡ base + (index + 1) = omega arith in
+    now_more s (base + index) r rs
+    ∙ (ap (λ (o : Option Candidate). option_to_list o ++ candidates_now s (base + index + 1) rs)
+    (one_moved s all stands base index r)
+    ∙ (ap (λ (n : ℕ). option_to_list (option_map (moved base) (candidate_at all.handlers index (release_seen r)))
     ++ candidates_now s n rs) next
     ∙ (ap (λ (l : List Candidate). option_to_list (option_map (moved base)
-    (candidate_at all.handlers place (release_seen r))) ++ l) (all_moved s all stands base (place + 1) rs)
-    ∙ (list_moved base (candidate_at all.handlers place (release_seen r))
-    (candidates_from all.handlers (place + 1) (map release_seen rs))
-    ∙ sym (ap (map (moved base)) (seen_more all.handlers place (release_seen r) (map release_seen rs)))))))
+    (candidate_at all.handlers index (release_seen r))) ++ l) (all_moved s all stands base (index + 1) rs)
+    ∙ (list_moved base (candidate_at all.handlers index (release_seen r))
+    (candidates_from all.handlers (index + 1) (map release_seen rs))
+    ∙ sym (ap (map (moved base)) (seen_more all.handlers index (release_seen r) (map release_seen rs)))))))
 
 -- releases of which none waits or is started give no candidate
-none_of : (s : State) (place : ℕ) (rs more : List ReleaseNow) →
-    ((k : ℕ) (r : ReleaseNow) → slice_get rs k ≡ Some r → candidate s (place + k) r ≡ None) →
-    candidates_now s place (rs ++ more) ≡ candidates_now s (place + length rs) more
-none_of s place [] more none = let e : place ≡ place + 0 = omega arith in ap (λ (n : ℕ). candidates_now s n more) e
-none_of s place (r ∷ rs) more none =
-    let at : place + 0 ≡ place = omega arith in
-    let first : candidate s place r ≡ None =
+none_of : (s : State) (index : ℕ) (rs more : List ReleaseNow) →
+    ((k : ℕ) (r : ReleaseNow) → slice_get rs k ≡ Some r → candidate s (index + k) r ≡ None) →
+    candidates_now s index (rs ++ more) ≡ candidates_now s (index + length rs) more
+none_of s index [] more none = let e : index ≡ index + 0 = omega arith in ap (λ (n : ℕ). candidates_now s n more) e
+none_of s index (r ∷ rs) more none =
+    let at : index + 0 ≡ index = omega arith in
+    let first : candidate s index r ≡ None =
     sym (ap (λ (n : ℕ). candidate s n r) at) ∙ none 0 r refl in
-    let end : place + 1 + length rs ≡ place + suc (length rs) = omega arith in
-    now_more s place r (rs ++ more)
-    ∙ (ap (λ (o : Option Candidate). option_to_list o ++ candidates_now s (place + 1) (rs ++ more)) first
-    ∙ (none_of s (place + 1) rs more
-    (λ k t e. (let n : place + 1 + k ≡ place + suc k = omega arith in
+    let end : index + 1 + length rs ≡ index + suc (length rs) = omega arith in
+    now_more s index r (rs ++ more)
+    ∙ (ap (λ (o : Option Candidate). option_to_list o ++ candidates_now s (index + 1) (rs ++ more)) first
+    ∙ (none_of s (index + 1) rs more
+    (λ k t e. (let n : index + 1 + k ≡ index + suc k = omega arith in
     ap (λ (m : ℕ). candidate s m t) n ∙ none (suc k) t e))
     ∙ ap (λ (n : ℕ). candidates_now s n more) end))
 
@@ -170,10 +170,10 @@ candidates_are s all stands =
     sym (take-append-drop s.earlier_releases s.releases) in
     let front : length (take s.earlier_releases s.releases) ≡ s.earlier_releases =
     length_front s.earlier_releases s.releases stands.within in
-    let place : 0 + length (take s.earlier_releases s.releases) ≡ s.earlier_releases + 0 = omega (arith, front) in
+    let index : 0 + length (take s.earlier_releases s.releases) ≡ s.earlier_releases + 0 = omega (arith, front) in
     ap (candidates_now s 0) parts
     ∙ (none_of s 0 (take s.earlier_releases s.releases) (drop s.earlier_releases s.releases) (λ k r e. earlier k r e)
-    ∙ (ap (λ (n : ℕ). candidates_now s n (drop s.earlier_releases s.releases)) place
+    ∙ (ap (λ (n : ℕ). candidates_now s n (drop s.earlier_releases s.releases)) index
     ∙ (all_moved s all stands s.earlier_releases 0 (drop s.earlier_releases s.releases)
     ∙ ap (λ (l : List Release). map (moved s.earlier_releases) (candidates_from all.handlers 0 l)) stands.releases)))
   where
@@ -191,8 +191,8 @@ candidates_are s all stands =
         ap (λ (n : ℕ). candidate s n r) same ∙ stands.earlier k r there (omega (arith, within, front))
 
 places_moved : (base : ℕ) (o : Option Candidate) →
-    option_map (λ (c : Candidate). c.place) (option_map (moved base) o)
-    ≡ option_map (λ (n : ℕ). base + n) (option_map (λ (c : Candidate). c.place) o)
+    option_map (λ (c : Candidate). c.index) (option_map (moved base) o)
+    ≡ option_map (λ (n : ℕ). base + n) (option_map (λ (c : Candidate). c.index) o)
 places_moved base None = refl
 places_moved base (Some c) = refl
 
@@ -200,7 +200,7 @@ pub pick_is_choice : (s : State) (all : Releases) → StandsFor s all →
     chosen s ≡ option_map (λ (n : ℕ). s.earlier_releases + n) (picked_place all)
 unfolding chosen picked_place
 pick_is_choice s all stands =
-    ap (λ (cs : List Candidate). option_map (λ (c : Candidate). c.place) (most_urgent cs)) (candidates_are s all stands)
-    ∙ (ap (option_map (λ (c : Candidate). c.place))
+    ap (λ (cs : List Candidate). option_map (λ (c : Candidate). c.index) (most_urgent cs)) (candidates_are s all stands)
+    ∙ (ap (option_map (λ (c : Candidate). c.index))
     (most_moved s.earlier_releases (candidates_from all.handlers 0 all.releases))
     ∙ places_moved s.earlier_releases (most_urgent (candidates_from all.handlers 0 all.releases)))

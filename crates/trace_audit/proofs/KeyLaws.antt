@@ -18,36 +18,36 @@ releases_of handlers releases = record { handlers = handlers; releases = release
 
 -- ---- a release stands otherwise
 
-pub keys_restood : (handlers : List HandlerSeen) (releases : List Release) (keys after : List ℕ) (place : ℕ)
+pub keys_restood : (handlers : List HandlerSeen) (releases : List Release) (keys after : List ℕ) (index : ℕ)
     (r : Release) (s : Standing) → HasKeys (releases_of handlers releases) keys →
-    slice_get releases place ≡ Some r → HasMoreKeys keys after (rank_of handlers (record r { standing = s })) place →
-    HasKeys (releases_of handlers (slice_set releases place (record r { standing = s }))) after
-keys_restood handlers releases keys after place r s has there more =
+    slice_get releases index ≡ Some r → HasMoreKeys keys after (rank_of handlers (record r { standing = s })) index →
+    HasKeys (releases_of handlers (slice_set releases index (record r { standing = s }))) after
+keys_restood handlers releases keys after index r s has there more =
     record {
       few = let f = has.few in
-          let l : length (slice_set releases place new) ≡ length releases = length_set releases place new in
+          let l : length (slice_set releases index new) ≡ length releases = length_set releases index new in
           omega (arith, f, l);
-      is = λ p n t e f. by_place p n t e f (p == place) refl;
+      is = λ p n t e f. by_place p n t e f (p == index) refl;
     }
   where
     new : Release
     new = record r { standing = s }
 
-    within : place < length releases
-    within = slice_get_within releases place r there
+    within : index < length releases
+    within = slice_get_within releases index r there
 
-    by_place : (p n : ℕ) (t : Release) → slice_get (slice_set releases place new) p ≡ Some t →
-        rank_of handlers t ≡ Some n → (b : Bool) → (p == place) ≡ b → is_among_keys (key_of n p) after ≡ true
+    by_place : (p n : ℕ) (t : Release) → slice_get (slice_set releases index new) p ≡ Some t →
+        rank_of handlers t ≡ Some n → (b : Bool) → (p == index) ≡ b → is_among_keys (key_of n p) after ≡ true
     by_place p n t e f true g =
-        let q : p ≡ place = grind (arith, nat_tests, g) in
+        let q : p ≡ index = grind (arith, nat_tests, g) in
         let same : new ≡ t =
-        some_inj new t (sym (ap (slice_get (slice_set releases place new)) q ∙ get_set_same releases place new within)
+        some_inj new t (sym (ap (slice_get (slice_set releases index new)) q ∙ get_set_same releases index new within)
         ∙ e) in
         subst (λ (m : ℕ). is_among_keys (key_of n m) after ≡ true) (sym q)
         (more.new n (ap (rank_of handlers) same ∙ f))
     by_place p n t e f false g =
-        let q : place ≡ p → ⊥ = λ h. (let k : p ≡ place = sym h in grind (arith, nat_tests, g, k)) in
-        more.stay (key_of n p) (has.is p n t (sym (get_set_other releases place p new q) ∙ e) f)
+        let q : index ≡ p → ⊥ = λ h. (let k : p ≡ index = sym h in grind (arith, nat_tests, g, k)) in
+        more.stay (key_of n p) (has.is p n t (sym (get_set_other releases index p new q) ∙ e) f)
 
 -- ---- handlers and ranks
 
@@ -61,32 +61,32 @@ rank_by handlers others r e = ap (rank_with r) e
 
 -- where each release has its handler, other handlers with the same priorities change no key
 pub keys_by : (handlers others : List HandlerSeen) (releases : List Release) (keys : List ℕ) →
-    HasKeys (releases_of handlers releases) keys → ((place : ℕ) (r : Release) → slice_get releases place ≡ Some r →
+    HasKeys (releases_of handlers releases) keys → ((index : ℕ) (r : Release) → slice_get releases index ≡ Some r →
     priority_at others r.handler ≡ priority_at handlers r.handler) → HasKeys (releases_of others releases) keys
 keys_by handlers others releases keys has same =
     record {
       few = has.few;
-      is = λ place rank r there ranked.
-          has.is place rank r there (sym (rank_by others handlers r (same place r there)) ∙ ranked);
+      is = λ index rank r there ranked.
+          has.is index rank r there (sym (rank_by others handlers r (same index r there)) ∙ ranked);
     }
 
-pub record HandlerThere (handlers : List Handler) (handler number place : ℕ) : Type 0 where
+pub record HandlerThere (handlers : List Handler) (handler number index : ℕ) : Type 0 where
   pub k : ℕ
   pub i : ℕ
   pub row : Handler
   pub is_handler : handler ≡ suc k
   pub is_number : number ≡ suc i
   pub there : slice_get handlers k ≡ Some row
-  pub kept : slice_get row.places.items i ≡ Some place
+  pub kept : slice_get row.places.items i ≡ Some index
 
-pub handler_there : (handlers : List Handler) (handler number place : ℕ) →
-    place_kept handlers handler number ≡ Some place → HandlerThere handlers handler number place
-handler_there handlers zero number place e = absurd (cc (e))
-handler_there handlers (suc k) zero place e = absurd (cc (e))
-handler_there handlers (suc k) (suc i) place e = go (slice_get handlers k) refl e
+pub handler_there : (handlers : List Handler) (handler number index : ℕ) →
+    place_kept handlers handler number ≡ Some index → HandlerThere handlers handler number index
+handler_there handlers zero number index e = absurd (cc (e))
+handler_there handlers (suc k) zero index e = absurd (cc (e))
+handler_there handlers (suc k) (suc i) index e = go (slice_get handlers k) refl e
   where
-    go : (o : Option Handler) → slice_get handlers k ≡ o → (o >>= (λ h. slice_get h.places.items i)) ≡ Some place →
-        HandlerThere handlers (suc k) (suc i) place
+    go : (o : Option Handler) → slice_get handlers k ≡ o → (o >>= (λ h. slice_get h.places.items i)) ≡ Some index →
+        HandlerThere handlers (suc k) (suc i) index
     go None f g = absurd (cc (g))
     go (Some row) f g =
         record { k = k; i = i; row = row; is_handler = refl; is_number = refl; there = f; kept = g }
@@ -97,11 +97,11 @@ kept_at handlers k i row e = ap (λ (o : Option Handler). o >>= (λ h. slice_get
 
 -- ---- a handler is registered
 
-pub front_same : (handlers : List Handler) (h : Handler) (handler number place : ℕ) →
-    place_kept handlers handler number ≡ Some place →
-    place_kept (handlers ++ h ∷ []) handler number ≡ Some place
-front_same handlers h handler number place e =
-    let at = handler_there handlers handler number place e in
+pub front_same : (handlers : List Handler) (h : Handler) (handler number index : ℕ) →
+    place_kept handlers handler number ≡ Some index →
+    place_kept (handlers ++ h ∷ []) handler number ≡ Some index
+front_same handlers h handler number index e =
+    let at = handler_there handlers handler number index e in
     ap (λ (n : ℕ). place_kept (handlers ++ h ∷ []) n number) at.is_handler
     ∙ (ap (place_kept (handlers ++ h ∷ []) (suc at.k)) at.is_number
     ∙ (kept_at (handlers ++ h ∷ []) at.k at.i at.row (get_left handlers (h ∷ []) at.k at.row at.there) ∙ at.kept))
@@ -110,29 +110,29 @@ pub places_registered : (handlers : List Handler) (releases : List Release) (h :
     HasPlaces handlers releases → h.places.items ≡ [] → HasPlaces (handlers ++ h ∷ []) releases
 places_registered handlers releases h has empty =
     record {
-      kept = λ place r there. front_same handlers h r.handler r.number place (has.kept place r there);
-      right = λ handler number place e. right handler number place e;
+      kept = λ index r there. front_same handlers h r.handler r.number index (has.kept index r there);
+      right = λ handler number index e. right handler number index e;
     }
   where
-    by_row : (handler number place : ℕ) → (at : HandlerThere (handlers ++ h ∷ []) handler number place) →
+    by_row : (handler number index : ℕ) → (at : HandlerThere (handlers ++ h ∷ []) handler number index) →
         (slice_get handlers at.k ≡ Some at.row) ⊎ (h ≡ at.row) →
-        holds (slice_get releases place) (is_named handler number) ≡ true
-    by_row handler number place at (inl there) =
-        has.right handler number place
+        holds (slice_get releases index) (is_named handler number) ≡ true
+    by_row handler number index at (inl there) =
+        has.right handler number index
         (ap (λ (n : ℕ). place_kept handlers n number) at.is_handler
         ∙ (ap (place_kept handlers (suc at.k)) at.is_number
         ∙ (kept_at handlers at.k at.i at.row there ∙ at.kept)))
-    by_row handler number place at (inr same) =
-        let none : slice_get [] at.i ≡ Some place =
-        subst (λ (ps : List ℕ). slice_get ps at.i ≡ Some place) empty
-        (subst (λ (row : Handler). slice_get row.places.items at.i ≡ Some place) (sym same) at.kept) in
+    by_row handler number index at (inr same) =
+        let none : slice_get [] at.i ≡ Some index =
+        subst (λ (ps : List ℕ). slice_get ps at.i ≡ Some index) empty
+        (subst (λ (row : Handler). slice_get row.places.items at.i ≡ Some index) (sym same) at.kept) in
         absurd (cc (none))
 
-    right : (handler number place : ℕ) → place_kept (handlers ++ h ∷ []) handler number ≡ Some place →
-        holds (slice_get releases place) (is_named handler number) ≡ true
-    right handler number place e =
-        let at = handler_there (handlers ++ h ∷ []) handler number place e in
-        by_row handler number place at (get_either handlers h at.k at.row at.there)
+    right : (handler number index : ℕ) → place_kept (handlers ++ h ∷ []) handler number ≡ Some index →
+        holds (slice_get releases index) (is_named handler number) ≡ true
+    right handler number index e =
+        let at = handler_there (handlers ++ h ∷ []) handler number index e in
+        by_row handler number index at (get_either handlers h at.k at.row at.there)
 
 pub map_push : (handlers : List Handler) (h : Handler) →
     map handler_seen (handlers ++ h ∷ []) ≡ map handler_seen handlers ++ handler_seen h ∷ []
@@ -151,12 +151,12 @@ pub keys_registered : (handlers : List Handler) (releases : List Release) (keys 
     HasKeys (releases_of (map handler_seen (handlers ++ h ∷ [])) releases) keys
 keys_registered handlers releases keys h placed has =
     keys_by (map handler_seen handlers) (map handler_seen (handlers ++ h ∷ [])) releases keys has
-    (λ place r there. same place r (handler_there handlers r.handler r.number place (placed.kept place r there)))
+    (λ index r there. same index r (handler_there handlers r.handler r.number index (placed.kept index r there)))
   where
-    same : (place : ℕ) (r : Release) → HandlerThere handlers r.handler r.number place →
+    same : (index : ℕ) (r : Release) → HandlerThere handlers r.handler r.number index →
         priority_at (map handler_seen (handlers ++ h ∷ [])) r.handler
         ≡ priority_at (map handler_seen handlers) r.handler
-    same place r at =
+    same index r at =
         ap (priority_at (map handler_seen (handlers ++ h ∷ []))) at.is_handler
         ∙ (ap priority_in (seen_at (handlers ++ h ∷ []) at.k at.row (get_left handlers (h ∷ []) at.k at.row at.there))
         ∙ (sym (ap priority_in (seen_at handlers at.k at.row at.there))
@@ -192,12 +192,12 @@ map_set [] k h = refl
 map_set (x ∷ handlers) zero h = refl
 map_set (x ∷ handlers) (suc k) h = ap (λ (hs : List HandlerSeen). handler_seen x ∷ hs) (map_set handlers k h)
 
-pub old_holds : (releases : List Release) (r : Release) (place : ℕ) (test : Release → Bool) →
-    holds (slice_get releases place) test ≡ true → holds (slice_get (releases ++ r ∷ []) place) test ≡ true
-old_holds releases r place test h = go (slice_get releases place) refl h
+pub old_holds : (releases : List Release) (r : Release) (index : ℕ) (test : Release → Bool) →
+    holds (slice_get releases index) test ≡ true → holds (slice_get (releases ++ r ∷ []) index) test ≡ true
+old_holds releases r index test h = go (slice_get releases index) refl h
   where
-    go : (o : Option Release) → slice_get releases place ≡ o → holds o test ≡ true →
-        holds (slice_get (releases ++ r ∷ []) place) test ≡ true
+    go : (o : Option Release) → slice_get releases index ≡ o → holds o test ≡ true →
+        holds (slice_get (releases ++ r ∷ []) index) test ≡ true
     go None e f = absurd (cc (f))
     go (Some t) e f =
-        ap (λ (o : Option Release). holds o test) (get_left releases (r ∷ []) place t e) ∙ f
+        ap (λ (o : Option Release). holds o test) (get_left releases (r ∷ []) index t e) ∙ f

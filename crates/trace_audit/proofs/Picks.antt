@@ -51,18 +51,18 @@ among_all P (k ∷ keys) x all among =
 key_parts : (key : ℕ) → key_of (rank_in key) (place_in key) ≡ key
 key_parts key = omega arith
 
-rank_of_key : (rank place : ℕ) → place < places_end → rank_in (key_of rank place) ≡ rank
-rank_of_key rank place h = omega arith
+rank_of_key : (rank index : ℕ) → index < places_end → rank_in (key_of rank index) ≡ rank
+rank_of_key rank index h = omega arith
 
-place_of_key : (rank place : ℕ) → place < places_end → place_in (key_of rank place) ≡ place
-place_of_key rank place h = let e : rank_in (key_of rank place) ≡ rank = rank_of_key rank place h in omega arith
+place_of_key : (rank index : ℕ) → index < places_end → place_in (key_of rank index) ≡ index
+place_of_key rank index h = let e : rank_in (key_of rank index) ≡ rank = rank_of_key rank index h in omega arith
 
 -- a key that isn't greater belongs to a lower rank, or to the same one at a later place
-less_urgent : (n rank q place : ℕ) → q < places_end → place < places_end → key_of n q ≤ key_of rank place →
-    (n < rank) ⊎ ((n ≡ rank) × (place ≤ q))
-less_urgent n rank q place hq hp h = by_order (eq-or-lt_of_le (let k : n ≤ rank = omega arith in k))
+less_urgent : (n rank q index : ℕ) → q < places_end → index < places_end → key_of n q ≤ key_of rank index →
+    (n < rank) ⊎ ((n ≡ rank) × (index ≤ q))
+less_urgent n rank q index hq hp h = by_order (eq-or-lt_of_le (let k : n ≤ rank = omega arith in k))
   where
-    by_order : (n ≡ rank) ⊎ (n < rank) → (n < rank) ⊎ ((n ≡ rank) × (place ≤ q))
+    by_order : (n ≡ rank) ⊎ (n < rank) → (n < rank) ⊎ ((n ≡ rank) × (index ≤ q))
     by_order (inl e) = inr (e, omega arith)
     by_order (inr l) = inl l
 
@@ -75,8 +75,8 @@ picked_by_key all keys key has above current =
     let found : Found (most_urgent (candidates_from all.handlers 0 all.releases)) (0 + place_in key) (rank_in key) =
     best_is_picked all.handlers 0 all.releases (place_in key) (rank_in key) held.value held.is
     (rank_is (rank_in key) (rank_of all.handlers held.value) held.holds_of) best in
-    let at : found.candidate.place ≡ place_in key = let e = found.at in omega (arith, e) in
-    ap (option_map (λ (c : Candidate). c.place)) found.is ∙ ap (λ (n : ℕ). Some n) at
+    let at : found.candidate.index ≡ place_in key = let e = found.at in omega (arith, e) in
+    ap (option_map (λ (c : Candidate). c.index)) found.is ∙ ap (λ (n : ℕ). Some n) at
   where
     within : (q : ℕ) (t : Release) → slice_get all.releases q ≡ Some t → q < places_end
     within q t e =
@@ -106,14 +106,14 @@ unfolding picked_place
 none_picked all keys has none = by_result (most_urgent (candidates_from all.handlers 0 all.releases)) refl
   where
     by_result : (o : Option Candidate) → most_urgent (candidates_from all.handlers 0 all.releases) ≡ o →
-        option_map (λ (c : Candidate). c.place) (most_urgent (candidates_from all.handlers 0 all.releases)) ≡ None
-    by_result None e = ap (option_map (λ (c : Candidate). c.place)) e
+        option_map (λ (c : Candidate). c.index) (most_urgent (candidates_from all.handlers 0 all.releases)) ≡ None
+    by_result None e = ap (option_map (λ (c : Candidate). c.index)) e
     by_result (Some c) e =
         let of : IsOf all.handlers all.releases c = is_of_some all.handlers 0 all.releases c e in
-        let among : is_among_keys (key_of (weight c) of.place) keys ≡ true =
-        has.is of.place (weight c) of.release of.there of.rank in
-        let empty : is_among_keys (key_of (weight c) of.place) [] ≡ true =
-        subst (λ (ks : List ℕ). is_among_keys (key_of (weight c) of.place) ks ≡ true) none among in
+        let among : is_among_keys (key_of (weight c) of.index) keys ≡ true =
+        has.is of.index (weight c) of.release of.there of.rank in
+        let empty : is_among_keys (key_of (weight c) of.index) [] ≡ true =
+        subst (λ (ks : List ℕ). is_among_keys (key_of (weight c) of.index) ks ≡ true) none among in
         absurd (cc (empty))
 
 pub has_keys_popped : (all : Releases) (keys after : List ℕ) (key : ℕ) → HasKeys all keys →
@@ -121,35 +121,35 @@ pub has_keys_popped : (all : Releases) (keys after : List ℕ) (key : ℕ) → H
 has_keys_popped all keys after key has popped stale =
     record {
       few = has.few;
-      is = λ place rank r there ranked. by_test place rank r there ranked (key == key_of rank place) refl;
+      is = λ index rank r there ranked. by_test index rank r there ranked (key == key_of rank index) refl;
     }
   where
-    current : (place rank : ℕ) (r : Release) → slice_get all.releases place ≡ Some r →
-        rank_of all.handlers r ≡ Some rank → is_current all (key_of rank place) ≡ true
-    current place rank r there ranked =
+    current : (index rank : ℕ) (r : Release) → slice_get all.releases index ≡ Some r →
+        rank_of all.handlers r ≡ Some rank → is_current all (key_of rank index) ≡ true
+    current index rank r there ranked =
         let f = has.few in
-        let g : place < length all.releases = slice_get_within all.releases place r there in
-        let w : place < places_end = omega (arith, f, g) in
+        let g : index < length all.releases = slice_get_within all.releases index r there in
+        let w : index < places_end = omega (arith, f, g) in
         ap (λ (p : ℕ). holds (slice_get all.releases p)
-        (λ t. is_rank (rank_in (key_of rank place)) (rank_of all.handlers t))) (place_of_key rank place w)
+        (λ t. is_rank (rank_in (key_of rank index)) (rank_of all.handlers t))) (place_of_key rank index w)
         ∙ (ap (λ (o : Option Release). holds o
-        (λ t. is_rank (rank_in (key_of rank place)) (rank_of all.handlers t))) there
-        ∙ (ap (λ (n : ℕ). is_rank n (rank_of all.handlers r)) (rank_of_key rank place w)
+        (λ t. is_rank (rank_in (key_of rank index)) (rank_of all.handlers t))) there
+        ∙ (ap (λ (n : ℕ). is_rank n (rank_of all.handlers r)) (rank_of_key rank index w)
         ∙ (ap (is_rank rank) ranked ∙ is_rank_same rank)))
 
-    by_test : (place rank : ℕ) (r : Release) → slice_get all.releases place ≡ Some r →
-        rank_of all.handlers r ≡ Some rank → (b : Bool) → (key == key_of rank place) ≡ b →
-        is_among_keys (key_of rank place) after ≡ true
-    by_test place rank r there ranked true t =
-        let e : key ≡ key_of rank place = grind (arith, nat_tests) in
+    by_test : (index rank : ℕ) (r : Release) → slice_get all.releases index ≡ Some r →
+        rank_of all.handlers r ≡ Some rank → (b : Bool) → (key == key_of rank index) ≡ b →
+        is_among_keys (key_of rank index) after ≡ true
+    by_test index rank r there ranked true t =
+        let e : key ≡ key_of rank index = grind (arith, nat_tests) in
         let c : is_current all key ≡ true =
-        subst (λ (k : ℕ). is_current all k ≡ true) (sym e) (current place rank r there ranked) in
+        subst (λ (k : ℕ). is_current all k ≡ true) (sym e) (current index rank r there ranked) in
         absurd (cc (c, stale))
-    by_test place rank r there ranked false t =
-        let among : is_among_keys (key_of rank place) (key ∷ after) ≡ true =
-        sym (list_any-IsPermutation (λ (k : ℕ). k == key_of rank place) keys (key ∷ after) popped)
-        ∙ has.is place rank r there ranked in
-        sym (ap (λ (b : Bool). b || is_among_keys (key_of rank place) after) t) ∙ among
+    by_test index rank r there ranked false t =
+        let among : is_among_keys (key_of rank index) (key ∷ after) ≡ true =
+        sym (list_any-IsPermutation (λ (k : ℕ). k == key_of rank index) keys (key ∷ after) popped)
+        ∙ has.is index rank r there ranked in
+        sym (ap (λ (b : Bool). b || is_among_keys (key_of rank index) after) t) ∙ among
 
 -- once the greatest key is taken out
 pub has_keys_after_pop : (all : Releases) (keys after : List ℕ) (key : ℕ) (o : Option ℕ) → HasKeys all keys →

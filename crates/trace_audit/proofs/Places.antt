@@ -51,17 +51,17 @@ same_names handler number r h = (grind (arith, nat_tests, h), grind (arith, nat_
 named_so : (r : Release) → is_named r.handler r.number r ≡ true
 named_so r = grind (arith, nat_tests)
 
-record Holding (releases : List Release) (handler number place : ℕ) : Type 0 where
+record Holding (releases : List Release) (handler number index : ℕ) : Type 0 where
   release : Release
-  there : slice_get releases place ≡ Some release
+  there : slice_get releases index ≡ Some release
   named : is_named handler number release ≡ true
 
-holding : (releases : List Release) (handler number place : ℕ) →
-    holds (slice_get releases place) (is_named handler number) ≡ true → Holding releases handler number place
-holding releases handler number place h = go (slice_get releases place) refl h
+holding : (releases : List Release) (handler number index : ℕ) →
+    holds (slice_get releases index) (is_named handler number) ≡ true → Holding releases handler number index
+holding releases handler number index h = go (slice_get releases index) refl h
   where
-    go : (o : Option Release) → slice_get releases place ≡ o → holds o (is_named handler number) ≡ true →
-        Holding releases handler number place
+    go : (o : Option Release) → slice_get releases index ≡ o → holds o (is_named handler number) ≡ true →
+        Holding releases handler number index
     go None e f = absurd (cc (f))
     go (Some r) e f = record { release = r; there = e; named = f }
 
@@ -85,67 +85,67 @@ place_is_kept handlers releases has handler number = go (place_kept handlers han
         (λ j r there named.
         let k = kept_named handlers releases has handler number j r there named in
         cc (k, e)) ∙ sym e
-    go (Some place) e =
-        let here = holding releases handler number place (has.right handler number place e) in
-        position_once (is_named handler number) releases place here.release here.there here.named
+    go (Some index) e =
+        let here = holding releases handler number index (has.right handler number index e) in
+        position_once (is_named handler number) releases index here.release here.there here.named
         (λ j r there named.
         let k = kept_named handlers releases has handler number j r there named in
-        some_inj j place (sym k ∙ e)) ∙ sym e
+        some_inj j index (sym k ∙ e)) ∙ sym e
 
 -- ---- a release that stands otherwise
 
-pub places_restood : (handlers : List Handler) (releases : List Release) (place : ℕ) (r : Release) (s : Standing) →
-    HasPlaces handlers releases → slice_get releases place ≡ Some r →
-    HasPlaces handlers (slice_set releases place (record r { standing = s }))
-places_restood handlers releases place r s has there =
+pub places_restood : (handlers : List Handler) (releases : List Release) (index : ℕ) (r : Release) (s : Standing) →
+    HasPlaces handlers releases → slice_get releases index ≡ Some r →
+    HasPlaces handlers (slice_set releases index (record r { standing = s }))
+places_restood handlers releases index r s has there =
     let changed : Release = record r { standing = s } in
     record { kept = λ p t e. kept p t e; right = λ h n p e. right h n p e }
   where
-    within : place < length releases
-    within = slice_get_within releases place r there
+    within : index < length releases
+    within = slice_get_within releases index r there
 
-    same_place : (p : ℕ) → p ≡ place → slice_get (slice_set releases place (record r { standing = s })) p
+    same_place : (p : ℕ) → p ≡ index → slice_get (slice_set releases index (record r { standing = s })) p
         ≡ Some (record r { standing = s })
     same_place p e =
-        ap (slice_get (slice_set releases place (record r { standing = s }))) e
-        ∙ get_set_same releases place (record r { standing = s }) within
+        ap (slice_get (slice_set releases index (record r { standing = s }))) e
+        ∙ get_set_same releases index (record r { standing = s }) within
 
-    kept : (p : ℕ) (t : Release) → slice_get (slice_set releases place (record r { standing = s })) p ≡ Some t →
+    kept : (p : ℕ) (t : Release) → slice_get (slice_set releases index (record r { standing = s })) p ≡ Some t →
         place_kept handlers t.handler t.number ≡ Some p
-    kept p t e = by_place (p == place) refl
+    kept p t e = by_place (p == index) refl
       where
-        by_place : (b : Bool) → (p == place) ≡ b → place_kept handlers t.handler t.number ≡ Some p
+        by_place : (b : Bool) → (p == index) ≡ b → place_kept handlers t.handler t.number ≡ Some p
         by_place true f =
-            let q : p ≡ place = grind (arith, nat_tests, f) in
+            let q : p ≡ index = grind (arith, nat_tests, f) in
             let same : record r { standing = s } ≡ t =
             some_inj (record r { standing = s }) t (sym (same_place p q) ∙ e) in
             subst (λ (u : Release). place_kept handlers u.handler u.number ≡ Some p) same
-            (has.kept place r there ∙ ap (λ (n : ℕ). Some n) (sym q))
+            (has.kept index r there ∙ ap (λ (n : ℕ). Some n) (sym q))
         by_place false f =
-            let q : place ≡ p → ⊥ = λ g. (let h : p ≡ place = sym g in grind (arith, nat_tests, f, h)) in
-            has.kept p t (sym (get_set_other releases place p (record r { standing = s }) q) ∙ e)
+            let q : index ≡ p → ⊥ = λ g. (let h : p ≡ index = sym g in grind (arith, nat_tests, f, h)) in
+            has.kept p t (sym (get_set_other releases index p (record r { standing = s }) q) ∙ e)
 
     right : (h n p : ℕ) → place_kept handlers h n ≡ Some p →
-        holds (slice_get (slice_set releases place (record r { standing = s })) p) (is_named h n) ≡ true
-    right h n p e = by_place (p == place) refl
+        holds (slice_get (slice_set releases index (record r { standing = s })) p) (is_named h n) ≡ true
+    right h n p e = by_place (p == index) refl
       where
-        by_place : (b : Bool) → (p == place) ≡ b →
-            holds (slice_get (slice_set releases place (record r { standing = s })) p) (is_named h n) ≡ true
+        by_place : (b : Bool) → (p == index) ≡ b →
+            holds (slice_get (slice_set releases index (record r { standing = s })) p) (is_named h n) ≡ true
         by_place true f =
-            let q : p ≡ place = grind (arith, nat_tests, f) in
+            let q : p ≡ index = grind (arith, nat_tests, f) in
             ap (λ (o : Option Release). holds o (is_named h n)) (same_place p q)
             ∙ (sym (ap (λ (o : Option Release). holds o (is_named h n)) (ap (slice_get releases) q ∙ there))
             ∙ has.right h n p e)
         by_place false f =
-            let q : place ≡ p → ⊥ = λ g. (let h : p ≡ place = sym g in grind (arith, nat_tests, f, h)) in
+            let q : index ≡ p → ⊥ = λ g. (let h : p ≡ index = sym g in grind (arith, nat_tests, f, h)) in
             ap (λ (o : Option Release). holds o (is_named h n))
-            (get_set_other releases place p (record r { standing = s }) q)
+            (get_set_other releases index p (record r { standing = s }) q)
             ∙ has.right h n p e
 
 -- ---- standings by names
 
 abbrev release_in : List Release → Option ℕ → Option Release
-release_in releases o = elim o as (λ _. Option Release) [ None ↦ None | Some place ↦ slice_get releases place ]
+release_in releases o = elim o as (λ _. Option Release) [ None ↦ None | Some index ↦ slice_get releases index ]
 
 module _ (handlers : List Handler) (releases : List Release) (has : HasPlaces handlers releases)
     (handler number : ℕ) where
@@ -157,16 +157,16 @@ module _ (handlers : List Handler) (releases : List Release) (has : HasPlaces ha
       standing_named (all_seen handlers releases) handler number ≡ None
   standing_nowhere e = ap (option_map (λ (r : Release). r.standing)) (named_by None e)
 
-  pub standing_at : (place : ℕ) (o : Option Release) → place_kept handlers handler number ≡ Some place →
-      slice_get releases place ≡ o → standing_named (all_seen handlers releases) handler number
+  pub standing_at : (index : ℕ) (o : Option Release) → place_kept handlers handler number ≡ Some index →
+      slice_get releases index ≡ o → standing_named (all_seen handlers releases) handler number
       ≡ option_map (λ (r : Release). r.standing) o
-  standing_at place o e f = ap (option_map (λ (r : Release). r.standing)) (named_by (Some place) e ∙ f)
+  standing_at index o e f = ap (option_map (λ (r : Release). r.standing)) (named_by (Some index) e ∙ f)
 
   releases_by : (change : Standing → Standing) (o : Option ℕ) → List Release
   releases_by change o =
       elim o as (λ _. List Release) [
         | None ↦ releases
-        | Some place ↦ changed (λ r. record r { standing = change r.standing }) place releases
+        | Some index ↦ changed (λ r. record r { standing = change r.standing }) index releases
       ]
 
   abbrev with_releases : List Release → Releases
@@ -184,27 +184,27 @@ module _ (handlers : List Handler) (releases : List Release) (has : HasPlaces ha
   unfolding releases_by
   restanding_nowhere change e = sym (restanding_by change None e)
 
-  pub restanding_past : (change : Standing → Standing) (place : ℕ) → place_kept handlers handler number ≡ Some place →
-      slice_get releases place ≡ None →
+  pub restanding_past : (change : Standing → Standing) (index : ℕ) → place_kept handlers handler number ≡ Some index →
+      slice_get releases index ≡ None →
       all_seen handlers releases ≡ restanding change handler number (all_seen handlers releases)
   unfolding releases_by
-  restanding_past change place e f =
-      sym (restanding_by change (Some place) e
+  restanding_past change index e f =
+      sym (restanding_by change (Some index) e
       ∙ ap (λ (o : Option Release). with_releases (elim o as (λ _. List Release) [
         | None ↦ releases
-        | Some r ↦ slice_set releases place (record r { standing = change r.standing })
+        | Some r ↦ slice_set releases index (record r { standing = change r.standing })
       ])) f)
 
-  pub restanding_at : (change : Standing → Standing) (place : ℕ) (r : Release) →
-      place_kept handlers handler number ≡ Some place → slice_get releases place ≡ Some r →
-      all_seen handlers (slice_set releases place (record r { standing = change r.standing }))
+  pub restanding_at : (change : Standing → Standing) (index : ℕ) (r : Release) →
+      place_kept handlers handler number ≡ Some index → slice_get releases index ≡ Some r →
+      all_seen handlers (slice_set releases index (record r { standing = change r.standing }))
       ≡ restanding change handler number (all_seen handlers releases)
   unfolding releases_by
-  restanding_at change place r e f =
-      sym (restanding_by change (Some place) e
+  restanding_at change index r e f =
+      sym (restanding_by change (Some index) e
       ∙ ap (λ (o : Option Release). with_releases (elim o as (λ _. List Release) [
         | None ↦ releases
-        | Some r ↦ slice_set releases place (record r { standing = change r.standing })
+        | Some r ↦ slice_set releases index (record r { standing = change r.standing })
       ])) f)
 
 -- ---- a change that depends on how the release stands
@@ -213,22 +213,22 @@ abbrev standings : Option Release → Option Standing
 standings o = option_map (λ (r : Release). r.standing) o
 
 abbrev set_if : List Release → ℕ → (Release → Standing) → Option Release → List Release
-set_if rs place to o =
-    elim o as (λ _. List Release) [ None ↦ rs | Some r ↦ slice_set rs place (record r { standing = to r }) ]
+set_if rs index to o =
+    elim o as (λ _. List Release) [ None ↦ rs | Some r ↦ slice_set rs index (record r { standing = to r }) ]
 
-changed_so : (change : Standing → Standing) (s : Standing) (place : ℕ) (rs : List Release) →
-    standings (slice_get rs place) ≡ Some s → changed (λ r. record r { standing = change s }) place rs
-    ≡ changed (λ r. record r { standing = change r.standing }) place rs
-changed_so change s place rs e = go (slice_get rs place) refl e
+changed_so : (change : Standing → Standing) (s : Standing) (index : ℕ) (rs : List Release) →
+    standings (slice_get rs index) ≡ Some s → changed (λ r. record r { standing = change s }) index rs
+    ≡ changed (λ r. record r { standing = change r.standing }) index rs
+changed_so change s index rs e = go (slice_get rs index) refl e
   where
-    go : (o : Option Release) → slice_get rs place ≡ o → standings o ≡ Some s →
-        set_if rs place (λ r. change s) (slice_get rs place) ≡ set_if rs place (λ r. change r.standing) (slice_get rs place)
+    go : (o : Option Release) → slice_get rs index ≡ o → standings o ≡ Some s →
+        set_if rs index (λ r. change s) (slice_get rs index) ≡ set_if rs index (λ r. change r.standing) (slice_get rs index)
     go None f g = absurd (cc (g))
     go (Some r) f g =
         let same : s ≡ r.standing = sym (some_inj r.standing s g) in
-        ap (set_if rs place (λ r. change s)) f
-        ∙ (ap (λ (t : Standing). slice_set rs place (record r { standing = change t })) same
-        ∙ sym (ap (set_if rs place (λ r. change r.standing)) f))
+        ap (set_if rs index (λ r. change s)) f
+        ∙ (ap (λ (t : Standing). slice_set rs index (record r { standing = change t })) same
+        ∙ sym (ap (set_if rs index (λ r. change r.standing)) f))
 
 abbrev changed_at : Releases → (Release → Standing) → Option ℕ → Releases
 changed_at all to o =

@@ -138,13 +138,13 @@ event_read nodes files (event.Print unit text value) form =
     ∙ reads_with unit (codes "print") (label nodes text ++ blank ∷ signed_decimal value) Print form.unit refl
     (long_print (label nodes text ++ blank ∷ signed_decimal value)
     ∙ print_read (label nodes text) value form.parts.0 form.parts.1)
-event_read nodes files (event.Fault unit fault place) form =
+event_read nodes files (event.Fault unit fault position) form =
     ap (λ (l : List ℕ). line_of (decimal unit ++ blank ∷ (codes "fault" ++ blank ∷ l)))
-    (placed (text_of fault) (file_name files place.file) (decimal place.line))
+    (placed (text_of fault) (file_name files position.file) (decimal position.line))
     ∙ reads_with unit (codes "fault")
-    (text_of fault ++ blank ∷ (file_name files place.file ++ colon ∷ decimal place.line)) Fault form.unit refl
-    (long_fault (text_of fault ++ blank ∷ (file_name files place.file ++ colon ∷ decimal place.line))
-    ∙ fault_read fault (file_name files place.file) place.line form.parts.0 form.parts.1 form.parts.2)
+    (text_of fault ++ blank ∷ (file_name files position.file ++ colon ∷ decimal position.line)) Fault form.unit refl
+    (long_fault (text_of fault ++ blank ∷ (file_name files position.file ++ colon ∷ decimal position.line))
+    ∙ fault_read fault (file_name files position.file) position.line form.parts.0 form.parts.1 form.parts.2)
 event_read nodes files (event.End unit handler n) form =
     reads_with unit (codes "end") (decimal handler ++ blank ∷ decimal n) (End handler n) form.unit refl
     (long_end (decimal handler ++ blank ∷ decimal n) ∙ named_release End handler n form.parts.0 form.parts.1)

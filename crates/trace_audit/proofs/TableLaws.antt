@@ -23,15 +23,15 @@ use Rattle.trace_audit.proofs.ArrivalLaws.{handlers_arrived, keys_arrived, place
 
 -- ---- a table
 
-pub indexed_restood : (handlers : List Handler) (releases : List Release) (keys more : List ℕ) (place : ℕ) (r : Release)
-    (s : Standing) → IsIndexed handlers releases keys → slice_get releases place ≡ Some r → IsHeap nat_cmp more →
-    HasMoreKeys keys more (rank_of (map handler_seen handlers) (record r { standing = s })) place →
-    IsIndexed handlers (slice_set releases place (record r { standing = s })) more
-indexed_restood handlers releases keys more place r s has there heap added =
+pub indexed_restood : (handlers : List Handler) (releases : List Release) (keys more : List ℕ) (index : ℕ) (r : Release)
+    (s : Standing) → IsIndexed handlers releases keys → slice_get releases index ≡ Some r → IsHeap nat_cmp more →
+    HasMoreKeys keys more (rank_of (map handler_seen handlers) (record r { standing = s })) index →
+    IsIndexed handlers (slice_set releases index (record r { standing = s })) more
+indexed_restood handlers releases keys more index r s has there heap added =
     record {
       ordered = heap;
-      keyed = keys_restood (map handler_seen handlers) releases keys more place r s has.keyed there added;
-      placed = places_restood handlers releases place r s has.placed there;
+      keyed = keys_restood (map handler_seen handlers) releases keys more index r s has.keyed there added;
+      placed = places_restood handlers releases index r s has.placed there;
     }
 
 pub indexed_registered : (handlers after : List Handler) (releases : List Release) (keys : List ℕ) (h : Handler) →
@@ -159,19 +159,19 @@ or_true : (a : Bool) → (a || true) ≡ true
 or_true true = refl
 or_true false = refl
 
-pub more_keys : (keys after : List ℕ) (rank place key : ℕ) (o : Option ℕ) → IsPermutation (key ∷ keys) after →
-    key ≡ key_of rank place → o ≡ Some rank → HasMoreKeys keys after o place
-more_keys keys after rank place key o moved is e =
+pub more_keys : (keys after : List ℕ) (rank index key : ℕ) (o : Option ℕ) → IsPermutation (key ∷ keys) after →
+    key ≡ key_of rank index → o ≡ Some rank → HasMoreKeys keys after o index
+more_keys keys after rank index key o moved is e =
     record {
       stay = λ k h.
           sym (list_any-IsPermutation (λ (n : ℕ). n == k) (key ∷ keys) after moved)
           ∙ (ap (λ (b : Bool). (key == k) || b) h ∙ or_true (key == k));
       new = λ n f.
           let same : rank ≡ n = some_inj rank n (sym e ∙ f) in
-          let k : key ≡ key_of n place = is ∙ ap (λ (m : ℕ). key_of m place) same in
-          let t : (key == key_of n place) ≡ true = grind (arith, nat_tests, k) in
-          sym (list_any-IsPermutation (λ (m : ℕ). m == key_of n place) (key ∷ keys) after moved)
-          ∙ ap (λ (b : Bool). b || is_among_keys (key_of n place) keys) t;
+          let k : key ≡ key_of n index = is ∙ ap (λ (m : ℕ). key_of m index) same in
+          let t : (key == key_of n index) ≡ true = grind (arith, nat_tests, k) in
+          sym (list_any-IsPermutation (λ (m : ℕ). m == key_of n index) (key ∷ keys) after moved)
+          ∙ ap (λ (b : Bool). b || is_among_keys (key_of n index) keys) t;
     }
 
 pub one_less : (n m : ℕ) → (n ≡ 0 → ⊥) → (n - 1 == m) ≡ (n == m + 1)

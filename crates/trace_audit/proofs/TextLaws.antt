@@ -126,15 +126,15 @@ words_no_feed nodes files (event.Print unit text value) form =
     (joined (codes " print " ++ label nodes text) (codes " ")
     (joined (codes " print ") (label nodes text) refl (text_no_feed (label nodes text) form.parts.0)) refl)
     (no_feed_in_value value form.parts.1)
-words_no_feed nodes files (event.Fault unit fault place) form =
-    joined ((((codes " fault " ++ text_of fault) ++ codes " ") ++ file_name files place.file) ++ codes ":")
-    (decimal place.line)
-    (joined (((codes " fault " ++ text_of fault) ++ codes " ") ++ file_name files place.file) (codes ":")
-    (joined ((codes " fault " ++ text_of fault) ++ codes " ") (file_name files place.file)
+words_no_feed nodes files (event.Fault unit fault position) form =
+    joined ((((codes " fault " ++ text_of fault) ++ codes " ") ++ file_name files position.file) ++ codes ":")
+    (decimal position.line)
+    (joined (((codes " fault " ++ text_of fault) ++ codes " ") ++ file_name files position.file) (codes ":")
+    (joined ((codes " fault " ++ text_of fault) ++ codes " ") (file_name files position.file)
     (joined (codes " fault " ++ text_of fault) (codes " ")
     (joined (codes " fault ") (text_of fault) refl (fault_no_feed fault)) refl)
-    (file_no_feed (file_name files place.file) form.parts.0)) refl)
-    (decimal_no_feed place.line form.parts.2)
+    (file_no_feed (file_name files position.file) form.parts.0)) refl)
+    (decimal_no_feed position.line form.parts.2)
 words_no_feed nodes files (event.End unit handler n) form =
     two_numbers (codes " end") handler n refl (handler_small handler form.parts.0.1) form.parts.1
 words_no_feed nodes files (event.Terminate unit) form = refl

@@ -34,26 +34,26 @@ unfolding weight
 urgent_is later c = urgent_by_weight later.priority c.priority later.is_started c.is_started
 
 -- a candidate of a release has its place and its rank; a release without one has no rank
-pub record Stands (handlers : List HandlerSeen) (place : ℕ) (r : Release) (c : Candidate) : Type 0 where
-  pub at : c.place ≡ place
+pub record Stands (handlers : List HandlerSeen) (index : ℕ) (r : Release) (c : Candidate) : Type 0 where
+  pub at : c.index ≡ index
   pub rank : rank_of handlers r ≡ Some (weight c)
 
-pub data IsCandidate (handlers : List HandlerSeen) (place : ℕ) (r : Release) (o : Option Candidate) : Type 0 where
-  one : (c : Candidate) → o ≡ Some c → Stands handlers place r c → IsCandidate handlers place r o
-  no_one : o ≡ None → rank_of handlers r ≡ None → IsCandidate handlers place r o
+pub data IsCandidate (handlers : List HandlerSeen) (index : ℕ) (r : Release) (o : Option Candidate) : Type 0 where
+  one : (c : Candidate) → o ≡ Some c → Stands handlers index r c → IsCandidate handlers index r o
+  no_one : o ≡ None → rank_of handlers r ≡ None → IsCandidate handlers index r o
 
-pub candidate_cases : (handlers : List HandlerSeen) (place : ℕ) (r : Release) →
-    IsCandidate handlers place r (candidate_at handlers place r)
+pub candidate_cases : (handlers : List HandlerSeen) (index : ℕ) (r : Release) →
+    IsCandidate handlers index r (candidate_at handlers index r)
 unfolding weight weight_of
-candidate_cases handlers place r = go r.standing refl
+candidate_cases handlers index r = go r.standing refl
   where
-    go : (s : Standing) → r.standing ≡ s → IsCandidate handlers place r (candidate_at handlers place r)
+    go : (s : Standing) → r.standing ≡ s → IsCandidate handlers index r (candidate_at handlers index r)
     go Waits e =
         let c : Candidate =
-        record { place = place; priority = priority_at handlers r.handler; is_started = false } in
+        record { index = index; priority = priority_at handlers r.handler; is_started = false } in
         one c (rw e refl) (record { at = refl; rank = rw e refl })
     go (Started p) e =
-        let c : Candidate = record { place = place; priority = p; is_started = true } in
+        let c : Candidate = record { index = index; priority = p; is_started = true } in
         one c (rw e refl) (record { at = refl; rank = rw e refl })
     go Gone e = no_one (rw e refl) (rw e refl)
 
@@ -96,15 +96,15 @@ best_of o c =
 
 -- the most urgent one is the candidate of some release
 pub record IsOf (handlers : List HandlerSeen) (rs : List Release) (c : Candidate) : Type 0 where
-  pub place : ℕ
+  pub index : ℕ
   pub release : Release
-  pub there : slice_get rs place ≡ Some release
+  pub there : slice_get rs index ≡ Some release
   pub rank : rank_of handlers release ≡ Some (weight c)
 
 pub behind : (handlers : List HandlerSeen) (r : Release) (rs : List Release) (c : Candidate) → IsOf handlers rs c →
     IsOf handlers (r ∷ rs) c
 behind handlers r rs c h =
-    record { place = suc h.place; release = h.release; there = h.there; rank = h.rank }
+    record { index = suc h.index; release = h.release; there = h.there; rank = h.rank }
 
 pub nobody : (handlers : List HandlerSeen) (base : ℕ) (c : Candidate) →
     most_urgent (candidates_from handlers base []) ≡ Some c → ⊥
@@ -121,7 +121,7 @@ is_of_first handlers base r rs c more e = by_first (candidate_cases handlers bas
     by_more d stands None f g =
         let same : d ≡ c = some_inj d c g in
         subst (λ (x : Candidate). IsOf handlers (r ∷ rs) x) same
-        (record { place = 0; release = r; there = refl; rank = stands.rank })
+        (record { index = 0; release = r; there = refl; rank = stands.rank })
     by_more d stands (Some later) f g = by_test (is_more_urgent later d) refl
       where
         by_test : (b : Bool) → is_more_urgent later d ≡ b → IsOf handlers (r ∷ rs) c
@@ -132,7 +132,7 @@ is_of_first handlers base r rs c more e = by_first (candidate_cases handlers bas
         by_test false t =
             let same : d ≡ c = some_inj d c (sym (ap (λ (b : Bool). Some (if b then later else d)) t) ∙ g) in
             subst (λ (x : Candidate). IsOf handlers (r ∷ rs) x) same
-            (record { place = 0; release = r; there = refl; rank = stands.rank })
+            (record { index = 0; release = r; there = refl; rank = stands.rank })
 
     by_first : IsCandidate handlers base r (candidate_at handlers base r) → IsOf handlers (r ∷ rs) c
     by_first (one d f stands) =
@@ -147,10 +147,10 @@ is_of_some handlers base [] c e = absurd (nobody handlers base c e)
 is_of_some handlers base (r ∷ rs) c e =
     is_of_first handlers base r rs c (λ d f. is_of_some handlers (base + 1) rs d f) e
 
-pub record Found (o : Option Candidate) (place rank : ℕ) : Type 0 where
+pub record Found (o : Option Candidate) (index rank : ℕ) : Type 0 where
   pub candidate : Candidate
   pub is : o ≡ Some candidate
-  pub at : candidate.place ≡ place
+  pub at : candidate.index ≡ index
   pub ranked : weight candidate ≡ rank
 
 pub first_is_picked : (handlers : List HandlerSeen) (base : ℕ) (r0 : Release) (rs : List Release) (rank : ℕ) (r : Release) →
@@ -177,8 +177,8 @@ first_is_picked handlers base r0 rs rank r there ranked best = by_first (candida
     by_more d f stands (Some later) g =
         let of : IsOf handlers rs later = is_of_some handlers (base + 1) rs later g in
         let w : weight d ≡ rank = some_inj _ _ (sym stands.rank ∙ first_rank) in
-        let bound : (weight later < rank) ⊎ ((weight later ≡ rank) × (0 ≤ suc of.place)) =
-        best.is (suc of.place) (weight later) of.release of.there of.rank in
+        let bound : (weight later < rank) ⊎ ((weight later ≡ rank) × (0 ≤ suc of.index)) =
+        best.is (suc of.index) (weight later) of.release of.there of.rank in
         let no_more : is_more_urgent later d ≡ false = urgent_is later d ∙ less w bound in
         record {
           candidate = d;
@@ -189,7 +189,7 @@ first_is_picked handlers base r0 rs rank r there ranked best = by_first (candida
           ranked = w;
         }
       where
-        less : weight d ≡ rank → (weight later < rank) ⊎ ((weight later ≡ rank) × (0 ≤ suc (is_of_some handlers (base + 1) rs later g).place)) →
+        less : weight d ≡ rank → (weight later < rank) ⊎ ((weight later ≡ rank) × (0 ≤ suc (is_of_some handlers (base + 1) rs later g).index)) →
             nat_lt (weight d) (weight later) ≡ false
         less w (inl b) = grind (arith, nat_tests, w, b)
         less w (inr b) = let e = b.0 in grind (arith, nat_tests, w, e)
@@ -214,7 +214,7 @@ pub later_is_picked : (handlers : List HandlerSeen) (base : ℕ) (r0 : Release) 
     Found (most_urgent (candidates_from handlers base (r0 ∷ rs))) (base + suc p) rank
 later_is_picked handlers base r0 rs p rank best more = by_first (candidate_cases handlers base r0)
   where
-    at_place : more.candidate.place ≡ base + suc p
+    at_place : more.candidate.index ≡ base + suc p
     at_place = let e = more.at in omega (arith, e)
 
     by_first : IsCandidate handlers base r0 (candidate_at handlers base r0) →

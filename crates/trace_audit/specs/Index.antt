@@ -36,7 +36,7 @@ rank_of handlers r =
 
 -- the key of a candidate: of equal ranks the earlier place has the greater one
 abbrev pub key_of : ℕ → ℕ → ℕ
-key_of rank place = rank * places_end + (4294967295 - place)
+key_of rank index = rank * places_end + (4294967295 - index)
 
 abbrev pub rank_in : ℕ → ℕ
 rank_in key = key / places_end
@@ -59,13 +59,13 @@ is_among_keys key keys = list_any (λ k. k == key) keys
 -- each candidate has its key in the heap; others may stand there, too
 pub record HasKeys (all : Releases) (keys : List ℕ) : Type 0 where
   pub few : length all.releases ≤ places_end
-  pub is : (place rank : ℕ) (r : Release) → slice_get all.releases place ≡ Some r →
-      rank_of all.handlers r ≡ Some rank → is_among_keys (key_of rank place) keys ≡ true
+  pub is : (index rank : ℕ) (r : Release) → slice_get all.releases index ≡ Some r →
+      rank_of all.handlers r ≡ Some rank → is_among_keys (key_of rank index) keys ≡ true
 
 -- the keys are those of before, and that of a candidate of the rank, if there is one
-pub record HasMoreKeys (keys after : List ℕ) (rank : Option ℕ) (place : ℕ) : Type 0 where
+pub record HasMoreKeys (keys after : List ℕ) (rank : Option ℕ) (index : ℕ) : Type 0 where
   pub stay : (key : ℕ) → is_among_keys key keys ≡ true → is_among_keys key after ≡ true
-  pub new : (n : ℕ) → rank ≡ Some n → is_among_keys (key_of n place) after ≡ true
+  pub new : (n : ℕ) → rank ≡ Some n → is_among_keys (key_of n index) after ≡ true
 
 -- ---- places of handlers
 
@@ -76,18 +76,18 @@ place_kept handlers (suc k) zero = None
 place_kept handlers (suc k) (suc i) = slice_get handlers k >>= (λ h. slice_get h.places.items i)
 
 pub record HasPlaces (handlers : List Handler) (releases : List Release) : Type 0 where
-  pub kept : (place : ℕ) (r : Release) → slice_get releases place ≡ Some r →
-      place_kept handlers r.handler r.number ≡ Some place
-  pub right : (handler number place : ℕ) → place_kept handlers handler number ≡ Some place →
-      holds (slice_get releases place) (is_named handler number) ≡ true
+  pub kept : (index : ℕ) (r : Release) → slice_get releases index ≡ Some r →
+      place_kept handlers r.handler r.number ≡ Some index
+  pub right : (handler number index : ℕ) → place_kept handlers handler number ≡ Some index →
+      holds (slice_get releases index) (is_named handler number) ≡ true
 
 -- a handler has one more place, behind its others
-pub record HasPlaceAdded (handlers after : List Handler) (k place : ℕ) : Type 0 where
+pub record HasPlaceAdded (handlers after : List Handler) (k index : ℕ) : Type 0 where
   pub row : Handler
   pub new : Handler
   pub there : slice_get handlers k ≡ Some row
   pub same_priority : new.priority ≡ row.priority
-  pub pushed : new.places.items ≡ row.places.items ++ place ∷ []
+  pub pushed : new.places.items ≡ row.places.items ++ index ∷ []
   pub are : after ≡ slice_set handlers k new
 
 -- the heap is one, and both hold

@@ -29,7 +29,7 @@ entry_told (event.Run unit handler number) = Run handler number
 entry_told (event.Idle unit) = Idle
 entry_told (event.Prio unit handler priority) = Prio handler priority
 entry_told (event.Print unit text value) = Print
-entry_told (event.Fault unit fault place) = Fault
+entry_told (event.Fault unit fault position) = Fault
 entry_told (event.End unit handler number) = End handler number
 entry_told (event.Terminate unit) = Terminate
 entry_told (event.Drop unit handler number) = Drop handler number
@@ -67,8 +67,8 @@ HasParts nodes files (event.Run unit handler number) = IsHandlerNumber handler �
 HasParts nodes files (event.Prio unit handler priority) = IsHandlerNumber handler × IsPriorityNumber priority
 HasParts nodes files (event.Print unit text value) =
     (list_all is_text_byte (label nodes text) ≡ true) × Has32Bits value
-HasParts nodes files (event.Fault unit fault place) =
-    (is_file_name (file_name files place.file) ≡ true) × (1 ≤ place.line) × Has64Bits place.line
+HasParts nodes files (event.Fault unit fault position) =
+    (is_file_name (file_name files position.file) ≡ true) × (1 ≤ position.line) × Has64Bits position.line
 HasParts nodes files (event.End unit handler number) = IsHandlerNumber handler × Has64Bits number
 HasParts nodes files (event.Drop unit handler number) = IsHandlerNumber handler × Has64Bits number
 HasParts nodes files e = Unit {0}

@@ -31,28 +31,28 @@ priority_at handlers handler = elim (handler_at handlers handler) [ None ↦ 0 |
 
 -- a release as a candidate of the choice; one that has ended or was dropped is none
 abbrev pub candidate_at : List HandlerSeen → ℕ → Release → Option Candidate
-candidate_at handlers place r =
+candidate_at handlers index r =
     elim r.standing [
-      | Waits ↦ Some (record { place = place; priority = priority_at handlers r.handler; is_started = false })
-      | Started priority ↦ Some (record { place = place; priority = priority; is_started = true })
+      | Waits ↦ Some (record { index = index; priority = priority_at handlers r.handler; is_started = false })
+      | Started priority ↦ Some (record { index = index; priority = priority; is_started = true })
       | Gone ↦ None
     ]
 
 unfoldable pub candidates_from : List HandlerSeen → ℕ → List Release → List Candidate
-candidates_from handlers place [] = []
-candidates_from handlers place (r ∷ rs) =
-    option_to_list (candidate_at handlers place r) ++ candidates_from handlers (place + 1) rs
+candidates_from handlers index [] = []
+candidates_from handlers index (r ∷ rs) =
+    option_to_list (candidate_at handlers index r) ++ candidates_from handlers (index + 1) rs
 
 -- the place of the most urgent release
 unfoldable pub picked_place : Releases → Option ℕ
 picked_place all =
-    option_map (λ (c : Candidate). c.place) (most_urgent (candidates_from all.handlers 0 all.releases))
+    option_map (λ (c : Candidate). c.index) (most_urgent (candidates_from all.handlers 0 all.releases))
 
 -- the choice of the release at a place, and of nobody
 abbrev pub choice_at : List Release → Option ℕ → Choice
 choice_at releases None = Idle
-choice_at releases (Some place) =
-    elim (slice_get releases place) [ None ↦ Idle | Some r ↦ Chosen r.handler r.number ]
+choice_at releases (Some index) =
+    elim (slice_get releases index) [ None ↦ Idle | Some r ↦ Chosen r.handler r.number ]
 
 -- Pick
 abbrev pub picked : Releases → Choice
@@ -73,7 +73,7 @@ place_of releases handler number = position (is_named handler number) releases
 
 abbrev pub release_named : List Release → ℕ → ℕ → Option Release
 release_named releases handler number =
-    elim (place_of releases handler number) [ None ↦ None | Some place ↦ slice_get releases place ]
+    elim (place_of releases handler number) [ None ↦ None | Some index ↦ slice_get releases index ]
 
 abbrev pub is_waiting : Release → Bool
 is_waiting r = elim r.standing [ Waits ↦ true | Started priority ↦ false | Gone ↦ false ]
@@ -84,7 +84,7 @@ restanding change handler number all =
     record all {
       releases = elim (place_of all.releases handler number) [
         | None ↦ all.releases
-        | Some place ↦ changed (λ r. record r { standing = change r.standing }) place all.releases
+        | Some index ↦ changed (λ r. record r { standing = change r.standing }) index all.releases
       ];
     }
 

@@ -24,5 +24,5 @@ pub record StandsFor (s : State) (all : Releases) : Type 0 where
       ≡ map (λ (h : HandlerSeen). h.priority) all.handlers
   pub releases : map release_seen (drop s.earlier_releases s.releases) ≡ all.releases
   pub within : s.earlier_releases ≤ length s.releases
-  pub earlier : (place : ℕ) (r : ReleaseNow) → slice_get s.releases place ≡ Some r → place < s.earlier_releases →
-      candidate s place r ≡ None
+  pub earlier : (index : ℕ) (r : ReleaseNow) → slice_get s.releases index ≡ Some r → index < s.earlier_releases →
+      candidate s index r ≡ None

@@ -121,8 +121,8 @@ fn is_place(bytes: &[u8]) -> bool
 pub fn fault_of(bytes: &[u8]) -> Option<Entry>
     ensures { result ≡ fault_of bytes.now }
 {
-    let (name, place) = parted(b' ', bytes)?;
-    if is_fault_name(name) && is_place(place) {
+    let (name, position) = parted(b' ', bytes)?;
+    if is_fault_name(name) && is_place(position) {
         Some(Entry::Fault)
     } else {
         None

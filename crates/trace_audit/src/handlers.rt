@@ -13,17 +13,17 @@ pub struct Handler {
 }
 
 /// The handler at a place, if there is one.
-pub fn handler_row(handlers: &[Handler], place: usize) -> Option<&Handler>
-    ensures { option_copied result ≡ slice_get handlers.now place }
+pub fn handler_row(handlers: &[Handler], index: usize) -> Option<&Handler>
+    ensures { option_copied result ≡ slice_get handlers.now index }
 {
-    handlers.get(place)
+    handlers.get(index)
 }
 
 /// Adds the place of one more release of a handler.
-pub fn add_place(handlers: &mut Vec<Handler>, handler: usize, place: u32) -> Result<(), AllocError>
+pub fn add_place(handlers: &mut Vec<Handler>, handler: usize, index: u32) -> Result<(), AllocError>
     requires { handler < length handlers.old.items }
-    ensures { OnOk result (HasPlaceAdded handlers.old.items handlers.new.items handler place) }
+    ensures { OnOk result (HasPlaceAdded handlers.old.items handlers.new.items handler index) }
 {
-    handlers[handler].places.push(place)?;
+    handlers[handler].places.push(index)?;
     Ok(())
 }

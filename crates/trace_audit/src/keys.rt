@@ -17,8 +17,8 @@ pub fn priority_of(handlers: &[Handler], handler: u8) -> u8
     if handler == 0 {
         return 0;
     }
-    let place = handler as usize - 1;
-    match handler_row(handlers, place) {
+    let index = handler as usize - 1;
+    match handler_row(handlers, index) {
         Some(row) => row.priority,
         None => 0,
     }
@@ -37,20 +37,20 @@ pub fn rank_of(handlers: &[Handler], release: Release) -> Option<u64>
 }
 
 /// The key of a candidate.
-pub fn key_of(rank: u64, place: usize) -> u64
+pub fn key_of(rank: u64, index: usize) -> u64
     requires rank { rank ≤ 511 }
-    requires place { place < places_end }
-    ensures { result ≡ key_of rank place }
+    requires place { index < places_end }
+    ensures { result ≡ key_of rank index }
 {
-    rank * 4_294_967_296 + (4_294_967_295 - place as u64)
+    rank * 4_294_967_296 + (4_294_967_295 - index as u64)
 }
 
 /// Whether the key is that of a candidate now; others are left from before.
 fn is_current(handlers: &[Handler], releases: &[Release], key: u64) -> bool
     ensures { result ≡ current (all_seen handlers.now releases.now) key }
 {
-    let place = 4_294_967_295 - key % 4_294_967_296;
-    match releases.get(place as usize) {
+    let index = 4_294_967_295 - key % 4_294_967_296;
+    match releases.get(index as usize) {
         Some(release) => rank_of(handlers, *release) == Some(key / 4_294_967_296),
         None => false,
     }

@@ -16,15 +16,15 @@ pub fn place_of(handlers: &[Handler], handler: u8, number: u64) -> Option<usize>
         return None;
     }
     let row = handlers.get(handler as usize - 1)?;
-    let place = row.places.get(number as usize - 1)?;
-    Some(*place as usize)
+    let index = row.places.get(number as usize - 1)?;
+    Some(*index as usize)
 }
 
 /// The release at a place, if there is one.
-pub fn release_at(releases: &[Release], place: usize) -> Option<Release>
-    ensures { result ≡ slice_get releases.now place }
+pub fn release_at(releases: &[Release], index: usize) -> Option<Release>
+    ensures { result ≡ slice_get releases.now index }
 {
-    releases.get(place).copied()
+    releases.get(index).copied()
 }
 
 /// How a release of a name stands.
@@ -38,10 +38,10 @@ pub fn standing_of(
     requires placed { HasPlaces handlers.now releases.now }
     ensures { result ≡ standing_named (all_seen handlers.now releases.now) handler number }
 {
-    let Some(place) = place_of(handlers, handler, number) else {
+    let Some(index) = place_of(handlers, handler, number) else {
         return None;
     };
-    match release_at(releases, place) {
+    match release_at(releases, index) {
         Some(release) => Some(release.standing),
         None => None,
     }
@@ -54,18 +54,18 @@ pub fn is_next(handlers: &[Handler], handler: u8, number: u64) -> bool
     if handler == 0 {
         return false;
     }
-    let place = handler as usize - 1;
-    match handler_row(handlers, place) {
+    let index = handler as usize - 1;
+    match handler_row(handlers, index) {
         Some(row) => number != 0 && number - 1 == row.places.len() as u64,
         None => false,
     }
 }
 
 /// The choice of the release at a place.
-pub fn choice_of(releases: &[Release], place: usize) -> Choice
-    ensures { result ≡ choice_at releases.now (Some place) }
+pub fn choice_of(releases: &[Release], index: usize) -> Choice
+    ensures { result ≡ choice_at releases.now (Some index) }
 {
-    match releases.get(place) {
+    match releases.get(index) {
         Some(release) => Choice::Chosen {
             handler: release.handler,
             number: release.number as u64,

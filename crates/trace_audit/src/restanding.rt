@@ -17,16 +17,16 @@ use std::collections::BinaryHeap;
 pub fn add_key(
     handlers: &[Handler],
     release: Release,
-    place: usize,
+    index: usize,
     keys: &mut BinaryHeap<u64>,
 ) -> Result<(), AllocError>
-    requires place { place < places_end }
+    requires place { index < places_end }
     requires heap { IsHeap nat_cmp (heap_items keys.old) }
     ensures heap { OnOk result (IsHeap nat_cmp (heap_items keys.new)) }
-    ensures keys { OnOk result (HasMoreKeys (heap_items keys.old) (heap_items keys.new) (rank_of (map handler_seen handlers.now) release) place) }
+    ensures keys { OnOk result (HasMoreKeys (heap_items keys.old) (heap_items keys.new) (rank_of (map handler_seen handlers.now) release) index) }
 {
     if let Some(rank) = rank_of(handlers, release) {
-        keys.push(key_of(rank, place))?;
+        keys.push(key_of(rank, index))?;
     }
     Ok(())
 }
@@ -44,18 +44,18 @@ pub fn restand(
     ensures seen { OnOk result (all_seen handlers.now releases.new.items ≡ restanding (λ s. standing) handler number (all_seen handlers.now releases.old.items)) }
     ensures kept { OnOk result (IsIndexed handlers.now releases.new.items (heap_items keys.new)) }
 {
-    let Some(place) = place_of(handlers, handler, number) else {
+    let Some(index) = place_of(handlers, handler, number) else {
         return Ok(());
     };
-    let Some(release) = release_at(releases.as_slice(), place) else {
+    let Some(release) = release_at(releases.as_slice(), index) else {
         return Ok(());
     };
     let after = Release {
         standing,
         ..release
     };
-    add_key(handlers, after, place, keys)?;
-    releases[place] = after;
+    add_key(handlers, after, index, keys)?;
+    releases[index] = after;
     Ok(())
 }
 

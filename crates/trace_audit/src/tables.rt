@@ -104,14 +104,14 @@ impl ReleaseTable {
         ensures seen { seen self.new ≡ seen self.old }
         ensures kept { IsKept self.new }
     {
-        let place = pick(
+        let index = pick(
             self.handlers.as_slice(),
             self.releases.as_slice(),
             &mut self.keys,
         );
-        match place {
+        match index {
             None => Choice::Idle,
-            Some(place) => choice_of(self.releases.as_slice(), place),
+            Some(index) => choice_of(self.releases.as_slice(), index),
         }
     }
 
@@ -133,8 +133,8 @@ impl ReleaseTable {
         ensures seen { OnOk result (seen self.new ≡ arrived handler number (seen self.old)) }
         ensures kept { OnOk result (IsKept self.new) }
     {
-        let place = self.releases.len();
-        if place >= PLACES_END || number >= PLACES_END as u64 {
+        let index = self.releases.len();
+        if index >= PLACES_END || number >= PLACES_END as u64 {
             return Err(AllocError);
         }
         let release = Release {
@@ -142,8 +142,8 @@ impl ReleaseTable {
             number: number as u32,
             standing: Standing::Waits,
         };
-        add_key(self.handlers.as_slice(), release, place, &mut self.keys)?;
-        add_place(&mut self.handlers, handler as usize - 1, place as u32)?;
+        add_key(self.handlers.as_slice(), release, index, &mut self.keys)?;
+        add_place(&mut self.handlers, handler as usize - 1, index as u32)?;
         self.releases.push(release)?;
         Ok(())
     }

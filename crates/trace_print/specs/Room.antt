@@ -24,5 +24,5 @@ room_for nodes files = 256 + longest_text nodes + longest_name files
 
 -- a fault stands in one of the files
 abbrev pub StandsInFile : List (List ℕ) → Event → Type 0
-StandsInFile files (Fault unit fault place) = place.file < length files
+StandsInFile files (Fault unit fault position) = position.file < length files
 StandsInFile files _ = Unit {0}

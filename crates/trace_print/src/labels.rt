@@ -24,8 +24,8 @@ pub fn text_room(program: &Program) -> usize
     ensures { result ≡ longest_text program.now.nodes }
 {
     let mut longest = 0;
-    for place in 0..program.len() {
-        longest = label_at(program, NodeId::at(place as u32))
+    for number in 0..program.len() {
+        longest = label_at(program, NodeId::at(number as u32))
             .len()
             .max(longest);
     }

@@ -23,18 +23,18 @@ type_of_kind _ = None
 
 -- classes, their members, and what else may break two rules
 unfoldable pub is_declaration : Node → Bool
-is_declaration (Class place name flags header members) = true
-is_declaration (Field place name flags declared_type equals value) = true
-is_declaration (Method place name flags result_type parameters body) = true
-is_declaration (LocalWithValue place name_place name flags declared_type value) = true
-is_declaration (SuperCall place arguments) = true
+is_declaration (Class position name flags header members) = true
+is_declaration (Field position name flags declared_type equals value) = true
+is_declaration (Method position name flags result_type parameters body) = true
+is_declaration (LocalWithValue position name_place name flags declared_type value) = true
+is_declaration (SuperCall position arguments) = true
 is_declaration _ = false
 
 -- expressions that are seldom written
 unfoldable pub is_seldom : Node → Bool
-is_seldom (Cast place name_place name operand) = true
-is_seldom (Parenthesized place inner) = true
-is_seldom (New place name_place name arguments) = true
-is_seldom (NewArray place element length) = true
-is_seldom (This place) = true
+is_seldom (Cast position name_place name operand) = true
+is_seldom (Parenthesized position inner) = true
+is_seldom (New position name_place name arguments) = true
+is_seldom (NewArray position element length) = true
+is_seldom (This position) = true
 is_seldom _ = false

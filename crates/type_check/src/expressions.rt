@@ -24,7 +24,7 @@ use type_words::{element_type, is_no_reference, unary_type};
 pub fn judge_binary(
     found: &mut Vec<Found>,
     at: &At<'_>,
-    place: Pos,
+    position: Pos,
     operator: u8,
     left: NodeId,
     right: NodeId,
@@ -32,13 +32,13 @@ pub fn judge_binary(
     ensures type_of { IfOk result (λ t. t ≡ option_and_then (λ a. option_and_then
         (binary_type (declared at.now).classes operator a) (types at.now right)) (types at.now left)) }
     ensures found { OnOk result (found.new.items ≡ found.old.items
-        ++ broken (misfits_operands (declared at.now) (types at.now) operator left right) T3 place) }
+        ++ broken (misfits_operands (declared at.now) (types at.now) operator left right) T3 position) }
 {
     let (Some(a), Some(b)) = (at.type_of(left), at.type_of(right)) else {
         return Ok(None);
     };
     let t = binary_type(at.facts, operator, &a, &b);
-    report_if(found, t.is_none(), Rule::T3, place)?;
+    report_if(found, t.is_none(), Rule::T3, position)?;
     Ok(t)
 }
 
@@ -46,19 +46,19 @@ pub fn judge_binary(
 pub fn judge_unary(
     found: &mut Vec<Found>,
     at: &At<'_>,
-    place: Pos,
+    position: Pos,
     operator: u8,
     operand: NodeId,
 ) -> Result<Option<Ty>, Memory>
     ensures type_of { IfOk result (λ t. t ≡ option_and_then (unary_type operator) (types at.now operand)) }
     ensures found { OnOk result (found.new.items ≡ found.old.items
-        ++ broken (misfits_operand (types at.now) operator operand) T3 place) }
+        ++ broken (misfits_operand (types at.now) operator operand) T3 position) }
 {
     let Some(a) = at.type_of(operand) else {
         return Ok(None);
     };
     let t = unary_type(operator, &a);
-    report_if(found, t.is_none(), Rule::T3, place)?;
+    report_if(found, t.is_none(), Rule::T3, position)?;
     Ok(t)
 }
 
@@ -66,19 +66,19 @@ pub fn judge_unary(
 pub fn judge_element(
     found: &mut Vec<Found>,
     at: &At<'_>,
-    place: Pos,
+    position: Pos,
     array: NodeId,
     index: NodeId,
 ) -> Result<Option<Ty>, Memory>
     ensures type_of { IfOk result (λ t. t ≡ option_and_then
         (λ a. option_and_then (λ i. element_type a) (types at.now index)) (types at.now array)) }
     ensures found { OnOk result (found.new.items ≡ found.old.items
-        ++ broken (misfits_index (types at.now) array index) T3 place) }
+        ++ broken (misfits_index (types at.now) array index) T3 position) }
 {
     let (Some(a), Some(_i)) = (at.type_of(array), at.type_of(index)) else {
         return Ok(None);
     };
-    report_if(found, misfits_index(at, array, index), Rule::T3, place)?;
+    report_if(found, misfits_index(at, array, index), Rule::T3, position)?;
     Ok(element_type(&a))
 }
 
@@ -89,22 +89,22 @@ pub fn judge_name(
     found: &mut Vec<Found>,
     at: &At<'_>,
     rows: &mut Vec<NodeMeaning>,
-    place: Pos,
+    position: Pos,
     name: &Name,
 ) -> Result<Option<Ty>, Memory>
-    requires there { slice_get at.now.facts.now.nodes at.now.id ≡ Some (a_name place name.now) }
+    requires there { slice_get at.now.facts.now.nodes at.now.id ≡ Some (a_name position name.now) }
     requires rows { AreMeanings at.now.facts.now rows.old.items }
     ensures type_of { IfOk result (λ t. t ≡ type_of_meaning (declared at.now)
         (meaning (declared at.now) at.now.id name.now)) }
-    ensures found { let node = a_name place name.now in OnOk result (found.new.items ≡ found.old.items
+    ensures found { let node = a_name position name.now in OnOk result (found.new.items ≡ found.old.items
         ++ (t1 (declared at.now) (types at.now) at.now.id node ++ t13 (declared at.now) (types at.now) at.now.id node)) }
     ensures rows { OnOk result (AreMeanings at.now.facts.now rows.new.items) }
 {
     let meaning = meaning(at.facts, at.id, name);
     keep(rows, at.id, NodeMeaning::Name(meaning));
-    report_if(found, denotes_no_declaration(&meaning), Rule::T1, place)?;
+    report_if(found, denotes_no_declaration(&meaning), Rule::T1, position)?;
     let is_apart = is_instance_field(at.facts.program(), &meaning) && !at.facts.has_object(at.id);
-    report_if(found, is_apart, Rule::T13, place)?;
+    report_if(found, is_apart, Rule::T13, position)?;
     Ok(type_of_meaning(at.facts, &meaning))
 }
 
@@ -114,14 +114,14 @@ pub fn judge_name(
 pub fn judge_access(
     found: &mut Vec<Found>,
     at: &At<'_>,
-    place: Pos,
+    position: Pos,
     name: &Name,
     object: NodeId,
 ) -> Result<(Option<Ty>, NodeMeaning), Memory>
-    requires { slice_get at.now.facts.now.nodes at.now.id ≡ Some (an_access place name.now object) }
+    requires { slice_get at.now.facts.now.nodes at.now.id ≡ Some (an_access position name.now object) }
     ensures type_of { IfOk result (λ r. r.0 ≡ type_of (declared at.now) (types at.now) at.now.id
-        (an_access place name.now object)) }
-    ensures found { let node = an_access place name.now object in OnOk result (found.new.items ≡ found.old.items
+        (an_access position name.now object)) }
+    ensures found { let node = an_access position name.now object in OnOk result (found.new.items ≡ found.old.items
         ++ (t3 (declared at.now) (types at.now) at.now.id node ++ (t4 (declared at.now) (types at.now) at.now.id node
         ++ t13 (declared at.now) (types at.now) at.now.id node))) }
     ensures row { IfOk result (λ r. IsMeaningAt at.now.facts.now at.now.id r.1) }
@@ -131,10 +131,10 @@ pub fn judge_access(
     };
     let row = field_row(at, &r, name);
     let field = field_in(&row);
-    report_if(found, is_no_reference(&r), Rule::T3, place)?;
+    report_if(found, is_no_reference(&r), Rule::T3, position)?;
     let lacks = lacks_field(at.facts, &r, name, &field);
-    report_if(found, lacks, Rule::T4, place)?;
+    report_if(found, lacks, Rule::T4, position)?;
     let is_apart = lacks_object_of_field(at, &r, &field);
-    report_if(found, is_apart, Rule::T13, place)?;
+    report_if(found, is_apart, Rule::T13, position)?;
     Ok((access_type(at.facts, &r, name, &field), row))
 }

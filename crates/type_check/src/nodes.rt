@@ -41,9 +41,9 @@ pub fn judge(
     ensures rows { OnOk result (AreMeanings at.now.facts.now rows.new.items) }
 {
     match node {
-        Node::Parameter { place, name, .. } | Node::Local { place, name, .. } => {
+        Node::Parameter { position, name, .. } | Node::Local { position, name, .. } => {
             let is_twice = at.facts.variable_named(at.id, name.get()).is_some();
-            report_if(found, is_twice, Rule::T2, *place)?;
+            report_if(found, is_twice, Rule::T2, *position)?;
             Ok(None)
         }
         Node::Class { .. }
@@ -52,12 +52,12 @@ pub fn judge(
         | Node::LocalWithValue { .. }
         | Node::SuperCall { .. } => judge_declaration(found, at, returns, node),
         Node::Assign {
-            place,
+            position,
             target,
             value,
         } => {
             let misfits = misfits_assignment(at, *target, *value);
-            report_if(found, misfits, Rule::T7, *place)?;
+            report_if(found, misfits, Rule::T7, *position)?;
             Ok(None)
         }
         Node::If { condition, .. } | Node::While { condition, .. } | Node::For { condition, .. } =>
@@ -65,34 +65,34 @@ pub fn judge(
                 note_condition(found, at, *condition)?;
                 Ok(None)
             }
-        Node::Return { place, value } => match value {
+        Node::Return { position, value } => match value {
             Some(value) => {
-                report_if(found, misfits_result(at, *value), Rule::T9, *place)?;
+                report_if(found, misfits_result(at, *value), Rule::T9, *position)?;
                 Ok(None)
             }
             None => {
-                report_if(found, lacks_value(at), Rule::T9, *place)?;
+                report_if(found, lacks_value(at), Rule::T9, *position)?;
                 Ok(None)
             }
         },
         Node::Binary {
-            place,
+            position,
             operator,
             left,
             right,
-        } => judge_binary(found, at, *place, *operator, *left, *right),
+        } => judge_binary(found, at, *position, *operator, *left, *right),
         Node::Unary {
-            place,
+            position,
             operator,
             operand,
-        } => judge_unary(found, at, *place, *operator, *operand),
-        Node::SimpleName { place, name } => judge_name(found, at, rows, *place, name.get()),
+        } => judge_unary(found, at, *position, *operator, *operand),
+        Node::SimpleName { position, name } => judge_name(found, at, rows, *position, name.get()),
         Node::FieldAccess { .. } | Node::Call { .. } => judge_member(found, at, rows, node),
         Node::Element {
-            place,
+            position,
             array,
             index,
-        } => judge_element(found, at, *place, *array, *index),
+        } => judge_element(found, at, *position, *array, *index),
         Node::Cast { .. }
         | Node::Parenthesized { .. }
         | Node::New { .. }
@@ -136,12 +136,12 @@ fn judge_declaration(
         ++ type_breaks (declared at.now) (types at.now) at.now.id node.now) }
 {
     match node {
-        Node::Class { place, name, .. } => {
+        Node::Class { position, name, .. } => {
             let Some(class) = at.facts.class_of(name.get()) else {
                 return Ok(None);
             };
-            report_if(found, misfits_class(at.facts, class), Rule::T6, *place)?;
-            report_if(found, lacks_form(at.facts, class), Rule::T14, *place)?;
+            report_if(found, misfits_class(at.facts, class), Rule::T6, *position)?;
+            report_if(found, lacks_form(at.facts, class), Rule::T14, *position)?;
             Ok(None)
         }
         Node::Field {
@@ -158,7 +158,7 @@ fn judge_declaration(
             Ok(None)
         }
         Node::Method {
-            place,
+            position,
             name,
             result_type,
             body,
@@ -166,14 +166,14 @@ fn judge_declaration(
         } => {
             if let Some(body) = body {
                 let ends = ends_without_return(at.facts, returns, *result_type, *body);
-                report_if(found, ends, Rule::T10, *place)?;
+                report_if(found, ends, Rule::T10, *position)?;
             }
             let misfits = misfits_long(at.facts, at.id, name.get(), *result_type, body);
-            report_if(found, misfits, Rule::T14, *place)?;
+            report_if(found, misfits, Rule::T14, *position)?;
             Ok(None)
         }
         Node::LocalWithValue {
-            place,
+            position,
             name_place,
             name,
             declared_type,
@@ -183,12 +183,12 @@ fn judge_declaration(
             let is_twice = at.facts.variable_named(at.id, name.get()).is_some();
             report_if(found, is_twice, Rule::T2, *name_place)?;
             let misfits = misfits_initial_value(at, *declared_type, *value);
-            report_if(found, misfits, Rule::T7, *place)?;
+            report_if(found, misfits, Rule::T7, *position)?;
             Ok(None)
         }
-        Node::SuperCall { place, arguments } => {
+        Node::SuperCall { position, arguments } => {
             let misfits = misfits_super_call(at, arguments.items());
-            report_if(found, misfits, Rule::T6, *place)?;
+            report_if(found, misfits, Rule::T6, *position)?;
             Ok(None)
         }
         _ => Ok(None),
@@ -206,7 +206,7 @@ fn judge_seldom(found: &mut Vec<Found>, at: &At<'_>, node: &Node) -> Result<Opti
     match node {
         Node::Parenthesized { inner, .. } => Ok(at.type_of(*inner)),
         Node::Cast {
-            place,
+            position,
             name,
             operand,
             ..
@@ -215,34 +215,34 @@ fn judge_seldom(found: &mut Vec<Found>, at: &At<'_>, node: &Node) -> Result<Opti
                 return Ok(None);
             }
             let misfits = misfits_cast(at, name.get(), *operand);
-            report_if(found, misfits, Rule::T12, *place)?;
+            report_if(found, misfits, Rule::T12, *position)?;
             Ok(class_named(at.facts, name.get()))
         }
         Node::New {
-            place,
+            position,
             name,
             arguments,
             ..
         } => {
             let misfits = misfits_new(at, name.get(), arguments.items());
-            report_if(found, misfits, Rule::T6, *place)?;
+            report_if(found, misfits, Rule::T6, *position)?;
             let has_none = makes_no_object(at, name.get(), arguments.items());
-            report_if(found, has_none, Rule::T11, *place)?;
-            report_if(found, is_misplaced_form(at, name.get()), Rule::T14, *place)?;
+            report_if(found, has_none, Rule::T11, *position)?;
+            report_if(found, is_misplaced_form(at, name.get()), Rule::T14, *position)?;
             Ok(type_of_new(at, name.get(), arguments.items()))
         }
         Node::NewArray {
-            place,
+            position,
             element,
             length,
         } => {
-            report_if(found, misfits_length(at, *length), Rule::T3, *place)?;
+            report_if(found, misfits_length(at, *length), Rule::T3, *position)?;
             let has_forms = has_form_elements(at.facts, *element);
-            report_if(found, has_forms, Rule::T14, *place)?;
+            report_if(found, has_forms, Rule::T14, *position)?;
             Ok(type_of_new_array(at, *element, *length))
         }
-        Node::This { place } => {
-            report_if(found, !at.facts.has_object(at.id), Rule::T13, *place)?;
+        Node::This { position } => {
+            report_if(found, !at.facts.has_object(at.id), Rule::T13, *position)?;
             let class = at.facts.context(at.id).class;
             Ok(class.map(|class| Ty::Class(class)))
         }
@@ -275,16 +275,16 @@ fn judge_there(
     };
     match node {
         Node::FieldAccess {
-            place,
+            position,
             name,
             object,
-        } => judge_access(found, &at, *place, name.get(), *object),
+        } => judge_access(found, &at, *position, name.get(), *object),
         Node::Call {
-            place,
+            position,
             name,
             object,
             arguments,
-        } => judge_call(found, &at, *place, name.get(), object, arguments.items()),
+        } => judge_call(found, &at, *position, name.get(), object, arguments.items()),
         _ => Ok((None, NodeMeaning::Nothing)),
     }
 }

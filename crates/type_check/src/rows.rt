@@ -18,8 +18,8 @@ pub fn filled<T: Copy>(alloc: Global, value: T, count: usize) -> Result<Vec<T>, 
 pub fn keep(rows: &mut Vec<NodeMeaning>, id: NodeId, row: NodeMeaning)
     ensures { rows.new.items ≡ set rows.old.items id row }
 {
-    let place = id.place();
-    if place < rows.len() {
-        rows[place] = row;
+    let number = id.number();
+    if number < rows.len() {
+        rows[number] = row;
     }
 }

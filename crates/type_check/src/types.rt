@@ -74,8 +74,8 @@ pub fn check_types(
     let mut types = Vec::with_capacity(alloc, program.len())?;
     let mut rows = filled(alloc, NodeMeaning::Nothing, program.len())?;
     let mut found = Vec::new(alloc);
-    for place in 0..program.len() {
-        let id = NodeId::at(place as u32);
+    for number in 0..program.len() {
+        let id = NodeId::at(number as u32);
         let t = next_type(&mut found, facts, &mut rows, &types, &returns, id)?;
         types.push(t)?;
     }

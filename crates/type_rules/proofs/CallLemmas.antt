@@ -23,12 +23,12 @@ pub typed_then : {A B : Type 0} (o : Option A) (x : Option B) →
 typed_then None x = refl
 typed_then (Some y) x = refl
 
-module _ (p : Declarations) (types : Types) (id : ℕ) (place : Pos) (name : List ℕ) (object : Option ℕ)
+module _ (p : Declarations) (types : Types) (id : ℕ) (position : Pos) (name : List ℕ) (object : Option ℕ)
     (arguments : List ℕ) where
-  none : (n l t : Bool) → broken (n && t) T3 place ++ (broken ((not n && true) && t) T5 place
-      ++ (broken (not (not n && true) && false) T6 place
-      ++ (broken ((l && (not (not n && true) && false)) && t) T13 place ++ [])))
-      ≡ broken (n && t) T3 place ++ (broken (not n && t) T5 place ++ [])
+  none : (n l t : Bool) → broken (n && t) T3 position ++ (broken ((not n && true) && t) T5 position
+      ++ (broken (not (not n && true) && false) T6 position
+      ++ (broken ((l && (not (not n && true) && false)) && t) T13 position ++ [])))
+      ≡ broken (n && t) T3 position ++ (broken (not n && t) T5 position ++ [])
   none true true t = refl
   none true false t = refl
   none false true t = refl
@@ -39,7 +39,7 @@ module _ (p : Declarations) (types : Types) (id : ℕ) (place : Pos) (name : Lis
 
   by_method : (r : Receiver) (m : Option FoundMethod) → Some r ≡ call_receiver p types id object →
       m ≡ called_method p r name →
-      type_breaks p types id (Call place name object arguments) ≡ breaks_on p types id place r m arguments
+      type_breaks p types id (Call position name object arguments) ≡ breaks_on p types id position r m arguments
   unfolding type_breaks t1 t2 t3 t4 t5 t6 t7 t8 t9 t10 t11 t12 t13 t14 lacks_method misfits_method breaks_on
   by_method r None h k =
       let n = is_no_reference r in
@@ -51,11 +51,11 @@ module _ (p : Declarations) (types : Types) (id : ℕ) (place : Pos) (name : Lis
       rw (← h, ← k) (rw (typed (is_no_reference r), typed lacks, typed apart) refl)
 
   pub call_breaks : (r : Receiver) → Some r ≡ call_receiver p types id object →
-      type_breaks p types id (Call place name object arguments)
-      ≡ breaks_on p types id place r (called_method p r name) arguments
+      type_breaks p types id (Call position name object arguments)
+      ≡ breaks_on p types id position r (called_method p r name) arguments
   call_breaks r h = by_method r (called_method p r name) h refl
 
   pub no_breaks : (found : List Found) → None ≡ call_receiver p types id object →
-      found ++ type_breaks p types id (Call place name object arguments) ≡ found
+      found ++ type_breaks p types id (Call position name object arguments) ≡ found
   unfolding type_breaks t1 t2 t3 t4 t5 t6 t7 t8 t9 t10 t11 t12 t13 t14
   no_breaks found h = rw (← h) (append-nil found)

@@ -41,13 +41,13 @@ all_fit p types ds i (id ∷ ids) = fits p types ds i id && all_fit p types ds (
 
 -- what is broken at a call on a receiver, by the method that is found for it
 unfoldable pub breaks_on : Declarations → Types → ℕ → Pos → Receiver → Option FoundMethod → List ℕ → List Found
-breaks_on p types id place r None arguments =
+breaks_on p types id position r None arguments =
     let typed = is_some (all_types types arguments) in
-    broken (is_no_reference r && typed) T3 place ++ (broken (not (is_no_reference r) && typed) T5 place ++ [])
-breaks_on p types id place r (Some f) arguments =
+    broken (is_no_reference r && typed) T3 position ++ (broken (not (is_no_reference r) && typed) T5 position ++ [])
+breaks_on p types id position r (Some f) arguments =
     let typed = is_some (all_types types arguments) in
     let lacks = not (is_no_reference r) && cannot_be_called p r f in
-    broken (is_no_reference r && typed) T3 place ++ (broken (lacks && typed) T5 place
-    ++ (broken (not lacks && misfit p types f.method.parameters arguments) T6 place
-    ++ (broken ((lacks_object p id r && (not lacks && not f.method.declared.modifiers.is_static)) && typed) T13 place
+    broken (is_no_reference r && typed) T3 position ++ (broken (lacks && typed) T5 position
+    ++ (broken (not lacks && misfit p types f.method.parameters arguments) T6 position
+    ++ (broken ((lacks_object p id r && (not lacks && not f.method.declared.modifiers.is_static)) && typed) T13 position
     ++ [])))

@@ -48,29 +48,29 @@ fn cannot_be_called(facts: &Facts<'_>, receiver: &Receiver, method: &MethodRef) 
 fn note_called(
     found: &mut Vec<Found>,
     at: &At<'_>,
-    place: Pos,
+    position: Pos,
     receiver: &Receiver,
     method: &Option<MethodRef>,
     arguments: &[NodeId],
 ) -> Result<bool, Memory>
     ensures typed { IfOk result (λ typed. typed ≡ is_some (all_types (types at.now) arguments.now)) }
     ensures found { OnOk result (found.new.items ≡ found.old.items ++ breaks_on (declared at.now) (types at.now)
-        at.now.id place receiver.now (option_map (found_method at.now.facts.now.nodes) method.now) arguments.now) }
+        at.now.id position receiver.now (option_map (found_method at.now.facts.now.nodes) method.now) arguments.now) }
 {
     let typed = are_typed(at, arguments);
     let is_plain = is_no_reference(receiver);
-    report_if(found, is_plain && typed, Rule::T3, place)?;
+    report_if(found, is_plain && typed, Rule::T3, position)?;
     let Some(method) = method else {
-        report_if(found, !is_plain && typed, Rule::T5, place)?;
+        report_if(found, !is_plain && typed, Rule::T5, position)?;
         return Ok(typed);
     };
     let lacks = !is_plain && cannot_be_called(at.facts, receiver, method);
-    report_if(found, lacks && typed, Rule::T5, place)?;
+    report_if(found, lacks && typed, Rule::T5, position)?;
     let misfits = !lacks && misfit_typed(at, &Takes::Method(*method), arguments, typed);
-    report_if(found, misfits, Rule::T6, place)?;
+    report_if(found, misfits, Rule::T6, position)?;
     let is_apart = lacks_object(at.facts, at.id, receiver)
         && (!lacks && !is_static(at.facts.program(), method));
-    report_if(found, is_apart && typed, Rule::T13, place)?;
+    report_if(found, is_apart && typed, Rule::T13, position)?;
     Ok(typed)
 }
 
@@ -79,16 +79,16 @@ fn note_called(
 pub fn judge_call(
     found: &mut Vec<Found>,
     at: &At<'_>,
-    place: Pos,
+    position: Pos,
     name: &Name,
     object: &Option<NodeId>,
     arguments: &[NodeId],
 ) -> Result<(Option<Ty>, NodeMeaning), Memory>
-    requires { slice_get at.now.facts.now.nodes at.now.id ≡ Some (a_call place name.now object.now arguments.now) }
+    requires { slice_get at.now.facts.now.nodes at.now.id ≡ Some (a_call position name.now object.now arguments.now) }
     ensures type_of { IfOk result (λ r. r.0 ≡ type_of (declared at.now) (types at.now) at.now.id
-        (a_call place name.now object.now arguments.now)) }
+        (a_call position name.now object.now arguments.now)) }
     ensures found { OnOk result (found.new.items ≡ found.old.items
-        ++ type_breaks (declared at.now) (types at.now) at.now.id (a_call place name.now object.now arguments.now)) }
+        ++ type_breaks (declared at.now) (types at.now) at.now.id (a_call position name.now object.now arguments.now)) }
     ensures row { IfOk result (λ r. IsMeaningAt at.now.facts.now at.now.id r.1) }
 {
     let Some(receiver) = call_receiver(at, object) else {
@@ -96,7 +96,7 @@ pub fn judge_call(
     };
     let row = method_row(at, &receiver, name);
     let method = method_in(&row);
-    if !note_called(found, at, place, &receiver, &method, arguments)? {
+    if !note_called(found, at, position, &receiver, &method, arguments)? {
         return Ok((None, row));
     }
     Ok((call_type(at.facts, &method), row))

@@ -77,8 +77,8 @@ pub fn note_condition(found: &mut Vec<Found>, at: &At<'_>, condition: NodeId) ->
     if !misfits {
         return Ok(());
     }
-    let place = place_at(at.facts.program(), condition);
-    report_if(found, misfits, Rule::T8, place)
+    let position = place_at(at.facts.program(), condition);
+    report_if(found, misfits, Rule::T8, position)
 }
 
 /// Whether a node writes `long`, of which no type is made.

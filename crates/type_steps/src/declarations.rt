@@ -23,16 +23,16 @@ pub fn member_word(
     stack: &mut Stack,
     flags: Option<NodeId>,
     word: u8,
-    place: Pos,
+    position: Pos,
 ) -> Result<Option<Mode>, Memory>
-    ensures step { let awaited = member_word flags word place nodes.old.all stack.old in
+    ensures step { let awaited = member_word flags word position nodes.old.all stack.old in
         gives result nodes.new.all stack.new awaited ≡ awaited }
     ensures kept { nodes.new.kept ≡ nodes.old.kept }
 {
     let node = match word {
-        VOID => Node::VoidType { place },
-        LONG => Node::LongType { place },
-        _ => return member_type(nodes, stack, flags, word, place),
+        VOID => Node::VoidType { position },
+        LONG => Node::LongType { position },
+        _ => return member_type(nodes, stack, flags, word, position),
     };
     let result_type = nodes.put(node)?;
     Ok(Some(Mode::ResultDone { flags, result_type }))
@@ -45,14 +45,14 @@ pub fn member_type(
     stack: &mut Stack,
     flags: Option<NodeId>,
     word: u8,
-    place: Pos,
+    position: Pos,
 ) -> Result<Option<Mode>, Memory>
-    ensures step { let awaited = type_start nodes.old.all (MemberOpen flags ∷ stack.old) (a_word word place) in
+    ensures step { let awaited = type_start nodes.old.all (MemberOpen flags ∷ stack.old) (a_word word position) in
         gives result nodes.new.all stack.new awaited ≡ awaited }
     ensures kept { nodes.new.kept ≡ nodes.old.kept }
 {
     stack.push(Entry::MemberOpen { flags })?;
-    let view = View::Word(word, place);
+    let view = View::Word(word, position);
     type_start(nodes, stack, &view)
 }
 
@@ -68,8 +68,8 @@ pub fn member_start(
         gives result nodes.new.all stack.new awaited ≡ awaited }
     ensures kept { nodes.new.kept ≡ nodes.old.kept }
 {
-    if let View::Word(word, place) = view {
-        return member_word(nodes, stack, flags, *word, *place);
+    if let View::Word(word, position) = view {
+        return member_word(nodes, stack, flags, *word, *position);
     }
     stack.push(Entry::MemberOpen { flags })?;
     type_start(nodes, stack, view)
@@ -118,22 +118,22 @@ pub fn declaration_start(
         }
         Entry::ClassBody {
             flags: class_flags,
-            place,
+            position,
             name,
             header,
             members,
         } => {
             stack.push(Entry::ClassBody {
                 flags: class_flags,
-                place,
+                position,
                 name,
                 header,
                 members,
             })?;
             member_start(nodes, stack, view, flags)
         }
-        Entry::ParametersOpen { place, list } => {
-            stack.push(Entry::ParametersOpen { place, list })?;
+        Entry::ParametersOpen { position, list } => {
+            stack.push(Entry::ParametersOpen { position, list })?;
             stack.push(Entry::ParameterOpen { flags })?;
             type_start(nodes, stack, view)
         }
@@ -179,22 +179,22 @@ pub fn flags_step(
     ensures kept { nodes.new.kept ≡ nodes.old.kept }
 {
     match view {
-        View::Word(word, place) => {
+        View::Word(word, position) => {
             if let Some(more) = add_modifier(is_local, *word, &flags) {
                 return Ok(Some(Mode::FlagsRead {
                     is_local,
-                    flags: placed(*place, more),
+                    flags: placed(*position, more),
                 }));
             }
             flags_ended(nodes, stack, view, flags)
         }
-        View::Sign(sign, place) => {
+        View::Sign(sign, position) => {
             if *sign == AT {
                 stack.push(Entry::AnnotationOpen {
                     is_local,
-                    flags: placed(*place, flags),
+                    flags: placed(*position, flags),
                 })?;
-                return Ok(Some(Mode::At { place: *place }));
+                return Ok(Some(Mode::At { position: *position }));
             }
             flags_ended(nodes, stack, view, flags)
         }

@@ -23,14 +23,14 @@ pub fn same_element(element: &ElementType) -> Result<ElementType, Memory>
 
 /// The node of a type, an array's where `is_array` holds.
 #[tactic(auto, unfolding(parser_machine::specs::Declarations::element_node))]
-pub fn element_node(place: Pos, element: &ElementType, is_array: bool) -> Result<Node, Memory>
-    ensures { IfOk result (λ node. node ≡ node_of_element place element.now is_array) }
+pub fn element_node(position: Pos, element: &ElementType, is_array: bool) -> Result<Node, Memory>
+    ensures { IfOk result (λ node. node ≡ node_of_element position element.now is_array) }
 {
     match element {
-        ElementType::Int => Ok(Node::IntType { place, is_array }),
-        ElementType::Boolean => Ok(Node::BooleanType { place, is_array }),
+        ElementType::Int => Ok(Node::IntType { position, is_array }),
+        ElementType::Boolean => Ok(Node::BooleanType { position, is_array }),
         ElementType::Reference { name, argument } => Ok(Node::ClassType {
-            place,
+            position,
             name: name.share()?,
             argument: *argument,
             is_array,

@@ -12,7 +12,7 @@ pub fn no_flags() -> FlagSet
     ensures { result ≡ none_of_them }
 {
     FlagSet {
-        place: None,
+        position: None,
         define_scope: None,
         scope: None,
         runs_in: None,
@@ -28,12 +28,12 @@ pub fn no_flags() -> FlagSet
 
 /// With one that stands at the place: the first gives the place of all.
 #[tactic(auto, unfolding(scj_tree::specs::Terminals::placed))]
-pub fn placed(place: Pos, flags: FlagSet) -> FlagSet
-    ensures { result ≡ placed_at place flags }
+pub fn placed(position: Pos, flags: FlagSet) -> FlagSet
+    ensures { result ≡ placed_at position flags }
 {
-    match flags.place {
+    match flags.position {
         None => FlagSet {
-            place: Some(place),
+            position: Some(position),
             ..flags
         },
         Some(_) => flags,
@@ -165,11 +165,11 @@ pub fn flags_node(flags: &FlagSet) -> Option<Node>
     if !has_effect(flags) {
         return None;
     }
-    let Some(place) = flags.place else {
+    let Some(position) = flags.position else {
         return None;
     };
     Some(Node::Flags {
-        place,
+        position,
         define_scope: flags.define_scope,
         scope: flags.scope,
         runs_in: flags.runs_in,

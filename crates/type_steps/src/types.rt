@@ -29,7 +29,7 @@ pub fn typed(
         gives result nodes.new.all stack.new awaited ≡ awaited }
     ensures kept { nodes.new.kept ≡ nodes.old.kept }
 {
-    let View::Name(name, place) = view else {
+    let View::Name(name, position) = view else {
         return Ok(None);
     };
     let Some(entry) = stack.pop() else {
@@ -39,12 +39,12 @@ pub fn typed(
         Entry::MemberOpen { flags } => Ok(Some(Mode::MemberNamed {
             flags,
             declared_type: id,
-            place: *place,
+            position: *position,
             name: name.share()?,
         })),
         Entry::ParameterOpen { flags } => {
             let id = nodes.put(Node::Parameter {
-                place: *place,
+                position: *position,
                 name: name.share()?,
                 flags,
                 declared_type: id,
@@ -54,7 +54,7 @@ pub fn typed(
         Entry::LocalOpen { flags } => Ok(Some(Mode::LocalNamed {
             flags,
             declared_type: id,
-            place: *place,
+            position: *position,
             name: name.share()?,
         })),
         _other => Ok(None),
@@ -67,23 +67,23 @@ pub fn type_end_step(
     nodes: &mut Nodes,
     stack: &mut Stack,
     view: &View,
-    place: Pos,
+    position: Pos,
     element: &ElementType,
 ) -> Result<Option<Mode>, Memory>
-    ensures step { let awaited = type_end_step place element.now nodes.old.all stack.old (seen view.now) in
+    ensures step { let awaited = type_end_step position element.now nodes.old.all stack.old (seen view.now) in
         gives result nodes.new.all stack.new awaited ≡ awaited }
     ensures kept { nodes.new.kept ≡ nodes.old.kept }
 {
     if let View::Sign(sign, _) = view {
         if *sign == LEFT_BRACKET {
             return Ok(Some(Mode::TypeBracket {
-                place,
+                position,
                 element: same_element(element)?,
             }));
         }
         return Ok(None);
     }
-    let node = element_node(place, element, false)?;
+    let node = element_node(position, element, false)?;
     let id = nodes.put(node)?;
     typed(nodes, stack, view, id)
 }
@@ -94,10 +94,10 @@ pub fn type_bracket_step(
     nodes: &mut Nodes,
     stack: &mut Stack,
     view: &View,
-    place: Pos,
+    position: Pos,
     element: &ElementType,
 ) -> Result<Option<Mode>, Memory>
-    ensures step { let awaited = type_bracket_step place element.now nodes.old.all stack.old (seen view.now) in
+    ensures step { let awaited = type_bracket_step position element.now nodes.old.all stack.old (seen view.now) in
         gives result nodes.new.all stack.new awaited ≡ awaited }
     ensures kept { nodes.new.kept ≡ nodes.old.kept }
 {
@@ -107,7 +107,7 @@ pub fn type_bracket_step(
     if *sign != RIGHT_BRACKET {
         return Ok(None);
     }
-    let node = element_node(place, element, true)?;
+    let node = element_node(position, element, true)?;
     let id = nodes.put(node)?;
     Ok(Some(Mode::TypeDone { id }))
 }
@@ -117,11 +117,11 @@ pub fn type_bracket_step(
 pub fn constructor_step(
     nodes: &mut Nodes,
     stack: &mut Stack,
-    place: Pos,
+    position: Pos,
     name: &SharedName,
     parenthesis: Pos,
 ) -> Result<Option<Mode>, Memory>
-    ensures step { let awaited = constructor_step place name.now parenthesis nodes.old.all stack.old in
+    ensures step { let awaited = constructor_step position name.now parenthesis nodes.old.all stack.old in
         gives result nodes.new.all stack.new awaited ≡ awaited }
     ensures kept { nodes.new.kept ≡ nodes.old.kept }
 {
@@ -132,10 +132,10 @@ pub fn constructor_step(
         Entry::MemberOpen { flags } => {
             stack.push(Entry::ConstructorOpen {
                 flags,
-                place,
+                position,
                 name: name.share()?,
             })?;
-            Ok(Some(Mode::ParametersFirst { place: parenthesis }))
+            Ok(Some(Mode::ParametersFirst { position: parenthesis }))
         }
         _other => Ok(None),
     }
@@ -146,19 +146,19 @@ pub fn constructor_step(
 pub fn type_name_sign(
     nodes: &mut Nodes,
     stack: &mut Stack,
-    place: Pos,
+    position: Pos,
     name: &SharedName,
     sign: u8,
     sign_place: Pos,
 ) -> Result<Option<Mode>, Memory>
-    ensures step { let awaited = type_name_step place name.now nodes.old.all stack.old (a_sign sign sign_place) in
+    ensures step { let awaited = type_name_step position name.now nodes.old.all stack.old (a_sign sign sign_place) in
         gives result nodes.new.all stack.new awaited ≡ awaited }
     ensures kept { nodes.new.kept ≡ nodes.old.kept }
 {
     if sign == LESS {
         if has_type_argument(name) {
             return Ok(Some(Mode::TypeArgumentName {
-                place,
+                position,
                 name: name.share()?,
             }));
         }
@@ -166,7 +166,7 @@ pub fn type_name_sign(
     }
     if sign == LEFT_BRACKET {
         return Ok(Some(Mode::TypeBracket {
-            place,
+            position,
             element: ElementType::Reference {
                 name: name.share()?,
                 argument: None,
@@ -174,7 +174,7 @@ pub fn type_name_sign(
         }));
     }
     if sign == LEFT_PARENTHESIS {
-        return constructor_step(nodes, stack, place, name, sign_place);
+        return constructor_step(nodes, stack, position, name, sign_place);
     }
     Ok(None)
 }
@@ -185,18 +185,18 @@ pub fn type_name_step(
     nodes: &mut Nodes,
     stack: &mut Stack,
     view: &View,
-    place: Pos,
+    position: Pos,
     name: &SharedName,
 ) -> Result<Option<Mode>, Memory>
-    ensures step { let awaited = type_name_step place name.now nodes.old.all stack.old (seen view.now) in
+    ensures step { let awaited = type_name_step position name.now nodes.old.all stack.old (seen view.now) in
         gives result nodes.new.all stack.new awaited ≡ awaited }
     ensures kept { nodes.new.kept ≡ nodes.old.kept }
 {
     if let View::Sign(sign, sign_place) = view {
-        return type_name_sign(nodes, stack, place, name, *sign, *sign_place);
+        return type_name_sign(nodes, stack, position, name, *sign, *sign_place);
     }
     let id = nodes.put(Node::ClassType {
-        place,
+        position,
         name: name.share()?,
         argument: None,
         is_array: false,
@@ -210,10 +210,10 @@ pub fn type_argument_name_step(
     nodes: &mut Nodes,
     stack: &mut Stack,
     view: &View,
-    place: Pos,
+    position: Pos,
     name: &SharedName,
 ) -> Result<Option<Mode>, Memory>
-    ensures step { let awaited = type_argument_name_step place name.now nodes.old.all stack.old (seen view.now) in
+    ensures step { let awaited = type_argument_name_step position name.now nodes.old.all stack.old (seen view.now) in
         gives result nodes.new.all stack.new awaited ≡ awaited }
     ensures kept { nodes.new.kept ≡ nodes.old.kept }
 {
@@ -221,11 +221,11 @@ pub fn type_argument_name_step(
         return Ok(None);
     };
     let argument = nodes.put(Node::TypeArgument {
-        place: *argument_place,
+        position: *argument_place,
         name: argument.share()?,
     })?;
     Ok(Some(Mode::TypeArgumentEnd {
-        place,
+        position,
         name: name.share()?,
         argument,
     }))
@@ -237,11 +237,11 @@ pub fn type_argument_end_step(
     nodes: &mut Nodes,
     stack: &mut Stack,
     view: &View,
-    place: Pos,
+    position: Pos,
     name: &SharedName,
     argument: NodeId,
 ) -> Result<Option<Mode>, Memory>
-    ensures step { let awaited = type_argument_end_step place name.now argument nodes.old.all stack.old (seen view.now)
+    ensures step { let awaited = type_argument_end_step position name.now argument nodes.old.all stack.old (seen view.now)
         in gives result nodes.new.all stack.new awaited ≡ awaited }
     ensures kept { nodes.new.kept ≡ nodes.old.kept }
 {
@@ -250,7 +250,7 @@ pub fn type_argument_end_step(
     };
     if *sign == GREATER {
         return Ok(Some(Mode::TypeEnd {
-            place,
+            position,
             element: ElementType::Reference {
                 name: name.share()?,
                 argument: Some(argument),
@@ -268,16 +268,16 @@ pub fn type_start(nodes: &mut Nodes, stack: &mut Stack, view: &View) -> Result<O
     ensures kept { nodes.new.kept ≡ nodes.old.kept }
 {
     match view {
-        View::Name(name, place) => Ok(Some(Mode::TypeName {
-            place: *place,
+        View::Name(name, position) => Ok(Some(Mode::TypeName {
+            position: *position,
             name: name.share()?,
         })),
-        View::Word(INT, place) => Ok(Some(Mode::TypeEnd {
-            place: *place,
+        View::Word(INT, position) => Ok(Some(Mode::TypeEnd {
+            position: *position,
             element: ElementType::Int,
         })),
-        View::Word(BOOLEAN, place) => Ok(Some(Mode::TypeEnd {
-            place: *place,
+        View::Word(BOOLEAN, position) => Ok(Some(Mode::TypeEnd {
+            position: *position,
             element: ElementType::Boolean,
         })),
         _ => Ok(None),

@@ -37,7 +37,7 @@ asked : (nodes : List Node) (returns : ℕ → Bool) (node : Node) →
     (if is_returning_kind (Some (kind_of node)) then returns_of nodes returns node else false) ≡ returns_of nodes
     returns node
 unfolding returns_of is_returning_kind kind_of
-asked nodes returns (Return place value) = refl
+asked nodes returns (Return position value) = refl
 asked nodes returns _ = refl
 
 pub never_returns : (nodes : List Node) (returns : ℕ → Bool) (id : ℕ) →

@@ -144,10 +144,10 @@ pub fn returning(alloc: Global, program: &Program) -> Result<Vec<bool>, Memory>
     ensures { IfOk result (λ returns. returns.items ≡ all_returns program.now.nodes) }
 {
     let mut returns = vec![in alloc; false; program.len()]?;
-    for place in 0..program.len() {
+    for number in 0..program.len() {
         let known = returns.as_slice();
-        let value = returns_at(program, &known[..place], NodeId::at(place as u32));
-        returns[place] = value;
+        let value = returns_at(program, &known[..number], NodeId::at(number as u32));
+        returns[number] = value;
     }
     Ok(returns)
 }

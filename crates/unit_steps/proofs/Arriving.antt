@@ -22,18 +22,18 @@ use Rattle.unit_steps.proofs.UnderWay.{IsUnderWay, all_done, goes_on, not_begun}
 
 -- ---- the handler at a place
 
-module _ (s : State) (place : ℕ) where
+module _ (s : State) (index : ℕ) where
   abbrev released_if : Bool → Step
-  released_if due = if due then release_taken s (place + 1) else silently s
+  released_if due = if due then release_taken s (index + 1) else silently s
 
   abbrev due_there : Bool
-  due_there = holds (slice_get s.registry place) (is_due s.origin s.unit)
+  due_there = holds (slice_get s.registry index) (is_due s.origin s.unit)
 
-  pub stays_away : due_there ≡ false → arrived_at s place ≡ silently s
+  pub stays_away : due_there ≡ false → arrived_at s index ≡ silently s
   unfolding arrived_at
   stays_away e = ap released_if e
 
-  pub arrives : (number : ℕ) → due_there ≡ true → number ≡ place + 1 → arrived_at s place ≡ release_taken s number
+  pub arrives : (number : ℕ) → due_there ≡ true → number ≡ index + 1 → arrived_at s index ≡ release_taken s number
   unfolding arrived_at
   arrives number e f = ap released_if e ∙ ap (λ (n : ℕ). release_taken s n) (sym f)
 
@@ -59,9 +59,9 @@ unfolding release_taken
 same_taken s handler =
     either_due s (not (nat_lt (length (waiting_of s handler)) most_waiting)) _ _ (same_due s) (more_released s _)
 
-same_arrived : (s : State) (place : ℕ) → HasSameDue s (arrived_at s place).state
+same_arrived : (s : State) (index : ℕ) → HasSameDue s (arrived_at s index).state
 unfolding arrived_at
-same_arrived s place = either_due s (due_there s place) _ _ (same_taken s (place + 1)) (same_due s)
+same_arrived s index = either_due s (due_there s index) _ _ (same_taken s (index + 1)) (same_due s)
 
 same_after : (s t u v : State) → HasSameDue s t → u ≡ v → HasSameDue t v → HasSameDue s u
 same_after s t u v h e k =

@@ -13,23 +13,23 @@ use Rattle.unit_steps.proofs.Alike.{equal_tries}
 use Rattle.unit_steps.proofs.OwnActivity.{sequencer_unseen}
 use Rattle.unit_steps.proofs.ReleaseActivity.{release_unseen}
 
-pub job_unseen : (code : Code) (s : State) (job : Job) (x activity : Activity) (below : List Frame) (place : Pos)
+pub job_unseen : (code : Code) (s : State) (job : Job) (x activity : Activity) (below : List Frame) (position : Pos)
     (e : Effect) →
-    IsAlikeTry (applied code s job activity below place e)
-    (applied code (with_activity s job x) job activity below place e)
+    IsAlikeTry (applied code s job activity below position e)
+    (applied code (with_activity s job x) job activity below position e)
 unfolding with_activity
-job_unseen code s TheSequencer x activity below place e = sequencer_unseen code s x activity below place e
-job_unseen code s (ReleaseAt n) x activity below place e =
-    equal_tries (sym (release_unseen code s n x activity below place e))
+job_unseen code s TheSequencer x activity below position e = sequencer_unseen code s x activity below position e
+job_unseen code s (ReleaseAt n) x activity below position e =
+    equal_tries (sym (release_unseen code s n x activity below position e))
 
 -- the activity before the operation in the one, and after it in the other
 pub operation_unseen : (code : Code) (s : State) (job : Job) (x a : Activity) (f g : Frame) (below : List Frame)
-    (place : Pos) (e : Effect) → f.opened ≡ g.opened →
-    IsAlikeTry (applied code s job (record a { frames = f ∷ below }) below place e)
-    (applied code (with_activity s job x) job (record a { frames = g ∷ below }) below place e)
-operation_unseen code s job x a f g below place e same =
+    (position : Pos) (e : Effect) → f.opened ≡ g.opened →
+    IsAlikeTry (applied code s job (record a { frames = f ∷ below }) below position e)
+    (applied code (with_activity s job x) job (record a { frames = g ∷ below }) below position e)
+operation_unseen code s job x a f g below position e same =
     subst
     (λ (o : Option Step).
-    IsAlikeTry o (applied code (with_activity s job x) job (record a { frames = g ∷ below }) below place e))
-    (sym (applied_alike code s job a below place f g same e))
-    (job_unseen code s job x (record a { frames = g ∷ below }) below place e)
+    IsAlikeTry o (applied code (with_activity s job x) job (record a { frames = g ∷ below }) below position e))
+    (sym (applied_alike code s job a below position f g same e))
+    (job_unseen code s job x (record a { frames = g ∷ below }) below position e)

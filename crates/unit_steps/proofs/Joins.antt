@@ -100,17 +100,17 @@ module _ (code : Listing) (rows : List ReadingRow) (s : State) (acting : Acting)
 
   first_done : taken.frames ≡ f ∷ under → (frame_of code f).rest ≡ op ∷ rest →
       effect_at (code_of code.program) rows s (frame_of code f) op rest ≡ effect (frame_of code g) →
-      acting.place ≡ place_of_op (code_of code.program) op →
+      acting.position ≡ place_of_op (code_of code.program) op →
       frame_op (code_of code.program) rows s job a
-      ≡ applied (code_of code.program) s job (record a { frames = frame_of code f ∷ below }) below acting.place (effect (frame_of code g))
+      ≡ applied (code_of code.program) s job (record a { frames = frame_of code f ∷ below }) below acting.position (effect (frame_of code g))
   unfolding frame_op
-  first_done frames next does place =
+  first_done frames next does position =
       ap (λ (fs : List StoredFrame). on_frames code rows s job taken (frames_of code fs)) frames
       ∙ (ap (on_rest code rows s job taken (frame_of code f) below) next
       ∙ (ap (λ e. applied (code_of code.program) s job a below (place_of_op (code_of code.program) op) e) does
-      ∙ (ap (λ p. applied (code_of code.program) s job a below p (effect (frame_of code g))) (sym place)
+      ∙ (ap (λ p. applied (code_of code.program) s job a below p (effect (frame_of code g))) (sym position)
       ∙ ap (λ (fs : List StoredFrame).
-      applied (code_of code.program) s job (record a { frames = frames_of code fs }) below acting.place (effect (frame_of code g)))
+      applied (code_of code.program) s job (record a { frames = frames_of code fs }) below acting.position (effect (frame_of code g)))
       frames)))
 
   tried_after : left ≡ record taken { frames = g ∷ under } →
@@ -118,19 +118,19 @@ module _ (code : Listing) (rows : List ReadingRow) (s : State) (acting : Acting)
       IsApplied code was acting left effect answer st before after →
       IsTry code
       (applied (code_of code.program) (with_activity s job no_activity) job (record a { frames = frame_of code g ∷ below }) below
-      acting.place (effect (frame_of code g)))
+      acting.position (effect (frame_of code g)))
       answer st before after
   tried_after is_left without k =
       subst
       (λ (t : State).
       IsTry code
-      (applied (code_of code.program) t job (record a { frames = frame_of code g ∷ below }) below acting.place (effect (frame_of code g)))
+      (applied (code_of code.program) t job (record a { frames = frame_of code g ∷ below }) below acting.position (effect (frame_of code g)))
       answer st before after)
       without
       (subst
       (λ (x : StoredActivity).
       IsTry code
-      (applied (code_of code.program) (state_of code was) job (activity_seen code x) below acting.place (effect (frame_of code g)))
+      (applied (code_of code.program) (state_of code was) job (activity_seen code x) below acting.position (effect (frame_of code g)))
       answer st before after)
       is_left
       (k.tried g under (ap (λ (x : StoredActivity). x.frames) is_left)))
@@ -140,13 +140,13 @@ module _ (code : Listing) (rows : List ReadingRow) (s : State) (acting : Acting)
   pub operation_joined : taken.frames ≡ f ∷ under → left ≡ record taken { frames = g ∷ under } →
       (frame_of code f).rest ≡ op ∷ rest → f.opened ≡ g.opened →
       effect_at (code_of code.program) rows s (frame_of code f) op rest ≡ effect (frame_of code g) →
-      acting.place ≡ place_of_op (code_of code.program) op →
+      acting.position ≡ place_of_op (code_of code.program) op →
       state_of code was ≡ with_activity s job no_activity →
       IsApplied code was acting left effect answer st before after →
       IsLedTry code (frame_op (code_of code.program) rows s job a) answer st before after
-  operation_joined frames is_left next opened does place without k =
-      subst (λ (o : Option Step). IsLedTry code o answer st before after) (sym (first_done frames next does place))
+  operation_joined frames is_left next opened does position without k =
+      subst (λ (o : Option Step). IsLedTry code o answer st before after) (sym (first_done frames next does position))
       (led_by_alike code answer st before after _ _
-      (operation_unseen (code_of code.program) s job no_activity a (frame_of code f) (frame_of code g) below acting.place
+      (operation_unseen (code_of code.program) s job no_activity a (frame_of code f) (frame_of code g) below acting.position
       (effect (frame_of code g)) opened)
       (tried_after is_left without k))

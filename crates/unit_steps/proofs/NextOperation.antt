@@ -29,11 +29,11 @@ use Rattle.unit_steps.proofs.Joins.{none_there, nothing_left, operation_joined}
 
 -- the list gave an operation, which was then done
 pub next_done : (code : Listing) (world : Environment) (op : Op) (effect : Coded) (before middle after : StoredFrame) →
-    rest_at code.rows before.place ≡ op ∷ rest_at code.rows middle.place → middle ≡ record before { place = middle.place } →
+    rest_at code.rows before.index ≡ op ∷ rest_at code.rows middle.index → middle ≡ record before { place = middle.index } →
     Does code (effect_of (code_of code.program) world (frame_of code middle) op) effect after → after.opened ≡ middle.opened →
     middle.opened ≡ before.opened → IsNext code world op effect before after
 next_done code world op effect before middle after next same does opened kept = record {
-  left = rest_at code.rows middle.place;
+  left = rest_at code.rows middle.index;
   next = next;
   does = ap (λ (f : StoredFrame). effect_of (code_of code.program) world (frame_of code f) op) (sym same) ∙ does.is;
   opened = sym (opened ∙ kept);
@@ -52,7 +52,7 @@ module _ (code : Listing) (world : Environment) (frames : List StoredFrame) (top
   next_on_top (Err e) h = tt
 
   pub none_on_top : (result : Result (Option Done) E) →
-      IfOk result (λ next. IfNone next (rest_at code.rows top.place ≡ [])) →
+      IfOk result (λ next. IfNone next (rest_at code.rows top.position ≡ [])) →
       IfOk result (λ next. IfNone next (top_rest code frames ≡ []))
   none_on_top (Ok (Some done)) h = tt
   none_on_top (Ok None) h = ap (top_rest code) highest ∙ h
@@ -87,14 +87,14 @@ module _ (code : Listing) (rows : List ReadingRow) (s : State) where
       (next : IsNextOnTop code (world was.memory rows was.unit) op effect taken.frames frames) →
       effect_at (code_of code.program) rows s (frame_of code next.top) op next.done.left
       ≡ effect_seen code effect (frame_of code next.changed) →
-      acting.place ≡ place_of_op (code_of code.program) op →
+      acting.position ≡ place_of_op (code_of code.program) op →
       state_of code was ≡ with_activity s (job_seen acting.job) no_activity →
       IsApplied code was acting (record taken { frames = frames }) (effect_seen code effect) answer st before after →
       IsLedTry code (frame_op (code_of code.program) rows s (job_seen acting.job) activity) answer st before after
-  operation_led acting was st taken activity frames answer before after op effect e next has place without applied =
+  operation_led acting was st taken activity frames answer before after op effect e next has position without applied =
       subst (λ (x : Activity). IsLedTry code (frame_op (code_of code.program) rows s (job_seen acting.job) x) answer st before after) e
       (operation_joined code rows s acting was st taken
       (let left : StoredActivity = record taken { frames = frames } in left) next.top next.changed (below taken.frames)
       op next.done.left (effect_seen code effect) answer before after next.was
       (ap (λ (fs : List StoredFrame). (let left : StoredActivity = record taken { frames = fs } in left)) next.is)
-      next.done.next next.done.opened has place without applied)
+      next.done.next next.done.opened has position without applied)

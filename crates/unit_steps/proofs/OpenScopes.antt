@@ -25,9 +25,9 @@ refusal_of scope bytes = record { scope = scope; bytes = bytes }
 
 -- an open area is listed
 pub record IsListed (objects : List Object) (n : ℕ) (areas : List MemoryArea) (x : MemoryArea) : Type 0 where
-  pub place : ℕ
+  pub index : ℕ
   pub area : Area
-  pub there : slice_get (open_areas objects n areas) place ≡ Some area
+  pub there : slice_get (open_areas objects n areas) index ≡ Some area
   pub of_scope : area.name ≡ x.scope
 
 abbrev either : List Object → ℕ → MemoryArea → List MemoryArea → Bool → List Area
@@ -43,7 +43,7 @@ listed objects n (y ∷ areas) zero x e h =
     let same : y ≡ x = cc in
     let is_open : y.is_open ≡ true = ap (λ (z : MemoryArea). z.is_open) same ∙ h in
     record {
-      place = 0;
+      index = 0;
       area = record { name = y.scope; bytes = y.bytes; used = used_bytes objects n };
       there = ap (λ (b : Bool). slice_get (if b then record { name = y.scope; bytes = y.bytes; used = used_bytes objects n }
           ∷ open_areas objects (n + 1) areas else open_areas objects (n + 1) areas) 0) is_open;
@@ -53,15 +53,15 @@ listed objects n (y ∷ areas) (suc a) x e h = go (listed objects (n + 1) areas 
   where
     go : IsListed objects (n + 1) areas x → (b : Bool) → y.is_open ≡ b → IsListed objects n (y ∷ areas) x
     go more true k = record {
-      place = suc more.place;
+      index = suc more.position;
       area = more.area;
-      there = ap (λ (b : Bool). slice_get (either objects n y areas b) (suc more.place)) k ∙ more.there;
+      there = ap (λ (b : Bool). slice_get (either objects n y areas b) (suc more.position)) k ∙ more.there;
       of_scope = more.of_scope;
     }
     go more false k = record {
-      place = more.place;
+      index = more.position;
       area = more.area;
-      there = ap (λ (b : Bool). slice_get (either objects n y areas b) more.place) k ∙ more.there;
+      there = ap (λ (b : Bool). slice_get (either objects n y areas b) more.position) k ∙ more.there;
       of_scope = more.of_scope;
     }
 
@@ -86,9 +86,9 @@ one_has m area i is_open none past within = go (slice_get m.areas area) refl
     go (Some x) e =
         let h : x.is_open ≡ true = ap (λ (o : Option MemoryArea). holds o (λ x. x.is_open)) (sym e) ∙ is_open in
         let l : IsListed m.objects 0 m.areas x = listed m.objects 0 m.areas area x e h in
-        let w : l.place < length (open_areas m.objects 0 m.areas) =
-        get_within (open_areas m.objects 0 m.areas) l.place l.area l.there in
-        none x e l.place l.area (omega (arith, w, ends (open_areas m.objects 0 m.areas) i (sym past))) l.there l.of_scope
+        let w : l.index < length (open_areas m.objects 0 m.areas) =
+        get_within (open_areas m.objects 0 m.areas) l.index l.area l.there in
+        none x e l.index l.area (omega (arith, w, ends (open_areas m.objects 0 m.areas) i (sym past))) l.there l.of_scope
 
 -- ---- whether an area has a scope
 

@@ -38,27 +38,27 @@ module _ (code : Code) (s : State) (x : Activity) where
   closed_beside None = refl
   closed_beside (Some a) = refl
 
-  broken : (activity : Activity) (place : Pos) (fault : RunFault) →
-      IsAlikeStep (fault_in s TheSequencer activity place fault) (fault_in t TheSequencer activity place fault)
+  broken : (activity : Activity) (position : Pos) (fault : RunFault) →
+      IsAlikeStep (fault_in s TheSequencer activity position fault) (fault_in t TheSequencer activity position fault)
   unfolding fault_in is_over
-  broken activity place fault = record { states = over x refl refl; events = refl }
+  broken activity position fault = record { states = over x refl refl; events = refl }
 
   abbrev seq : Job
   seq = TheSequencer
 
   -- a frame that is called: the ceiling of its monitor is asked of the objects
-  called_alike : (activity : Activity) (frames : List Frame) (place : Pos) (g : Frame) →
-      IsAlikeStep (called code s seq activity frames place g) (called code t seq activity frames place g)
+  called_alike : (activity : Activity) (frames : List Frame) (position : Pos) (g : Frame) →
+      IsAlikeStep (called code s seq activity frames position g) (called code t seq activity frames position g)
   unfolding called ceiling_entered with_activity
-  called_alike activity frames place g =
-      each_way (is_full frames) (broken activity place DepthFull) (entered (ceiling_entered code s g))
+  called_alike activity frames position g =
+      each_way (is_full frames) (broken activity position DepthFull) (entered (ceiling_entered code s g))
     where
       entered : (o : Option ℕ) →
           IsAlikeStep
           (elim o as (λ z. Step) [
             | None ↦ silently (with_activity s seq (record activity { frames = g ∷ frames }))
             | Some ceiling ↦
-                if nat_lt ceiling activity.priority then fault_in s seq activity place CeilingViolation
+                if nat_lt ceiling activity.priority then fault_in s seq activity position CeilingViolation
                 else telling
                 (with_activity s seq (record activity {
                   frames = record g { saved = Some activity.priority } ∷ frames;
@@ -69,7 +69,7 @@ module _ (code : Code) (s : State) (x : Activity) where
           (elim o as (λ z. Step) [
             | None ↦ silently (with_activity t seq (record activity { frames = g ∷ frames }))
             | Some ceiling ↦
-                if nat_lt ceiling activity.priority then fault_in t seq activity place CeilingViolation
+                if nat_lt ceiling activity.priority then fault_in t seq activity position CeilingViolation
                 else telling
                 (with_activity t seq (record activity {
                   frames = record g { saved = Some activity.priority } ∷ frames;
@@ -79,18 +79,18 @@ module _ (code : Code) (s : State) (x : Activity) where
           ])
       entered None = stays
       entered (Some ceiling) =
-          each_way (nat_lt ceiling activity.priority) (broken activity place CeilingViolation) stays
+          each_way (nat_lt ceiling activity.priority) (broken activity position CeilingViolation) stays
 
-  opened_alike : (activity : Activity) (frames : List Frame) (place : Pos) (g : Frame) (scope bytes : ℕ) →
-      IsAlikeStep (opened_in s seq activity frames place g scope bytes)
-      (opened_in t seq activity frames place g scope bytes)
+  opened_alike : (activity : Activity) (frames : List Frame) (position : Pos) (g : Frame) (scope bytes : ℕ) →
+      IsAlikeStep (opened_in s seq activity frames position g scope bytes)
+      (opened_in t seq activity frames position g scope bytes)
   unfolding opened_in opening has_store_for reserved with_activity
-  opened_alike activity frames place g scope bytes =
+  opened_alike activity frames position g scope bytes =
       either_way (is_some (area_with_scope s scope activity.areas)) (is_some (area_with_scope t scope activity.areas))
       (ap (λ (o : Option ℕ). is_some o) (scope_sees_areas s t refl scope activity.areas))
-      (broken activity place ScopedCycle)
-      (each_way (is_full frames) (broken activity place DepthFull)
-      (each_way (has_store_for s bytes) stays (broken activity place StoreFull)))
+      (broken activity position ScopedCycle)
+      (each_way (is_full frames) (broken activity position DepthFull)
+      (each_way (has_store_for s bytes) stays (broken activity position StoreFull)))
 
   left_alike : (activity : Activity) (f : Frame) (below : List Frame) (value : Option Value) →
       IsAlikeStep (frame_left s seq activity f below value) (frame_left t seq activity f below value)
@@ -105,39 +105,39 @@ module _ (code : Code) (s : State) (x : Activity) where
       go (Some a) [] = stays
       go (Some a) (g ∷ gs) = stays
 
-  registered_alike : (activity : Activity) (f : Frame) (below : List Frame) (place : Pos) (r : ℕ) (o : Object) →
-      IsAlikeStep (registered code s seq activity place r o (with_frame s seq activity f below))
-      (registered code t seq activity place r o (with_frame t seq activity f below))
+  registered_alike : (activity : Activity) (f : Frame) (below : List Frame) (position : Pos) (r : ℕ) (o : Object) →
+      IsAlikeStep (registered code s seq activity position r o (with_frame s seq activity f below))
+      (registered code t seq activity position r o (with_frame t seq activity f below))
   unfolding registered with_activity
-  registered_alike activity f below place r o =
-      each_way (not (is_init s.phase)) (broken activity place NotInitializing)
+  registered_alike activity f below position r o =
+      each_way (not (is_init s.phase)) (broken activity position NotInitializing)
       (each_way (is_some (handler_number s.registry r)) stays
-      (each_way (not (nat_lt (length s.registry) most_handlers)) (broken activity place TooManyHandlers) stays))
+      (each_way (not (nat_lt (length s.registry) most_handlers)) (broken activity position TooManyHandlers) stays))
 
-  pub sequencer_unseen : (activity : Activity) (below : List Frame) (place : Pos) (e : Effect) →
-      IsAlikeTry (applied code s seq activity below place e) (applied code t seq activity below place e)
+  pub sequencer_unseen : (activity : Activity) (below : List Frame) (position : Pos) (e : Effect) →
+      IsAlikeTry (applied code s seq activity below position e) (applied code t seq activity below position e)
   unfolding applied allocating has_room used with_activity
-  sequencer_unseen activity below place (Goes f) = some stays
-  sequencer_unseen activity below place (Prints f label value) = some stays
-  sequencer_unseen activity below place (Makes f class slots) =
-      some (each_way (has_room s f.area (length slots)) stays (broken activity place MemoryFull))
-  sequencer_unseen activity below place (Stores f r slot value) = some stays
-  sequencer_unseen activity below place (StoresStatic f n value) = some stays
-  sequencer_unseen activity below place (SetsHidden f r values) = some stays
-  sequencer_unseen activity below place (SetsCeiling f r ceiling) = some stays
-  sequencer_unseen activity below place (Calls f g) = some (called_alike activity (f ∷ below) place g)
-  sequencer_unseen activity below place (Opens f g scope bytes) =
-      some (opened_alike activity (f ∷ below) place g scope bytes)
-  sequencer_unseen activity below place (Leaves f value) = some (left_alike activity f below value)
-  sequencer_unseen activity below place (AsksRegistration f r) = asked (object_at s r)
+  sequencer_unseen activity below position (Goes f) = some stays
+  sequencer_unseen activity below position (Prints f label value) = some stays
+  sequencer_unseen activity below position (Makes f class slots) =
+      some (each_way (has_room s f.area (length slots)) stays (broken activity position MemoryFull))
+  sequencer_unseen activity below position (Stores f r slot value) = some stays
+  sequencer_unseen activity below position (StoresStatic f n value) = some stays
+  sequencer_unseen activity below position (SetsHidden f r values) = some stays
+  sequencer_unseen activity below position (SetsCeiling f r ceiling) = some stays
+  sequencer_unseen activity below position (Calls f g) = some (called_alike activity (f ∷ below) position g)
+  sequencer_unseen activity below position (Opens f g scope bytes) =
+      some (opened_alike activity (f ∷ below) position g scope bytes)
+  sequencer_unseen activity below position (Leaves f value) = some (left_alike activity f below value)
+  sequencer_unseen activity below position (AsksRegistration f r) = asked (object_at s r)
     where
       asked : (o : Option Object) →
           IsAlikeTry
-          (option_map (λ (x : Object). registered code s seq activity place r x (with_frame s seq activity f below)) o)
-          (option_map (λ (x : Object). registered code t seq activity place r x (with_frame t seq activity f below)) o)
+          (option_map (λ (x : Object). registered code s seq activity position r x (with_frame s seq activity f below)) o)
+          (option_map (λ (x : Object). registered code t seq activity position r x (with_frame t seq activity f below)) o)
       asked None = none
-      asked (Some o) = some (registered_alike activity f below place r o)
-  sequencer_unseen activity below place (AsksRelease f r) = some stays
-  sequencer_unseen activity below place (AsksTermination f r) = some stays
-  sequencer_unseen activity below place (Faults fault) = some (broken activity place fault)
-  sequencer_unseen activity below place Stuck = none
+      asked (Some o) = some (registered_alike activity f below position r o)
+  sequencer_unseen activity below position (AsksRelease f r) = some stays
+  sequencer_unseen activity below position (AsksTermination f r) = some stays
+  sequencer_unseen activity below position (Faults fault) = some (broken activity position fault)
+  sequencer_unseen activity below position Stuck = none

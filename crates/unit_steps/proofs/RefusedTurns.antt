@@ -51,7 +51,7 @@ led_by code o acted answer st before after e h =
 
 pub frames_refused : (code : Listing) (rows : List ReadingRow) (s : State) (frames below : List StoredFrame)
     (top : StoredFrame) (op : Op) (left : List Op) (effect : Effect) → frames ≡ top ∷ below →
-    rest_at code.rows top.place ≡ op ∷ left → effect_at (code_of code.program) rows s (frame_of code top) op left ≡ effect →
+    rest_at code.rows top.index ≡ op ∷ left → effect_at (code_of code.program) rows s (frame_of code top) op left ≡ effect →
     refused_on (code_of code.program) rows s (frames_of code frames) ≡ refused_by s effect
 unfolding refused_on
 frames_refused code rows s frames below top op left effect was next has =
@@ -72,7 +72,7 @@ frames_refused code rows s frames below top op left effect was next has =
 pub refused_there : (code : Listing) (rows : List ReadingRow) (st : RunState) (m : Contents) (activity : Activity)
     (taken : StoredActivity) (below : List StoredFrame) (top : StoredFrame) (op : Op) (left : List Op)
     (effect : Effect) → m ≡ st.memory → activity_seen code taken ≡ activity → taken.frames ≡ top ∷ below →
-    rest_at code.rows top.place ≡ op ∷ left → effect_at (code_of code.program) rows (state_of code st) (frame_of code top) op left ≡ effect →
+    rest_at code.rows top.index ≡ op ∷ left → effect_at (code_of code.program) rows (state_of code st) (frame_of code top) op left ≡ effect →
     refused_by (with_memory (state_of code st) m) effect ≡ refused_on (code_of code.program) rows (state_of code st) activity.frames
 unfolding state_of
 refused_there code rows st m activity taken below top op left effect memory seen was next has =
@@ -116,10 +116,10 @@ module _ (code : Listing) (rows : List ReadingRow) (st : RunState) where
 abbrev refused_in : Listing → List ReadingRow → State → Option Activity → Option Refusal
 refused_in code rows s found = found >>= (λ (a : Activity). refused_on (code_of code.program) rows s a.frames)
 
-release_refused : (code : Listing) (rows : List ReadingRow) (s : State) (place : ℕ) →
-    refused_to_turn (code_of code.program) rows s (TurnOf place) ≡ refused_in code rows s (activity_of s (ReleaseAt place))
+release_refused : (code : Listing) (rows : List ReadingRow) (s : State) (index : ℕ) →
+    refused_to_turn (code_of code.program) rows s (TurnOf index) ≡ refused_in code rows s (activity_of s (ReleaseAt index))
 unfolding refused_to_turn activity_of
-release_refused code rows s place = go (slice_get s.releases place)
+release_refused code rows s index = go (slice_get s.releases index)
   where
     go : (o : Option ReleaseOfRun) →
         (o >>= (λ (r : ReleaseOfRun). activity_in r.status >>= (λ (a : Activity). refused_on (code_of code.program) rows s a.frames)))
@@ -127,22 +127,22 @@ release_refused code rows s place = go (slice_get s.releases place)
     go None = refl
     go (Some r) = refl
 
-pub started_refused : (code : Listing) (rows : List ReadingRow) (s : State) (place : ℕ) (activity : Activity) →
-    activity_of s (ReleaseAt place) ≡ Some activity →
-    refused_on (code_of code.program) rows s activity.frames ≡ refused_to_turn (code_of code.program) rows s (TurnOf place)
-started_refused code rows s place activity e =
-    sym (release_refused code rows s place ∙ ap (λ (o : Option Activity). refused_in code rows s o) e)
+pub started_refused : (code : Listing) (rows : List ReadingRow) (s : State) (index : ℕ) (activity : Activity) →
+    activity_of s (ReleaseAt index) ≡ Some activity →
+    refused_on (code_of code.program) rows s activity.frames ≡ refused_to_turn (code_of code.program) rows s (TurnOf index)
+started_refused code rows s index activity e =
+    sym (release_refused code rows s index ∙ ap (λ (o : Option Activity). refused_in code rows s o) e)
 
 -- a release that waits
-pub start_refused : (code : Listing) (rows : List ReadingRow) (st : RunState) (place handler : ℕ) →
-    Starts handler ≡ move_at st.releases.rows place →
-    None ≡ refused_to_turn (code_of code.program) rows (state_of code st) (TurnOf place)
+pub start_refused : (code : Listing) (rows : List ReadingRow) (st : RunState) (index handler : ℕ) →
+    Starts handler ≡ move_at st.releases.rows index →
+    None ≡ refused_to_turn (code_of code.program) rows (state_of code st) (TurnOf index)
 unfolding state_of activity_of activity_in
-start_refused code rows st place handler e =
-    sym (release_refused code rows (state_of code st) place
+start_refused code rows st index handler e =
+    sym (release_refused code rows (state_of code st) index
     ∙ (ap (λ (o : Option ReleaseOfRun). refused_in code rows (state_of code st) (o >>= (λ (r : ReleaseOfRun). activity_in r.status)))
-    (get_map (release_seen code) st.releases.rows place)
-    ∙ of_found (slice_get st.releases.rows place) e))
+    (get_map (release_seen code) st.releases.rows index)
+    ∙ of_found (slice_get st.releases.rows index) e))
   where
     of_status : (r : Release) (status : ReleaseStatus) → Starts handler ≡ move_by r.handler status →
         refused_in code rows (state_of code st) (activity_in (status_seen code status)) ≡ None
@@ -165,7 +165,7 @@ pub turn_refused : (code : Listing) (rows : List ReadingRow) (st : RunState) (la
     ≡ refused_to_turn (code_of code.program) rows (state_of code st) turn
 unfolding refused_to_turn refused_on refused_by refused_in_area has_room used state_of
 turn_refused code rows st last IdleTurn = refl
-turn_refused code rows st last (TurnOf place) = refl
+turn_refused code rows st last (TurnOf index) = refl
 
 pub chosen_refused : (code : Listing) (rows : List ReadingRow) (policy : Policy) (s : State) (turn : Turn) →
     is_exec s.phase ≡ true → Some turn ≡ policy s →

@@ -51,16 +51,16 @@ module _ (code : Code) (s : State) (n : ℕ) (x : Activity) where
       ap (λ v. closed_all v fs) (closed_there u f.opened) ∙ all_closed_there (closed u f.opened) fs
 
   -- a fault ends the release
-  broken : (activity : Activity) (place : Pos) (fault : RunFault) →
-      fault_in t job activity place fault ≡ fault_in s job activity place fault
+  broken : (activity : Activity) (position : Pos) (fault : RunFault) →
+      fault_in t job activity position fault ≡ fault_in s job activity position fault
   unfolding fault_in
-  broken activity place fault =
+  broken activity position fault =
       ap (λ v. telling (with_status v n Ended)
-      (Fault s.unit fault place ∷ of_release t job (λ r. End s.unit r.handler r.number ∷ [])))
+      (Fault s.unit fault position ∷ of_release t job (λ r. End s.unit r.handler r.number ∷ [])))
       (all_closed_there s activity.frames)
-      ∙ (ap (λ v. telling v (Fault s.unit fault place ∷ of_release t job (λ r. End s.unit r.handler r.number ∷ [])))
+      ∙ (ap (λ v. telling v (Fault s.unit fault position ∷ of_release t job (λ r. End s.unit r.handler r.number ∷ [])))
       (status_again (closed_all s activity.frames) n (Started x) Ended)
-      ∙ ap (λ events. telling (with_status (closed_all s activity.frames) n Ended) (Fault s.unit fault place ∷ events))
+      ∙ ap (λ events. telling (with_status (closed_all s activity.frames) n Ended) (Fault s.unit fault position ∷ events))
       (told_there (λ r. End s.unit r.handler r.number ∷ []) (λ r. refl)))
 
   -- two ways, each the same
@@ -78,18 +78,18 @@ module _ (code : Code) (s : State) (n : ℕ) (x : Activity) where
       silently (with_activity (with_status u n (Started x)) job activity) ≡ silently (with_activity u job activity)
   goes_on u activity = ap (λ v. silently v) (put_back u activity)
 
-  called_there : (activity : Activity) (frames : List Frame) (place : Pos) (g : Frame) →
-      called code t job activity frames place g ≡ called code s job activity frames place g
+  called_there : (activity : Activity) (frames : List Frame) (position : Pos) (g : Frame) →
+      called code t job activity frames position g ≡ called code s job activity frames position g
   unfolding called ceiling_entered
-  called_there activity frames place g =
-      choose (is_full frames) (is_full frames) refl (broken activity place DepthFull)
+  called_there activity frames position g =
+      choose (is_full frames) (is_full frames) refl (broken activity position DepthFull)
       (entered (ceiling_entered code s g))
     where
       entered : (o : Option ℕ) →
           (elim o as (λ z. Step) [
             | None ↦ silently (with_activity t job (record activity { frames = g ∷ frames }))
             | Some ceiling ↦
-                if nat_lt ceiling activity.priority then fault_in t job activity place CeilingViolation
+                if nat_lt ceiling activity.priority then fault_in t job activity position CeilingViolation
                 else telling
                 (with_activity t job (record activity {
                   frames = record g { saved = Some activity.priority } ∷ frames;
@@ -100,7 +100,7 @@ module _ (code : Code) (s : State) (n : ℕ) (x : Activity) where
           ≡ (elim o as (λ z. Step) [
             | None ↦ silently (with_activity s job (record activity { frames = g ∷ frames }))
             | Some ceiling ↦
-                if nat_lt ceiling activity.priority then fault_in s job activity place CeilingViolation
+                if nat_lt ceiling activity.priority then fault_in s job activity position CeilingViolation
                 else telling
                 (with_activity s job (record activity {
                   frames = record g { saved = Some activity.priority } ∷ frames;
@@ -111,7 +111,7 @@ module _ (code : Code) (s : State) (n : ℕ) (x : Activity) where
       entered None = goes_on s (record activity { frames = g ∷ frames })
       entered (Some ceiling) =
           choose (nat_lt ceiling activity.priority) (nat_lt ceiling activity.priority) refl
-          (broken activity place CeilingViolation)
+          (broken activity position CeilingViolation)
           (let raised : Activity = record activity {
             frames = record g { saved = Some activity.priority } ∷ frames;
             priority = ceiling;
@@ -119,20 +119,20 @@ module _ (code : Code) (s : State) (n : ℕ) (x : Activity) where
           ap (λ v. telling v (tell_priority t job activity.priority ceiling)) (put_back s raised)
           ∙ ap (λ events. telling (with_activity s job raised) events) (told_priority activity.priority ceiling))
 
-  opened_there : (activity : Activity) (frames : List Frame) (place : Pos) (g : Frame) (scope bytes : ℕ) →
-      opened_in t job activity frames place g scope bytes ≡ opened_in s job activity frames place g scope bytes
+  opened_there : (activity : Activity) (frames : List Frame) (position : Pos) (g : Frame) (scope bytes : ℕ) →
+      opened_in t job activity frames position g scope bytes ≡ opened_in s job activity frames position g scope bytes
   unfolding opened_in opening has_store_for reserved
-  opened_there activity frames place g scope bytes =
+  opened_there activity frames position g scope bytes =
       choose (is_some (area_with_scope s scope activity.areas)) (is_some (area_with_scope t scope activity.areas))
       (ap (λ (o : Option ℕ). is_some o) (scope_sees_areas s t refl scope activity.areas))
-      (broken activity place ScopedCycle)
-      (choose (is_full frames) (is_full frames) refl (broken activity place DepthFull)
+      (broken activity position ScopedCycle)
+      (choose (is_full frames) (is_full frames) refl (broken activity position DepthFull)
       (choose (has_store_for s bytes) (has_store_for s bytes) refl
       (goes_on (with_area s scope (Some g.area) bytes) (record activity {
         frames = record g { area = length s.areas; opened = Some (length s.areas) } ∷ frames;
         areas = length s.areas ∷ activity.areas;
       }))
-      (broken activity place StoreFull)))
+      (broken activity position StoreFull)))
 
   ended_there : (u : State) (activity : Activity) (value : Option Value) →
       job_ended (with_status u n (Started x)) job activity value ≡ job_ended u job activity value
@@ -173,59 +173,59 @@ module _ (code : Code) (s : State) (n : ℕ) (x : Activity) where
       last_there after [] = ended_there (closed s f.opened) after value
       last_there after (g ∷ gs) = goes_on (closed s f.opened) after
 
-  registered_there : (activity : Activity) (f : Frame) (below : List Frame) (place : Pos) (r : ℕ) (o : Object) →
-      registered code t job activity place r o (with_frame t job activity f below)
-      ≡ registered code s job activity place r o (with_frame s job activity f below)
+  registered_there : (activity : Activity) (f : Frame) (below : List Frame) (position : Pos) (r : ℕ) (o : Object) →
+      registered code t job activity position r o (with_frame t job activity f below)
+      ≡ registered code s job activity position r o (with_frame s job activity f below)
   unfolding registered
-  registered_there activity f below place r o =
+  registered_there activity f below position r o =
       let back = put_back s (record activity { frames = f ∷ below }) in
-      choose (not (is_init s.phase)) (not (is_init s.phase)) refl (broken activity place NotInitializing)
+      choose (not (is_init s.phase)) (not (is_init s.phase)) refl (broken activity position NotInitializing)
       (choose (is_some (handler_number s.registry r)) (is_some (handler_number s.registry r)) refl
       (ap (λ v. silently v) back)
       (choose (not (nat_lt (length s.registry) most_handlers)) (not (nat_lt (length s.registry) most_handlers)) refl
-      (broken activity place TooManyHandlers)
+      (broken activity position TooManyHandlers)
       (ap (λ v. telling
       (record v { registry = v.registry ++ new_row code.program r o ∷ [] })
       (Register s.unit (length s.registry + 1) (class_name code o.class) (new_row code.program r o).priority ∷ []))
       back)))
 
-  pub release_unseen : (activity : Activity) (below : List Frame) (place : Pos) (e : Effect) →
-      applied code t job activity below place e ≡ applied code s job activity below place e
+  pub release_unseen : (activity : Activity) (below : List Frame) (position : Pos) (e : Effect) →
+      applied code t job activity below position e ≡ applied code s job activity below position e
   unfolding applied allocating has_room used
-  release_unseen activity below place (Goes f) = ap (λ v. Some v) (goes_on s (record activity { frames = f ∷ below }))
-  release_unseen activity below place (Prints f label value) =
+  release_unseen activity below position (Goes f) = ap (λ v. Some v) (goes_on s (record activity { frames = f ∷ below }))
+  release_unseen activity below position (Prints f label value) =
       ap (λ v. Some (telling v (Print s.unit label value ∷ []))) (put_back s (record activity { frames = f ∷ below }))
-  release_unseen activity below place (Makes f class slots) =
+  release_unseen activity below position (Makes f class slots) =
       ap (λ v. Some v)
       (choose (has_room s f.area (length slots)) (has_room s f.area (length slots)) refl
       (goes_on (with_object s class f.area slots) (record activity {
         frames = record f { operands = At (length s.objects) ∷ f.operands } ∷ below;
       }))
-      (broken activity place MemoryFull))
-  release_unseen activity below place (Stores f r slot value) =
+      (broken activity position MemoryFull))
+  release_unseen activity below position (Stores f r slot value) =
       ap (λ v. Some v) (goes_on (with_slot s r slot value) (record activity { frames = f ∷ below }))
-  release_unseen activity below place (StoresStatic f k value) =
+  release_unseen activity below position (StoresStatic f k value) =
       ap (λ v. Some v)
       (goes_on (record s { statics = slice_set s.statics k value }) (record activity { frames = f ∷ below }))
-  release_unseen activity below place (SetsHidden f r values) =
+  release_unseen activity below position (SetsHidden f r values) =
       ap (λ v. Some v)
       (goes_on (record s { objects = changed (with_first values) r s.objects }) (record activity { frames = f ∷ below }))
-  release_unseen activity below place (SetsCeiling f r ceiling) =
-      ap (λ v. Some v) (broken activity place NotInitializing)
-  release_unseen activity below place (Calls f g) = ap (λ v. Some v) (called_there activity (f ∷ below) place g)
-  release_unseen activity below place (Opens f g scope bytes) =
-      ap (λ v. Some v) (opened_there activity (f ∷ below) place g scope bytes)
-  release_unseen activity below place (Leaves f value) = ap (λ v. Some v) (left_there activity f below value)
-  release_unseen activity below place (AsksRegistration f r) = asked (object_at s r)
+  release_unseen activity below position (SetsCeiling f r ceiling) =
+      ap (λ v. Some v) (broken activity position NotInitializing)
+  release_unseen activity below position (Calls f g) = ap (λ v. Some v) (called_there activity (f ∷ below) position g)
+  release_unseen activity below position (Opens f g scope bytes) =
+      ap (λ v. Some v) (opened_there activity (f ∷ below) position g scope bytes)
+  release_unseen activity below position (Leaves f value) = ap (λ v. Some v) (left_there activity f below value)
+  release_unseen activity below position (AsksRegistration f r) = asked (object_at s r)
     where
       asked : (o : Option Object) →
-          option_map (λ (x : Object). registered code t job activity place r x (with_frame t job activity f below)) o
-          ≡ option_map (λ (x : Object). registered code s job activity place r x (with_frame s job activity f below)) o
+          option_map (λ (x : Object). registered code t job activity position r x (with_frame t job activity f below)) o
+          ≡ option_map (λ (x : Object). registered code s job activity position r x (with_frame s job activity f below)) o
       asked None = refl
-      asked (Some o) = ap (λ v. Some v) (registered_there activity f below place r o)
-  release_unseen activity below place (AsksRelease f r) =
+      asked (Some o) = ap (λ v. Some v) (registered_there activity f below position r o)
+  release_unseen activity below position (AsksRelease f r) =
       ap (λ v. Some (released v r)) (put_back s (record activity { frames = f ∷ below }))
-  release_unseen activity below place (AsksTermination f r) =
+  release_unseen activity below position (AsksTermination f r) =
       ap (λ v. Some (termination_asked v r)) (put_back s (record activity { frames = f ∷ below }))
-  release_unseen activity below place (Faults fault) = ap (λ v. Some v) (broken activity place fault)
-  release_unseen activity below place Stuck = refl
+  release_unseen activity below position (Faults fault) = ap (λ v. Some v) (broken activity position fault)
+  release_unseen activity below position Stuck = refl

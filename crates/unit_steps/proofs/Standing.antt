@@ -63,7 +63,7 @@ named_stands code m taken changed rest (coded.AsksRegistration r) h = h
 named_stands code m taken changed rest coded.Goes h = tt
 named_stands code m taken changed rest (coded.Prints label value) h = tt
 named_stands code m taken changed rest (coded.Stores r slot value) h = tt
-named_stands code m taken changed rest (coded.StoresStatic place value) h = tt
+named_stands code m taken changed rest (coded.StoresStatic index value) h = tt
 named_stands code m taken changed rest (coded.SetsHidden r hidden) h = tt
 named_stands code m taken changed rest (coded.SetsCeiling r ceiling) h = tt
 named_stands code m taken changed rest (coded.Opens call scope bytes) h = tt
@@ -81,12 +81,12 @@ memory_in s = record { store = s.store; areas = s.areas; objects = s.objects; st
 memory_with : (s : State) (job : JobOfRun) (a : Activity) → memory_in (with_activity s job a) ≡ memory_in s
 unfolding with_activity
 memory_with s TheSequencer a = refl
-memory_with s (ReleaseAt place) a = refl
+memory_with s (ReleaseAt index) a = refl
 
 unit_with : (s : State) (job : JobOfRun) (a : Activity) → (with_activity s job a).unit ≡ s.unit
 unfolding with_activity
 unit_with s TheSequencer a = refl
-unit_with s (ReleaseAt place) a = refl
+unit_with s (ReleaseAt index) a = refl
 
 module _ (code : Listing) (rows : List ReadingRow) (old was : RunState) (job : JobOfRun) (taken : StoredActivity)
     (frames : List StoredFrame) (op : Op) (effect : Coded)
@@ -151,12 +151,12 @@ module _ (code : Listing) (rows : List ReadingRow) (old was : RunState) (job : J
 
 -- ---- a release that is to be started
 
-pub start_few : (st : RunState) (place handler : ℕ) (row : HandlerRow) → StartStands st place →
-    Starts handler ≡ move_at st.releases.rows place → handler_row st.registry.items handler ≡ Some row →
+pub start_few : (st : RunState) (index handler : ℕ) (row : HandlerRow) → StartStands st index →
+    Starts handler ≡ move_at st.releases.rows index → handler_row st.registry.items handler ≡ Some row →
     open_count st.memory < 1794
-start_few st place handler row h move is_row = go (slice_get st.releases.rows place) refl
+start_few st index handler row h move is_row = go (slice_get st.releases.rows index) refl
   where
-    of_status : (r : Release) → slice_get st.releases.rows place ≡ Some r → (status : ReleaseStatus) →
+    of_status : (r : Release) → slice_get st.releases.rows index ≡ Some r → (status : ReleaseStatus) →
         r.status ≡ status → Starts handler ≡ move_by r.handler status → open_count st.memory < 1794
     of_status r there Waits e f =
         let same : handler ≡ r.handler = cc (f) in
@@ -165,7 +165,7 @@ start_few st place handler row h move is_row = go (slice_get st.releases.rows pl
     of_status r there Ended e f = absurd (cc (f))
     of_status r there Dropped e f = absurd (cc (f))
 
-    go : (found : Option Release) → slice_get st.releases.rows place ≡ found → open_count st.memory < 1794
+    go : (found : Option Release) → slice_get st.releases.rows index ≡ found → open_count st.memory < 1794
     go None e = absurd (let none : Starts handler ≡ move_of None = move ∙ ap move_of e in cc (none))
     go (Some r) e = of_status r e r.status refl (move ∙ ap move_of e)
 
@@ -180,13 +180,13 @@ job_with_turn code rows st TheSequencer turn h = record {
       let now : NextStands code rows st f op rest = h.next activity f below op rest there frames ops in
       record { reads = now.reads; names = now.names };
 }
-job_with_turn code rows st (ReleaseAt place) turn h = record {
+job_with_turn code rows st (ReleaseAt index) turn h = record {
   stands = h.stands;
   next = λ activity f below op rest there frames ops.
       let now : NextStands code rows st f op rest = h.next activity f below op rest there frames ops in
       record { reads = now.reads; names = now.names };
 }
 
-pub start_with_turn : (st : RunState) (place : ℕ) (turn : Option CodedTurn) → StartStands st place →
-    (let with_turn : RunState = record st { last_choice = turn } in StartStands with_turn place)
-start_with_turn st place turn h = h
+pub start_with_turn : (st : RunState) (index : ℕ) (turn : Option CodedTurn) → StartStands st index →
+    (let with_turn : RunState = record st { last_choice = turn } in StartStands with_turn index)
+start_with_turn st index turn h = h

@@ -72,15 +72,15 @@ sequencer_activity s = refl
 
 -- ---- a release
 
-module _ (code : Listing) (rows : List ReadingRow) (st : RunState) (place : ℕ) where
+module _ (code : Listing) (rows : List ReadingRow) (st : RunState) (index : ℕ) where
   abbrev s : State
   s = state_of code st
 
   abbrev op_by : Release → ReleaseStatus → Option Step
   op_by r status =
       elim (status_seen code status) as (λ _. Option Step) [
-        | WaitsSeen ↦ start_op (code_of code.program) s place (release_seen code r)
-        | StartedSeen activity ↦ frame_op (code_of code.program) rows s (ReleaseAt place) activity
+        | WaitsSeen ↦ start_op (code_of code.program) s index (release_seen code r)
+        | StartedSeen activity ↦ frame_op (code_of code.program) rows s (ReleaseAt index) activity
         | EndedSeen ↦ None
         | DroppedSeen ↦ None
       ]
@@ -89,26 +89,26 @@ module _ (code : Listing) (rows : List ReadingRow) (st : RunState) (place : ℕ)
   op_in found = elim found as (λ _. Option Step) [ None ↦ None | Some r ↦ op_by r r.status ]
 
   -- the operation, by the release as the code keeps it
-  operation_is : ref_op (code_of code.program) rows s (ReleaseAt place) ≡ op_in (slice_get st.releases.rows place)
+  operation_is : ref_op (code_of code.program) rows s (ReleaseAt index) ≡ op_in (slice_get st.releases.rows index)
   unfolding ref_op state_of release_op_of
   operation_is =
-      ap (λ (o : Option ReleaseOfRun). o >>= release_op_of (code_of code.program) rows s place)
-      (get_map (release_seen code) st.releases.rows place)
-      ∙ of_found (slice_get st.releases.rows place)
+      ap (λ (o : Option ReleaseOfRun). o >>= release_op_of (code_of code.program) rows s index)
+      (get_map (release_seen code) st.releases.rows index)
+      ∙ of_found (slice_get st.releases.rows index)
     where
       of_found : (found : Option Release) →
-          (option_map (release_seen code) found >>= release_op_of (code_of code.program) rows s place) ≡ op_in found
+          (option_map (release_seen code) found >>= release_op_of (code_of code.program) rows s index) ≡ op_in found
       of_found None = refl
       of_found (Some r) = refl
 
   abbrev StartsAs : ℕ → Option Step → ReleaseOfRun → Type 0
-  StartsAs handler found r = (r.handler ≡ handler) × (found ≡ start_op (code_of code.program) s place r)
+  StartsAs handler found r = (r.handler ≡ handler) × (found ≡ start_op (code_of code.program) s index r)
 
-  pub starts_by : (handler : ℕ) → Starts handler ≡ move_at st.releases.rows place →
-      (r : ReleaseOfRun) × (r.handler ≡ handler) × (ref_op (code_of code.program) rows s (ReleaseAt place) ≡ start_op (code_of code.program) s place r)
+  pub starts_by : (handler : ℕ) → Starts handler ≡ move_at st.releases.rows index →
+      (r : ReleaseOfRun) × (r.handler ≡ handler) × (ref_op (code_of code.program) rows s (ReleaseAt index) ≡ start_op (code_of code.program) s index r)
   starts_by handler e =
-      let there : (r : ReleaseOfRun) × StartsAs handler (op_in (slice_get st.releases.rows place)) r =
-      of_found (slice_get st.releases.rows place) e in
+      let there : (r : ReleaseOfRun) × StartsAs handler (op_in (slice_get st.releases.rows index)) r =
+      of_found (slice_get st.releases.rows index) e in
       (there.0, there.1.0, operation_is ∙ there.1.1)
     where
       of_status : (r : Release) (status : ReleaseStatus) → Starts handler ≡ move_by r.handler status →
@@ -125,17 +125,17 @@ module _ (code : Listing) (rows : List ReadingRow) (st : RunState) (place : ℕ)
 
   abbrev GoesOnWith : Option StoredActivity → Option Step → StoredActivity → Type 0
   GoesOnWith within found a =
-      (within ≡ Some a) × (found ≡ frame_op (code_of code.program) rows s (ReleaseAt place) (activity_seen code a))
+      (within ≡ Some a) × (found ≡ frame_op (code_of code.program) rows s (ReleaseAt index) (activity_seen code a))
 
-  pub goes_on_with : GoesOn ≡ move_at st.releases.rows place →
-      (a : StoredActivity) × (activity_of s (ReleaseAt place) ≡ Some (activity_seen code a)) ×
-      (ref_op (code_of code.program) rows s (ReleaseAt place) ≡ frame_op (code_of code.program) rows s (ReleaseAt place) (activity_seen code a))
+  pub goes_on_with : GoesOn ≡ move_at st.releases.rows index →
+      (a : StoredActivity) × (activity_of s (ReleaseAt index) ≡ Some (activity_seen code a)) ×
+      (ref_op (code_of code.program) rows s (ReleaseAt index) ≡ frame_op (code_of code.program) rows s (ReleaseAt index) (activity_seen code a))
   goes_on_with e =
       let there : (a : StoredActivity) ×
-      GoesOnWith (activity_in st.releases.rows place) (op_in (slice_get st.releases.rows place)) a =
-      of_found (slice_get st.releases.rows place) e in (
+      GoesOnWith (activity_in st.releases.rows index) (op_in (slice_get st.releases.rows index)) a =
+      of_found (slice_get st.releases.rows index) e in (
         there.0,
-        sym (found_activity code st place) ∙ ap (option_map (activity_seen code)) there.1.0,
+        sym (found_activity code st index) ∙ ap (option_map (activity_seen code)) there.1.0,
         operation_is ∙ there.1.1,
       )
     where
@@ -152,8 +152,8 @@ module _ (code : Listing) (rows : List ReadingRow) (st : RunState) (place : ℕ)
       of_found None k = absurd (cc (k))
       of_found (Some r) k = of_status r r.status k
 
-  pub nothing_done : Nothing ≡ move_at st.releases.rows place → ref_op (code_of code.program) rows s (ReleaseAt place) ≡ None
-  nothing_done e = operation_is ∙ of_found (slice_get st.releases.rows place) e
+  pub nothing_done : Nothing ≡ move_at st.releases.rows index → ref_op (code_of code.program) rows s (ReleaseAt index) ≡ None
+  nothing_done e = operation_is ∙ of_found (slice_get st.releases.rows index) e
     where
       of_status : (r : Release) (status : ReleaseStatus) → Nothing ≡ move_by r.handler status → op_by r status ≡ None
       of_status r Waits k = absurd (cc (k))
@@ -189,7 +189,7 @@ seen_by_choice code st registry e =
     ap (λ (handlers : List HandlerRow). with_registry (with_releases code (state_of code st) st.releases) handlers) e
 
 abbrev turn_by : Option ℕ → Turn
-turn_by found = elim found as (λ _. Turn) [ None ↦ IdleTurn | Some place ↦ TurnOf place ]
+turn_by found = elim found as (λ _. Turn) [ None ↦ IdleTurn | Some index ↦ TurnOf index ]
 
 pub turn_is : (s : State) (found : Option ℕ) → found ≡ chosen s → Some (turn_by found) ≡ by_priority s
 unfolding by_priority

@@ -10,8 +10,8 @@ use Rattle.scj_model.specs.Arrivals.{comes_in, fired, is_due}
 
 -- the handler at a place of the registry is released if it is due
 unfoldable pub arrived_at : State → ℕ → Step
-arrived_at s place =
-    if holds (slice_get s.registry place) (is_due s.origin s.unit) then release_taken s (place + 1) else silently s
+arrived_at s index =
+    if holds (slice_get s.registry index) (is_due s.origin s.unit) then release_taken s (index + 1) else silently s
 
 -- a fire of the plan has its effect if it comes in this unit
 unfoldable pub fired_in : Code → Option ℕ → ℕ → State → Fire → Step

@@ -19,4 +19,4 @@ move_of None = Nothing
 move_of (Some r) = move_by r.handler r.status
 
 abbrev pub move_at : List Release → ℕ → Move
-move_at rows place = move_of (slice_get rows place)
+move_at rows index = move_of (slice_get rows index)

@@ -13,14 +13,14 @@ use Rattle.job_frames.specs.EffectsSeen.{effect_seen}
 -- the operations that the highest frame has left; none, if there is no frame
 abbrev pub top_rest : Listing → List StoredFrame → List Op
 top_rest code [] = []
-top_rest code (f ∷ fs) = rest_at code.rows f.place
+top_rest code (f ∷ fs) = rest_at code.rows f.position
 
 -- this was the next operation of a frame. It has this effect, leaves the frame like this, and the area that the frame
 -- opened as it was
 pub record IsNext (code : Listing) (world : Environment) (op : Op) (effect : Coded) (before after : StoredFrame) : Type 0
   where
     pub left : List Op
-    pub next : rest_at code.rows before.place ≡ op ∷ left
+    pub next : rest_at code.rows before.index ≡ op ∷ left
     pub does : effect_of (code_of code.program) world (record (frame_of code before) { rest = left }) op
         ≡ effect_seen code effect (frame_of code after)
     pub opened : before.opened ≡ after.opened

@@ -60,8 +60,8 @@ pub record JobStands (code : Listing) (rows : List ReadingRow) (st : RunState) (
 
 -- where the release at a place waits, to be started, few areas are open
 abbrev pub StartStands : RunState → ℕ → Type 0
-StartStands st place =
-    (r : Release) (row : HandlerRow) → slice_get st.releases.rows place ≡ Some r → r.status ≡ Waits →
+StartStands st index =
+    (r : Release) (row : HandlerRow) → slice_get st.releases.rows index ≡ Some r → r.status ≡ Waits →
     handler_row st.registry.items r.handler ≡ Some row → open_count st.memory < 1794
 
 -- the choice and the operation of a unit
@@ -71,9 +71,9 @@ pub record ActsStand (code : Listing) (rows : List ReadingRow) (st : RunState) :
   pub areas : (a : ℕ) → is_among a st.activity.areas ≡ true → is_open_area st.memory a ≡ true
   pub few : is_exec st.phase ≡ false → open_count st.memory < 1794
   pub sequencer : is_exec st.phase ≡ false → JobStands code rows st TheSequencer
-  pub start : (place : ℕ) → by_priority (state_of code st) ≡ Some (TurnOf place) → StartStands st place
-  pub release : (place : ℕ) → by_priority (state_of code st) ≡ Some (TurnOf place) →
-      JobStands code rows st (ReleaseAt place)
+  pub start : (index : ℕ) → by_priority (state_of code st) ≡ Some (TurnOf index) → StartStands st index
+  pub release : (index : ℕ) → by_priority (state_of code st) ≡ Some (TurnOf index) →
+      JobStands code rows st (ReleaseAt index)
 
 -- what follows in the sequencer
 pub record PhaseStands (st : RunState) : Type 0 where

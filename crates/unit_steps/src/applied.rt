@@ -117,8 +117,8 @@ fn apply(
             stores(state, acting, activity, r, slot, value)?;
             Ok(true)
         }
-        Effect::StoresStatic { place, value } => {
-            stores_static(state, acting, activity, place, value)?;
+        Effect::StoresStatic { index, value } => {
+            stores_static(state, acting, activity, index, value)?;
             Ok(true)
         }
         Effect::SetsHidden { r, hidden } => {

@@ -23,36 +23,36 @@ use scj_base::{Memory, Name};
 use scj_model::{Event, Fire};
 
 /// The number of the handler at a place of the registry: the numbers begin with 1.
-fn number_of(place: usize) -> Result<u8, Memory>
-    ensures { IfOk result (λ number. number ≡ place + 1) }
+fn number_of(index: usize) -> Result<u8, Memory>
+    ensures { IfOk result (λ number. number ≡ index + 1) }
 {
-    if place < 255 {
-        Ok(place as u8 + 1)
+    if index < 255 {
+        Ok(index as u8 + 1)
     } else {
         Err(Memory)
     }
 }
 
 /// Whether there is a handler at a place of the registry, and it is due in this unit.
-fn is_due_at(state: &RunState, place: usize) -> bool
-    ensures { result ≡ holds (slice_get state.now.registry.items place) (is_due state.now.origin state.now.unit) }
+fn is_due_at(state: &RunState, index: usize) -> bool
+    ensures { result ≡ holds (slice_get state.now.registry.items index) (is_due state.now.origin state.now.unit) }
 {
-    match state.registry.get(place) {
+    match state.registry.get(index) {
         Some(row) => is_due(state.origin, state.unit, row),
         None => false,
     }
 }
 
 /// The handler at a place of the registry is released if it is due.
-fn arrive_if_due(state: &mut RunState, place: usize, told: &mut Vec<Event>) -> Result<(), Memory>
+fn arrive_if_due(state: &mut RunState, index: usize, told: &mut Vec<Event>) -> Result<(), Memory>
     ensures { (code : Listing) →
         IfOk result
-        (λ _. IsStep code (arrived_at (state_of code state.old) place) state.new told.old.items told.new.items) }
+        (λ _. IsStep code (arrived_at (state_of code state.old) index) state.new told.old.items told.new.items) }
 {
-    if !is_due_at(state, place) {
+    if !is_due_at(state, index) {
         return Ok(());
     }
-    let number = number_of(place)?;
+    let number = number_of(index)?;
     release_taken(state, number, told)?;
     Ok(())
 }
@@ -68,8 +68,8 @@ fn periodic_arrivals(state: &mut RunState, told: &mut Vec<Event>) -> Result<(), 
     if !takes_releases(state) {
         return Ok(());
     }
-    for place in 0..state.registry.len() {
-        arrive_if_due(state, place, told)?;
+    for index in 0..state.registry.len() {
+        arrive_if_due(state, index, told)?;
     }
     Ok(())
 }

@@ -48,7 +48,7 @@ fn next_in(
         (λ done. IsNext code.now
         (environment world.entry.memory.now world.entry.plan.now.readings world.entry.unit) done.op done.effect
         frame.old frame.new)) }
-    ensures none { IfOk result (λ next. IfNone next (rest_at code.now.rows frame.old.place ≡ [])) }
+    ensures none { IfOk result (λ next. IfNone next (rest_at code.now.rows frame.old.position ≡ [])) }
 {
     match frame.next(code) {
         Some(row) => {
@@ -116,7 +116,7 @@ pub(crate) fn frame_op(
     };
     let acting = Acting {
         job,
-        place: place_of(code, done.op),
+        position: place_of(code, done.op),
     };
     let acted = apply_effect(alloc, code, state, acting, activity, done.effect, told)?;
     Ok(acted)

@@ -87,10 +87,10 @@ fn move_by(release: &Release) -> Move
 }
 
 /// How the release at a place goes on.
-fn move_at(state: &RunState, place: usize) -> Move
-    ensures { result ≡ move_at state.now.releases.rows place }
+fn move_at(state: &RunState, index: usize) -> Move
+    ensures { result ≡ move_at state.now.releases.rows index }
 {
-    match state.releases.release(place) {
+    match state.releases.release(index) {
         Some(release) => move_by(release),
         None => Move::Nothing,
     }
@@ -102,28 +102,28 @@ fn release_turn(
     code: &OpList<'_>,
     plan: &Plan,
     state: &mut RunState,
-    place: usize,
+    index: usize,
     told: &mut Vec<Event>,
 ) -> Result<Acted, Memory>
     requires numbers { HasNumbers state.old.memory }
-    requires start { StartStands state.old place }
-    requires job { JobStands code.now plan.now.readings state.old (ReleaseAt place) }
+    requires start { StartStands state.old index }
+    requires job { JobStands code.now plan.now.readings state.old (ReleaseAt index) }
     ensures led { IfOk result
         (λ acted. IsLedTry code.now
-        (ref_op (code_of code.now.program) plan.now.readings (state_of code.now state.old) (ReleaseAt place))
+        (ref_op (code_of code.now.program) plan.now.readings (state_of code.now state.old) (ReleaseAt index))
         (went acted) state.new told.old.items told.new.items) }
     ensures refused { IfOk result
         (λ acted. Refuses acted
         (refused_to_turn (code_of code.now.program) plan.now.readings (state_of code.now state.old)
-        (TurnOf place))) }
+        (TurnOf index))) }
 {
-    match move_at(state, place) {
+    match move_at(state, index) {
         Move::Starts { handler } => {
-            let went = start_op(alloc, code, state, place, handler, told)?;
+            let went = start_op(alloc, code, state, index, handler, told)?;
             Ok(came_to(went, None))
         }
         Move::GoesOn => {
-            let acted = frame_op(alloc, code, plan, state, Job::Release(place), told)?;
+            let acted = frame_op(alloc, code, plan, state, Job::Release(index), told)?;
             Ok(acted)
         }
         Move::Nothing => Ok(Acted::Stuck),
@@ -140,9 +140,9 @@ fn is_same_turn(turn: Turn, last: Turn) -> bool
             Turn::Idle => true,
             Turn::Of(_) => false,
         },
-        Turn::Of(place) => match last {
+        Turn::Of(index) => match last {
             Turn::Idle => false,
-            Turn::Of(other) => place == other,
+            Turn::Of(other) => index == other,
         },
     }
 }
@@ -158,13 +158,13 @@ fn is_last(state: &RunState, turn: Turn) -> bool
 }
 
 /// Tells that the release at a place acts.
-fn tell_run(state: &RunState, place: usize, told: &mut Vec<Event>) -> Result<(), Memory>
+fn tell_run(state: &RunState, index: usize, told: &mut Vec<Event>) -> Result<(), Memory>
     ensures { (code : Listing) →
         OnOk result
-        (told.new.items ≡ told.old.items ++ of_release (state_of code state.now) (ReleaseAt place)
+        (told.new.items ≡ told.old.items ++ of_release (state_of code state.now) (ReleaseAt index)
         (λ r. RunEvent state.now.unit r.handler r.number ∷ [])) }
 {
-    match state.releases.release(place) {
+    match state.releases.release(index) {
         Some(release) => {
             let unit = state.unit;
             tell(
@@ -193,8 +193,8 @@ fn tell_turn(state: &RunState, turn: Turn, told: &mut Vec<Event>) -> Result<(), 
             tell(told, Event::Idle { unit })?;
             Ok(())
         }
-        Turn::Of(place) => {
-            tell_run(state, place, told)?;
+        Turn::Of(index) => {
+            tell_run(state, index, told)?;
             Ok(())
         }
     }
@@ -236,9 +236,9 @@ fn turn_acts(
     told: &mut Vec<Event>,
 ) -> Result<Acted, Memory>
     requires numbers { HasNumbers state.old.memory }
-    requires start { (place : ℕ) → turn_seen turn ≡ TurnOf place → StartStands state.old place }
-    requires job { (place : ℕ) → turn_seen turn ≡ TurnOf place →
-        JobStands code.now plan.now.readings state.old (ReleaseAt place) }
+    requires start { (index : ℕ) → turn_seen turn ≡ TurnOf index → StartStands state.old index }
+    requires job { (index : ℕ) → turn_seen turn ≡ TurnOf index →
+        JobStands code.now plan.now.readings state.old (ReleaseAt index) }
     ensures led { IfOk result
         (λ acted. IsLedTry code.now
         (turn_acts (code_of code.now.program) plan.now.readings (turn_seen turn) (state_of code.now state.old))
@@ -250,8 +250,8 @@ fn turn_acts(
 {
     match turn {
         Turn::Idle => Ok(Acted::Done(None)),
-        Turn::Of(place) => {
-            let acted = release_turn(alloc, code, plan, state, place, told)?;
+        Turn::Of(index) => {
+            let acted = release_turn(alloc, code, plan, state, index, told)?;
             Ok(acted)
         }
     }
@@ -262,7 +262,7 @@ fn turn_of(state: &RunState) -> Turn
     ensures { (code : Listing) → Some (turn_seen result) ≡ by_priority (state_of code state.now) }
 {
     match state.releases.chosen(state.registry.as_slice()) {
-        Some(place) => Turn::Of(place),
+        Some(index) => Turn::Of(index),
         None => Turn::Idle,
     }
 }

@@ -95,15 +95,15 @@ pub fn put(code: &OpList<'_>, memory: &RegionHeap, frame: &mut Frame, field: Fie
 }
 
 /// PUTSTATIC: the assignment to a static field.
-pub fn put_static(frame: &mut Frame, place: u32) -> Effect
-    ensures does { (code : Listing) → Does code (put_static (frame_of code frame.old) place) result frame.new }
+pub fn put_static(frame: &mut Frame, index: u32) -> Effect
+    ensures does { (code : Listing) → Does code (put_static (frame_of code frame.old) index) result frame.new }
     ensures opened { frame.new.opened ≡ frame.old.opened }
 {
     let Some(value) = frame.pop() else {
         return Effect::Stuck;
     };
     Effect::StoresStatic {
-        place: place as usize,
+        index: index as usize,
         value,
     }
 }

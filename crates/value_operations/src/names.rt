@@ -113,12 +113,12 @@ pub fn get(
 }
 
 /// GETSTATIC: the value of a static field.
-pub fn get_static(memory: &RegionHeap, frame: &mut Frame, place: u32) -> Result<Effect, Memory>
+pub fn get_static(memory: &RegionHeap, frame: &mut Frame, index: u32) -> Result<Effect, Memory>
     ensures does { (code : Listing) (rows : List Reading) (unit : ℕ) → IfOk result (λ effect.
-        Does code (get_static (world memory.now rows unit) (frame_of code frame.old) place) effect frame.new) }
+        Does code (get_static (world memory.now rows unit) (frame_of code frame.old) index) effect frame.new) }
     ensures opened { frame.new.opened ≡ frame.old.opened }
 {
-    let Some(value) = memory.static_field(place as usize) else {
+    let Some(value) = memory.static_field(index as usize) else {
         return Ok(Effect::Stuck);
     };
     frame.push(value)?;

@@ -68,7 +68,7 @@ row_fits (define_scope_flag_parent_first d e v w) h =
 -- the node of the flags
 pub flags_fit : {N : List Node} {i : List Lexeme} (flags : FlagSet) → Fits N i → Fits (with_flags N flags) i
 unfolding with_flags flags_node flags_at HasInt
-flags_fit {N} {i} flags h = go (has_effect flags) flags.place
+flags_fit {N} {i} flags h = go (has_effect flags) flags.position
   where
     row : Pos → Node
     row p = flags_at p flags

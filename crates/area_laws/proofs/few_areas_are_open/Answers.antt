@@ -13,10 +13,10 @@ returns-clause-outside c =
 
 pub returns-clause-under_way : goal.returns-clause-under_way
 returns-clause-under_way c =
-    λ plan moment s reached place activity e fewer. fewer_under_way c.args.checked.now.program
-    c.checked_is_accepted.ensures plan moment s reached place activity e fewer
+    λ plan moment s reached index activity e fewer. fewer_under_way c.args.checked.now.program
+    c.checked_is_accepted.ensures plan moment s reached index activity e fewer
 
 pub returns-clause-start : goal.returns-clause-start
 returns-clause-start c =
-    λ plan moment s reached place r row turn there waits is_row. fewer_at_start c.args.checked.now.program
-    c.checked_is_accepted.ensures plan moment s reached place r row turn there waits is_row
+    λ plan moment s reached index r row turn there waits is_row. fewer_at_start c.args.checked.now.program
+    c.checked_is_accepted.ensures plan moment s reached index r row turn there waits is_row

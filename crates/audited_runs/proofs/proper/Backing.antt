@@ -16,10 +16,10 @@ pub record RegistersWell (code : Code) (r : ℕ) (o : Object) : Type 0 where
 
 -- a place for a fault, where the effect may have one; the priority that comes back to a release that a frame leaves
 abbrev pub Backs : (Pos → Type 0) → Code → List Object → Job → Activity → Pos → Effect → Type 0
-Backs F code objects job a place (Goes f) = Unit {0}
-Backs F code objects job a place (Prints f label value) = Unit {0}
-Backs F code objects job a place (Leaves f value) =
+Backs F code objects job a position (Goes f) = Unit {0}
+Backs F code objects job a position (Prints f label value) = Unit {0}
+Backs F code objects job a position (Leaves f value) =
     (p : ℕ) → job ≡ ReleaseAt p → IsPriority (unwrap_or f.saved a.priority)
-Backs F code objects job a place (AsksRegistration f r) =
-    F place × ((o : Object) → slice_get objects r ≡ Some o → RegistersWell code r o)
-Backs F code objects job a place e = F place
+Backs F code objects job a position (AsksRegistration f r) =
+    F position × ((o : Object) → slice_get objects r ≡ Some o → RegistersWell code r o)
+Backs F code objects job a position e = F position

@@ -75,26 +75,26 @@ module _ (code : Code)
 
     of_node : (id : ℕ) → Stands code.program.nodes id → (node : Node) → AllStand code (node_ops code ops id node)
     unfolding node_ops node_of
-    of_node id here (Number place value is_negative) = one code ops h id here (PUSH id) refl
-    of_node id here (True place) = one code ops h id here (PUSH id) refl
-    of_node id here (False place) = one code ops h id here (PUSH id) refl
-    of_node id here (Null place) = one code ops h id here (PUSH id) refl
-    of_node id here (This place) = one code ops h id here (THIS id) refl
-    of_node id here (SimpleName place name) = of_name code ops h id here (binding code id)
-    of_node id here (FieldAccess place name object) = of_access code ops h id here object (binding code id)
-    of_node id here (Element place array index) =
+    of_node id here (Number position value is_negative) = one code ops h id here (PUSH id) refl
+    of_node id here (True position) = one code ops h id here (PUSH id) refl
+    of_node id here (False position) = one code ops h id here (PUSH id) refl
+    of_node id here (Null position) = one code ops h id here (PUSH id) refl
+    of_node id here (This position) = one code ops h id here (THIS id) refl
+    of_node id here (SimpleName position name) = of_name code ops h id here (binding code id)
+    of_node id here (FieldAccess position name object) = of_access code ops h id here object (binding code id)
+    of_node id here (Element position array index) =
         both code (ops array) _ (h array) (behind_part code ops h id here index (ELEM id) refl)
-    of_node id here (Parenthesized place inner) = h inner
-    of_node id here (Unary place operator operand) = behind_part code ops h id here operand (UNARY id) refl
-    of_node id here (Binary place operator left right) = of_binary code ops h id here operator left right
-    of_node id here (New place name_place name arguments) = of_new code ops h id here arguments (binding code id)
-    of_node id here (NewArray place element length) = behind_part code ops h id here length (ALLOCARRAY id) refl
-    of_node id here (Call place name object arguments) = of_call code ops h id here object arguments (binding code id)
-    of_node id here (Cast place name_place name operand) = behind_part code ops h id here operand (CAST id) refl
-    of_node id here (LocalNode place name flags declared_type) = one code ops h id here (ZERO id) refl
-    of_node id here (LocalWithValue place name_place name flags declared_type value) =
+    of_node id here (Parenthesized position inner) = h inner
+    of_node id here (Unary position operator operand) = behind_part code ops h id here operand (UNARY id) refl
+    of_node id here (Binary position operator left right) = of_binary code ops h id here operator left right
+    of_node id here (New position name_place name arguments) = of_new code ops h id here arguments (binding code id)
+    of_node id here (NewArray position element length) = behind_part code ops h id here length (ALLOCARRAY id) refl
+    of_node id here (Call position name object arguments) = of_call code ops h id here object arguments (binding code id)
+    of_node id here (Cast position name_place name operand) = behind_part code ops h id here operand (CAST id) refl
+    of_node id here (LocalNode position name flags declared_type) = one code ops h id here (ZERO id) refl
+    of_node id here (LocalWithValue position name_place name flags declared_type value) =
         behind_part code ops h id here value (STORE id) refl
-    of_node id here (Assign place target value) = go (slice_get code.program.nodes target)
+    of_node id here (Assign position target value) = go (slice_get code.program.nodes target)
       where
         go : (o : Option Node) →
             AllStand code (elim o as (λ _. List Op) [
@@ -103,20 +103,20 @@ module _ (code : Code)
             ])
         go None = tt
         go (Some node) = of_assign code ops h id here value (binding code target) node
-    of_node id here (ExpressionStatement place expression) =
+    of_node id here (ExpressionStatement position expression) =
         both code (ops expression) _ (h expression)
         (either code (leaves_value (binding code expression)) _ _ (one code ops h id here (DROP id) refl) tt)
-    of_node id here (Block place statements) = all_of code ops h statements
-    of_node id here (If place condition then_part else_part) = behind_part code ops h id here condition (IF id) refl
-    of_node id here (While place condition body) = behind_part code ops h id here condition (LOOP id) refl
-    of_node id here (For place first condition step body) =
+    of_node id here (Block position statements) = all_of code ops h statements
+    of_node id here (If position condition then_part else_part) = behind_part code ops h id here condition (IF id) refl
+    of_node id here (While position condition body) = behind_part code ops h id here condition (LOOP id) refl
+    of_node id here (For position first condition step body) =
         both code (ops first) _ (h first) (behind_part code ops h id here condition (LOOP id) refl)
-    of_node id here (Return place value) = of_return code ops h id here value
-    of_node id here (MethodNode place name flags result_type parameters body) = of_method result_type body
-    of_node id here (SuperCall place arguments) = of_super code ops h id here arguments (binding code id)
-    of_node id here (Constructor place name flags parameters super_call body) =
+    of_node id here (Return position value) = of_return code ops h id here value
+    of_node id here (MethodNode position name flags result_type parameters body) = of_method result_type body
+    of_node id here (SuperCall position arguments) = of_super code ops h id here arguments (binding code id)
+    of_node id here (Constructor position name flags parameters super_call body) =
         of_constructor id super_call (ops body) (h body)
-    of_node id here (Class place name flags header members) = of_constructor id None [] tt
+    of_node id here (Class position name flags header members) = of_constructor id None [] tt
     of_node id here _ = tt
 
     of_next : (id : ℕ) → AllStand code (next_ops code id ops)
@@ -165,9 +165,9 @@ module _ (code : Code)
 
   of_turn : (id : ℕ) → Stands code.program.nodes id → (node : Node) → Fronts (turn_ops code id node)
   unfolding turn_ops node_of
-  of_turn id here (While place condition body) =
+  of_turn id here (While position condition body) =
       fronts _ (both code _ _ (all_stand body) (behind_part code (ops_of code) all_stand id here condition (LOOP id) refl))
-  of_turn id here (For place first condition step body) =
+  of_turn id here (For position first condition step body) =
       fronts _
       (both code _ _ (all_stand body)
       (both code _ _ (all_stand step) (behind_part code (ops_of code) all_stand id here condition (LOOP id) refl)))

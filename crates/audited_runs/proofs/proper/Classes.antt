@@ -41,7 +41,7 @@ mapped_at {A} {B} f (x ∷ xs) j y e = go (f x) refl j e (λ i g. mapped_at f xs
 pub record IsAt (nodes : List Node) (c : WrittenClass) : Type 0 where
   pub node : Node
   pub there : slice_get nodes c.node ≡ Some node
-  pub placed : place_of node ≡ c.place
+  pub placed : place_of node ≡ c.position
 
 class_stands : (nodes : List Node) (id : ℕ) (c : WrittenClass) → class_at nodes id ≡ Some c → IsAt nodes c
 unfolding class_of place_of

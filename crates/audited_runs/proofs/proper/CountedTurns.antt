@@ -76,16 +76,16 @@ module _ (n : ℕ) where
         go r Ended = nothing_good (S n)
         go r Dropped = nothing_good (S n)
 
-    short_area : (place : Pos) (scope bytes : ℕ) → (S n) (area_opened s place scope bytes)
+    short_area : (position : Pos) (scope bytes : ℕ) → (S n) (area_opened s position scope bytes)
     unfolding area_opened
-    short_area place scope bytes =
-        short_opening n s TheSequencer s.activity place scope (innermost s.activity.areas) bytes _ h
+    short_area position scope bytes =
+        short_opening n s TheSequencer s.activity position scope (innermost s.activity.areas) bytes _ h
         (λ t k m. silent n _ m)
 
-    short_safelet : (place : Pos) (class area : ℕ) → (S n) (safelet_made code s place class area)
+    short_safelet : (position : Pos) (class area : ℕ) → (S n) (safelet_made code s position class area)
     unfolding safelet_made
-    short_safelet place class area =
-        short_made n s TheSequencer s.activity place class area (new_slots code.program class) _ h (λ t k m. silent n _ m)
+    short_safelet position class area =
+        short_made n s TheSequencer s.activity position class area (new_slots code.program class) _ h (λ t k m. silent n _ m)
 
     short_body : (r : ℕ) (body : Body) → GoodIf (S n) (body_called code s r body)
     unfolding body_called

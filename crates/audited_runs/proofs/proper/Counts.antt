@@ -89,11 +89,11 @@ module _ (n : ℕ) where
   two_lines : (s : State) (es : List Event) → length es ≤ 2 → length s.releases ≤ n → S (telling s es)
   two_lines s es l h = record { told = omega (arith, l); more = omega (arith, h) }
 
-  short_fault : (s : State) (job : Job) (a : Activity) (place : Pos) (fault : RunFault) → length s.releases ≤ n →
-      S (fault_in s job a place fault)
+  short_fault : (s : State) (job : Job) (a : Activity) (position : Pos) (fault : RunFault) → length s.releases ≤ n →
+      S (fault_in s job a position fault)
   unfolding fault_in
-  short_fault s TheSequencer a place fault h = two_lines (record s { phase = _; operation = _; outcome = _ }) _ (omega arith) h
-  short_fault s (ReleaseAt p) a place fault h =
+  short_fault s TheSequencer a position fault h = two_lines (record s { phase = _; operation = _; outcome = _ }) _ (omega arith) h
+  short_fault s (ReleaseAt p) a position fault h =
       two_lines (with_status (closed_all s a.frames) p Ended) _
       (let l = one_if (slice_get s.releases p) (λ (r : Release). event.End s.unit r.handler r.number) in omega (arith, l))
       (many_status n (closed_all s a.frames) p Ended (many_closed_all n a.frames s h))
@@ -129,23 +129,23 @@ module _ (n : ℕ) where
       go true h = omega arith
       go false h = h
 
-  pub short_opening : (s : State) (job : Job) (a : Activity) (place : Pos) (scope : ℕ) (parent : Option ℕ) (bytes : ℕ)
+  pub short_opening : (s : State) (job : Job) (a : Activity) (position : Pos) (scope : ℕ) (parent : Option ℕ) (bytes : ℕ)
       (next : State → ℕ → Step) → length s.releases ≤ n →
       ((t : State) (k : ℕ) → length t.releases ≤ n → S (next t k)) →
-      S (opening s job a place scope parent bytes next)
+      S (opening s job a position scope parent bytes next)
   unfolding opening
-  short_opening s job a place scope parent bytes next h more =
+  short_opening s job a position scope parent bytes next h more =
       good_if S (has_store_for s bytes) _ _ (λ e. more (with_area s scope parent bytes) (length s.areas) h)
-      (λ e. short_fault s job a place _ h)
+      (λ e. short_fault s job a position _ h)
 
-  pub short_made : (s : State) (job : Job) (a : Activity) (place : Pos) (class area : ℕ) (slots : List Value)
+  pub short_made : (s : State) (job : Job) (a : Activity) (position : Pos) (class area : ℕ) (slots : List Value)
       (next : State → ℕ → Step) → length s.releases ≤ n →
       ((t : State) (k : ℕ) → length t.releases ≤ n → S (next t k)) →
-      S (allocating s job a place class area slots next)
+      S (allocating s job a position class area slots next)
   unfolding allocating
-  short_made s job a place class area slots next h more =
+  short_made s job a position class area slots next h more =
       good_if S (has_room s area (length slots)) _ _
-      (λ e. more (with_object s class area slots) (length s.objects) h) (λ e. short_fault s job a place _ h)
+      (λ e. more (with_object s class area slots) (length s.objects) h) (λ e. short_fault s job a position _ h)
 
   short_released : (s : State) (r : ℕ) → length s.releases ≤ n → S (released s r)
   unfolding released
@@ -179,26 +179,26 @@ module _ (n : ℕ) where
       kept = let e = length_map dropped_release s.releases in omega (arith, e, h)
 
   module _ (code : Code) (s : State) (h : length s.releases ≤ n) (job : Job) (a : Activity) (below : List Frame)
-      (place : Pos) where
+      (position : Pos) where
     framed : (t : State) (f : Frame) → length t.releases ≤ n → S (silently (with_frame t job a f below))
     framed t f k = silent _ (many_with n t job (record a { frames = f ∷ below }) k)
 
-    short_called : (frames : List Frame) (g : Frame) → S (called code s job a frames place g)
+    short_called : (frames : List Frame) (g : Frame) → S (called code s job a frames position g)
     unfolding called
     short_called frames g =
-        good_if S (is_full frames) _ _ (λ e. short_fault s job a place _ h)
+        good_if S (is_full frames) _ _ (λ e. short_fault s job a position _ h)
         (λ e. good_option S (ceiling_entered code s g) _ _
         (λ f. silent _ (many_with n s job (record a { frames = g ∷ frames }) h))
-        (λ ceiling f. good_if S (nat_lt ceiling a.priority) _ _ (λ k. short_fault s job a place _ h)
+        (λ ceiling f. good_if S (nat_lt ceiling a.priority) _ _ (λ k. short_fault s job a position _ h)
         (λ k. two_lines _ _ (let l = one_prio s job a.priority ceiling in omega (arith, l)) (many_with n s job _ h))))
 
     short_opens : (frames : List Frame) (g : Frame) (scope bytes : ℕ) →
-        S (opened_in s job a frames place g scope bytes)
+        S (opened_in s job a frames position g scope bytes)
     unfolding opened_in
     short_opens frames g scope bytes =
-        good_if S (is_some (area_with_scope s scope a.areas)) _ _ (λ e. short_fault s job a place _ h)
-        (λ e. good_if S (is_full frames) _ _ (λ f. short_fault s job a place _ h)
-        (λ f. short_opening s job a place scope (Some g.area) bytes _ h
+        good_if S (is_some (area_with_scope s scope a.areas)) _ _ (λ e. short_fault s job a position _ h)
+        (λ e. good_if S (is_full frames) _ _ (λ f. short_fault s job a position _ h)
+        (λ f. short_opening s job a position scope (Some g.area) bytes _ h
         (λ t k m. silent _ (many_with n t job _ m))))
 
     short_left : (f : Frame) (value : Option Value) → S (frame_left s job a f below value)
@@ -242,27 +242,27 @@ module _ (n : ℕ) where
             })
 
     short_registered : (f : Frame) (r : ℕ) (o : Object) →
-        S (registered code s job a place r o (with_frame s job a f below))
+        S (registered code s job a position r o (with_frame s job a f below))
     unfolding registered
     short_registered f r o =
-        good_if S (not (is_init s.phase)) _ _ (λ e. short_fault s job a place _ h)
+        good_if S (not (is_init s.phase)) _ _ (λ e. short_fault s job a position _ h)
         (λ e. good_if S (is_some (handler_number s.registry r)) _ _ (λ k. framed s f h)
-        (λ k. good_if S (not (nat_lt (length s.registry) most_handlers)) _ _ (λ l. short_fault s job a place _ h)
+        (λ k. good_if S (not (nat_lt (length s.registry) most_handlers)) _ _ (λ l. short_fault s job a position _ h)
         (λ l. two_lines (record (with_frame s job a f below) { registry = _ }) _ (omega arith) (many_with n s job (record a { frames = f ∷ below }) h))))
 
-    pub short_applied : (e : Effect) → GoodIf S (applied code s job a below place e)
+    pub short_applied : (e : Effect) → GoodIf S (applied code s job a below position e)
     unfolding applied
     short_applied (Goes f) = some_good S _ (framed s f h)
     short_applied (Prints f text value) =
         some_good S _ (two_lines _ _ (omega arith) (many_with n s job (record a { frames = f ∷ below }) h))
     short_applied (Makes f class slots) =
-        some_good S _ (short_made s job a place class f.area slots _ h (λ t k m. framed t _ m))
+        some_good S _ (short_made s job a position class f.area slots _ h (λ t k m. framed t _ m))
     short_applied (Stores f r slot value) = some_good S _ (framed (record s { objects = _ }) f h)
     short_applied (StoresStatic f k value) = some_good S _ (framed (record s { statics = _ }) f h)
     short_applied (SetsHidden f r values) = some_good S _ (framed (record s { objects = _ }) f h)
     short_applied (SetsCeiling f r ceiling) =
         either_good S (is_sequencer job) _ _ (λ e. some_good S _ (framed (record s { objects = _ }) f h))
-        (λ e. some_good S _ (short_fault s job a place _ h))
+        (λ e. some_good S _ (short_fault s job a position _ h))
     short_applied (Calls f g) = some_good S _ (short_called (f ∷ below) g)
     short_applied (Opens f g scope bytes) = some_good S _ (short_opens (f ∷ below) g scope bytes)
     short_applied (Leaves f value) = some_good S _ (short_left f value)
@@ -273,5 +273,5 @@ module _ (n : ℕ) where
     short_applied (AsksTermination f r) =
         some_good S _
         (short_asked (with_frame s job a f below) r (many_with n s job (record a { frames = f ∷ below }) h))
-    short_applied (Faults fault) = some_good S _ (short_fault s job a place fault h)
+    short_applied (Faults fault) = some_good S _ (short_fault s job a position fault h)
     short_applied Stuck = nothing_good S

@@ -61,17 +61,17 @@ row_number registry handler h few =
 module _ (nodes : List Node) (F : Pos → Type 0) where
   -- ---- what every effect may do
 
-  pub good_fault : (s : State) (job : Job) (a : Activity) (place : Pos) (fault : RunFault) → length s.registry ≤ 64 →
-      F place → Good nodes F (fault_in s job a place fault)
+  pub good_fault : (s : State) (job : Job) (a : Activity) (position : Pos) (fault : RunFault) → length s.registry ≤ 64 →
+      F position → Good nodes F (fault_in s job a position fault)
   unfolding fault_in
-  good_fault s TheSequencer a place fault few h =
+  good_fault s TheSequencer a position fault few h =
       record {
-        events = two_proper nodes F (event.Fault s.unit fault place) (event.Halted s.unit) h tt;
+        events = two_proper nodes F (event.Fault s.unit fault position) (event.Halted s.unit) h tt;
         few = few;
       }
-  good_fault s (ReleaseAt p) a place fault few h =
+  good_fault s (ReleaseAt p) a position fault few h =
       record {
-        events = All-cons (IsProper nodes F) (event.Fault s.unit fault place) _ h
+        events = All-cons (IsProper nodes F) (event.Fault s.unit fault position) _ h
             (elim_proper nodes F (slice_get s.releases p) (λ (r : Release). event.End s.unit r.handler r.number ∷ [])
             (λ r. one_proper nodes F (event.End s.unit r.handler r.number) tt));
         few = few_as s (with_status (closed_all s a.frames) p Ended) (registry_closed_all a.frames s) few;
@@ -97,23 +97,23 @@ module _ (nodes : List Node) (F : Pos → Type 0) where
       (elim_proper nodes F (slice_get s.releases p) (λ (r : Release). event.Prio s.unit r.handler after ∷ [])
       (λ r. one_proper nodes F (event.Prio s.unit r.handler after) (h p refl)))
 
-  pub good_opening : (s : State) (job : Job) (a : Activity) (place : Pos) (scope : ℕ) (parent : Option ℕ) (bytes : ℕ)
-      (next : State → ℕ → Step) → length s.registry ≤ 64 → F place →
+  pub good_opening : (s : State) (job : Job) (a : Activity) (position : Pos) (scope : ℕ) (parent : Option ℕ) (bytes : ℕ)
+      (next : State → ℕ → Step) → length s.registry ≤ 64 → F position →
       ((t : State) (n : ℕ) → length t.registry ≤ 64 → Good nodes F (next t n)) →
-      Good nodes F (opening s job a place scope parent bytes next)
+      Good nodes F (opening s job a position scope parent bytes next)
   unfolding opening
-  good_opening s job a place scope parent bytes next few h more =
+  good_opening s job a position scope parent bytes next few h more =
       good_if (Good nodes F) (has_store_for s bytes) _ _ (λ e. more (with_area s scope parent bytes) (length s.areas) few)
-      (λ e. good_fault s job a place _ few h)
+      (λ e. good_fault s job a position _ few h)
 
-  pub good_made : (s : State) (job : Job) (a : Activity) (place : Pos) (class area : ℕ) (slots : List Value)
-      (next : State → ℕ → Step) → length s.registry ≤ 64 → F place →
+  pub good_made : (s : State) (job : Job) (a : Activity) (position : Pos) (class area : ℕ) (slots : List Value)
+      (next : State → ℕ → Step) → length s.registry ≤ 64 → F position →
       ((t : State) (n : ℕ) → length t.registry ≤ 64 → Good nodes F (next t n)) →
-      Good nodes F (allocating s job a place class area slots next)
+      Good nodes F (allocating s job a position class area slots next)
   unfolding allocating
-  good_made s job a place class area slots next few h more =
+  good_made s job a position class area slots next few h more =
       good_if (Good nodes F) (has_room s area (length slots)) _ _
-      (λ e. more (with_object s class area slots) (length s.objects) few) (λ e. good_fault s job a place _ few h)
+      (λ e. more (with_object s class area slots) (length s.objects) few) (λ e. good_fault s job a position _ few h)
 
   -- ---- releases
 
@@ -156,7 +156,7 @@ module _ (nodes : List Node) (F : Pos → Type 0) where
 
   module _ (code : Code) (s : State) (few : length s.registry ≤ 64)
       (labels : (id : ℕ) → list_all is_text_byte (label nodes id) ≡ true)
-      (ceilings : CeilingsArePriorities s.objects) (job : Job) (a : Activity) (below : List Frame) (place : Pos) where
+      (ceilings : CeilingsArePriorities s.objects) (job : Job) (a : Activity) (below : List Frame) (position : Pos) where
     good_frame : (t : State) (f : Frame) → length t.registry ≤ 64 → Good nodes F (silently (with_frame t job a f below))
     good_frame t f few_t = good_silent nodes F _ (few_with t job (record a { frames = f ∷ below }) few_t)
 
@@ -177,25 +177,25 @@ module _ (nodes : List Node) (F : Pos → Type 0) where
         by None k = absurd (cc (k))
         by (Some r) k = there r (object_at s r) refl k
 
-    good_called : (frames : List Frame) (g : Frame) → F place → Good nodes F (called code s job a frames place g)
+    good_called : (frames : List Frame) (g : Frame) → F position → Good nodes F (called code s job a frames position g)
     unfolding called
     good_called frames g h =
-        good_if (Good nodes F) (is_full frames) _ _ (λ e. good_fault s job a place _ few h)
+        good_if (Good nodes F) (is_full frames) _ _ (λ e. good_fault s job a position _ few h)
         (λ e. good_option (Good nodes F) (ceiling_entered code s g) _ _
         (λ f. good_silent nodes F _ (few_with s job (record a { frames = g ∷ frames }) few))
-        (λ ceiling f. good_if (Good nodes F) (nat_lt ceiling a.priority) _ _ (λ k. good_fault s job a place _ few h)
+        (λ ceiling f. good_if (Good nodes F) (nat_lt ceiling a.priority) _ _ (λ k. good_fault s job a position _ few h)
         (λ k. record {
           events = prio_proper s job a.priority ceiling (λ p same. entered g ceiling f);
           few = few_with s job _ few;
         })))
 
-    good_opens : (frames : List Frame) (g : Frame) (scope bytes : ℕ) → F place →
-        Good nodes F (opened_in s job a frames place g scope bytes)
+    good_opens : (frames : List Frame) (g : Frame) (scope bytes : ℕ) → F position →
+        Good nodes F (opened_in s job a frames position g scope bytes)
     unfolding opened_in
     good_opens frames g scope bytes h =
-        good_if (Good nodes F) (is_some (area_with_scope s scope a.areas)) _ _ (λ e. good_fault s job a place _ few h)
-        (λ e. good_if (Good nodes F) (is_full frames) _ _ (λ f. good_fault s job a place _ few h)
-        (λ f. good_opening s job a place scope (Some g.area) bytes _ few h
+        good_if (Good nodes F) (is_some (area_with_scope s scope a.areas)) _ _ (λ e. good_fault s job a position _ few h)
+        (λ e. good_if (Good nodes F) (is_full frames) _ _ (λ f. good_fault s job a position _ few h)
+        (λ f. good_opening s job a position scope (Some g.area) bytes _ few h
         (λ t n few_t. good_silent nodes F _ (few_with t job _ few_t))))
 
     good_left : (f : Frame) (value : Option Value) →
@@ -240,14 +240,14 @@ module _ (nodes : List Node) (F : Pos → Type 0) where
     has_place : (n : ℕ) → not (nat_lt n most_handlers) ≡ false → n + 1 ≤ 64
     has_place n e = grind (arith, nat_tests, e)
 
-    good_registered : (f : Frame) (r : ℕ) (o : Object) → F place → RegistersWell code r o →
-        Good nodes F (registered code s job a place r o (with_frame s job a f below))
+    good_registered : (f : Frame) (r : ℕ) (o : Object) → F position → RegistersWell code r o →
+        Good nodes F (registered code s job a position r o (with_frame s job a f below))
     unfolding registered
     good_registered f r o h well =
-        good_if (Good nodes F) (not (is_init s.phase)) _ _ (λ e. good_fault s job a place _ few h)
+        good_if (Good nodes F) (not (is_init s.phase)) _ _ (λ e. good_fault s job a position _ few h)
         (λ e. good_if (Good nodes F) (is_some (handler_number s.registry r)) _ _ (λ k. good_frame s f few)
         (λ k. good_if (Good nodes F) (not (nat_lt (length s.registry) most_handlers)) _ _
-        (λ l. good_fault s job a place _ few h)
+        (λ l. good_fault s job a position _ few h)
         (λ l. record {
           events = one_proper nodes F _ (has_place (length s.registry) l, well.named, well.priority);
           few = subst
@@ -258,7 +258,7 @@ module _ (nodes : List Node) (F : Pos → Type 0) where
 
     -- ---- all effects
 
-    pub good_applied : (e : Effect) → Backs F code s.objects job a place e → GoodIf (Good nodes F) (applied code s job a below place e)
+    pub good_applied : (e : Effect) → Backs F code s.objects job a position e → GoodIf (Good nodes F) (applied code s job a below position e)
     unfolding applied
     good_applied (Goes f) h = some_good (Good nodes F) _ (good_frame s f few)
     good_applied (Prints f text value) h =
@@ -268,14 +268,14 @@ module _ (nodes : List Node) (F : Pos → Type 0) where
           few = few_with s job (record a { frames = f ∷ below }) few;
         })
     good_applied (Makes f class slots) h =
-        some_good (Good nodes F) _ (good_made s job a place class f.area slots _ few h (λ t n few_t. good_frame t _ few_t))
+        some_good (Good nodes F) _ (good_made s job a position class f.area slots _ few h (λ t n few_t. good_frame t _ few_t))
     good_applied (Stores f r slot value) h = some_good (Good nodes F) _ (good_frame (record s { objects = _ }) f few)
     good_applied (StoresStatic f n value) h = some_good (Good nodes F) _ (good_frame (record s { statics = _ }) f few)
     good_applied (SetsHidden f r values) h = some_good (Good nodes F) _ (good_frame (record s { objects = _ }) f few)
     good_applied (SetsCeiling f r ceiling) h =
         either_good (Good nodes F) (is_sequencer job) _ _
         (λ e. some_good (Good nodes F) _ (good_frame (record s { objects = _ }) f few))
-        (λ e. some_good (Good nodes F) _ (good_fault s job a place _ few h))
+        (λ e. some_good (Good nodes F) _ (good_fault s job a position _ few h))
     good_applied (Calls f g) h = some_good (Good nodes F) _ (good_called (f ∷ below) g h)
     good_applied (Opens f g scope bytes) h = some_good (Good nodes F) _ (good_opens (f ∷ below) g scope bytes h)
     good_applied (Leaves f value) h = some_good (Good nodes F) _ (good_left f value h)
@@ -287,5 +287,5 @@ module _ (nodes : List Node) (F : Pos → Type 0) where
     good_applied (AsksTermination f r) h =
         some_good (Good nodes F) _
         (good_asked (with_frame s job a f below) r (few_with s job (record a { frames = f ∷ below }) few))
-    good_applied (Faults fault) h = some_good (Good nodes F) _ (good_fault s job a place fault few h)
+    good_applied (Faults fault) h = some_good (Good nodes F) _ (good_fault s job a position fault few h)
     good_applied Stuck h = nothing_good (Good nodes F)

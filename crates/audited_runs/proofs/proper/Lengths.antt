@@ -67,10 +67,10 @@ module _ (n : ℕ) (code : Code) (rows : List ReadingRow) (s : State) (h : lengt
       go false None = omega arith
       go false (Some r) = omega arith
 
-  by_choice : (place : Option ℕ) →
+  by_choice : (index : Option ℕ) →
       GoodIf W
-      (then_try (turn_taken s (elim place [ None ↦ IdleTurn | Some place ↦ TurnOf place ]))
-      (turn_acts code rows (elim place [ None ↦ IdleTurn | Some place ↦ TurnOf place ])))
+      (then_try (turn_taken s (elim index [ None ↦ IdleTurn | Some index ↦ TurnOf index ]))
+      (turn_acts code rows (elim index [ None ↦ IdleTurn | Some index ↦ TurnOf index ])))
   unfolding turn_taken turn_acts
   by_choice None =
       after_turn (turn_taken s IdleTurn) (turn_acts code rows IdleTurn) (one_turn IdleTurn)

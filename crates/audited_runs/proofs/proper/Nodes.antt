@@ -123,12 +123,12 @@ module _ (code : Code) where
 
     pub of_assign : (value : ℕ) (b : Binding) (target : Node) → AllStand (assign_ops ops id value b target)
     unfolding assign_ops node_of
-    of_assign value (Local k) (SimpleName place name) = behind_part value (STORE id) refl
-    of_assign value (Field k) (SimpleName place name) = (at (THIS id) refl, behind_part value (PUT id) refl)
-    of_assign value (Field k) (FieldAccess place name object) =
+    of_assign value (Local k) (SimpleName position name) = behind_part value (STORE id) refl
+    of_assign value (Field k) (SimpleName position name) = (at (THIS id) refl, behind_part value (PUT id) refl)
+    of_assign value (Field k) (FieldAccess position name object) =
         both (ops object) _ (h object) (behind_part value (PUT id) refl)
     of_assign value (Static k) _ = behind_part value (PUTSTATIC id) refl
-    of_assign value _ (Element place array index) =
+    of_assign value _ (Element position array index) =
         both (ops array) _ (h array) (both (ops index) _ (h index) (behind_part value (PUTELEM id) refl))
     of_assign value _ _ = tt
 

@@ -80,8 +80,8 @@ module _ (forest : Forest) (accepted : IsAcceptedProgram forest) (files longest 
       let at : IsAt forest.nodes w.declared = written_at forest accepted.is_accepted class w.row w.declared w.stands w.is in
       subst F
       (at.placed
-      ∙ sym (ap (λ (o : Option ClassRow). elim (o >>= (λ (row : ClassRow). row.written)) as (λ _. Pos) [ None ↦ nowhere | Some c ↦ c.place ]) w.stands
-      ∙ ap (λ (o : Option WrittenClass). elim o as (λ _. Pos) [ None ↦ nowhere | Some c ↦ c.place ]) w.is))
+      ∙ sym (ap (λ (o : Option ClassRow). elim (o >>= (λ (row : ClassRow). row.written)) as (λ _. Pos) [ None ↦ nowhere | Some c ↦ c.position ]) w.stands
+      ∙ ap (λ (o : Option WrittenClass). elim o as (λ _. Pos) [ None ↦ nowhere | Some c ↦ c.position ]) w.is))
       (fit.places w.declared.node at.node at.there)
 
   handler_place : (class : ℕ) → IsConcrete p class → is_handler p class ≡ true → F (class_place p class)

@@ -115,16 +115,16 @@ module _ (nodes : List Node) (F : Pos → Type 0) (code : Code) (rows : List Rea
 
     -- ---- the sequencer
 
-    area_good : (place : Pos) (scope bytes : ℕ) → F place → Good nodes F (area_opened s place scope bytes)
+    area_good : (position : Pos) (scope bytes : ℕ) → F position → Good nodes F (area_opened s position scope bytes)
     unfolding area_opened
-    area_good place scope bytes h =
-        good_opening nodes F s TheSequencer s.activity place scope (innermost s.activity.areas) bytes _ few h
+    area_good position scope bytes h =
+        good_opening nodes F s TheSequencer s.activity position scope (innermost s.activity.areas) bytes _ few h
         (λ t n few_t. good_silent nodes F _ few_t)
 
-    safelet_good : (place : Pos) (class area : ℕ) → F place → Good nodes F (safelet_made code s place class area)
+    safelet_good : (position : Pos) (class area : ℕ) → F position → Good nodes F (safelet_made code s position class area)
     unfolding safelet_made
-    safelet_good place class area h =
-        good_made nodes F s TheSequencer s.activity place class area (new_slots code.program class) _ few h
+    safelet_good position class area h =
+        good_made nodes F s TheSequencer s.activity position class area (new_slots code.program class) _ few h
         (λ t n few_t. good_silent nodes F _ few_t)
 
     body_good : (r : ℕ) (body : Body) → GoodIf (Good nodes F) (body_called code s r body)
@@ -208,10 +208,10 @@ module _ (nodes : List Node) (F : Pos → Type 0) (code : Code) (rows : List Rea
         (elim_proper nodes F (slice_get s.releases p) (λ (r : Release). event.Run s.unit r.handler r.number ∷ [])
         (λ r. one_proper nodes F (event.Run s.unit r.handler r.number) tt))
 
-    by_choice : is_exec s.phase ≡ true → (place : Option ℕ) → chosen s ≡ place →
+    by_choice : is_exec s.phase ≡ true → (index : Option ℕ) → chosen s ≡ index →
         GoodIf (Good nodes F)
-        (then_try (turn_taken s (elim place [ None ↦ IdleTurn | Some place ↦ TurnOf place ]))
-        (turn_acts code rows (elim place [ None ↦ IdleTurn | Some place ↦ TurnOf place ])))
+        (then_try (turn_taken s (elim index [ None ↦ IdleTurn | Some index ↦ TurnOf index ]))
+        (turn_acts code rows (elim index [ None ↦ IdleTurn | Some index ↦ TurnOf index ])))
     unfolding turn_taken turn_acts
     by_choice exec None e =
         tried_good nodes F (turn_taken s IdleTurn) (turn_acts code rows IdleTurn) (turn_proper IdleTurn)

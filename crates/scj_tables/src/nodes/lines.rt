@@ -23,7 +23,7 @@ enum Field<'a> {
 pub fn print_node<W: Write>(node: &Node, out: &mut W) -> Result<(), Stop> {
     match node {
         Node::Class {
-            place,
+            position,
             name,
             flags,
             header,
@@ -31,7 +31,7 @@ pub fn print_node<W: Write>(node: &Node, out: &mut W) -> Result<(), Stop> {
         } => print_line(
             out,
             "Class",
-            *place,
+            *position,
             &[
                 Named(name.bytes()),
                 Optional(*flags),
@@ -40,7 +40,7 @@ pub fn print_node<W: Write>(node: &Node, out: &mut W) -> Result<(), Stop> {
             ],
         ),
         Node::Flags {
-            place,
+            position,
             define_scope,
             scope,
             runs_in,
@@ -50,7 +50,7 @@ pub fn print_node<W: Write>(node: &Node, out: &mut W) -> Result<(), Stop> {
         } => print_line(
             out,
             "Flags",
-            *place,
+            *position,
             &[
                 Optional(*define_scope),
                 Optional(*scope),
@@ -61,70 +61,70 @@ pub fn print_node<W: Write>(node: &Node, out: &mut W) -> Result<(), Stop> {
             ],
         ),
         Node::DefineScope {
-            place,
+            position,
             first,
             second,
             parent_first,
         } => print_line(
             out,
             "DefineScope",
-            *place,
+            *position,
             &[Child(*first), Child(*second), Flag(*parent_first)],
         ),
-        Node::ScopeName { place, name } => print_line(
+        Node::ScopeName { position, name } => print_line(
             out,
             "ScopeName",
-            *place,
+            *position,
             &[Named(name.bytes())],
         ),
         Node::Supers {
-            place,
+            position,
             superclass,
             interfaces,
         } => print_line(
             out,
             "Supers",
-            *place,
+            *position,
             &[Optional(*superclass), List(interfaces)],
         ),
         Node::SuperType {
-            place,
+            position,
             name,
             argument,
         } => print_line(
             out,
             "SuperType",
-            *place,
+            *position,
             &[Named(name.bytes()), Optional(*argument)],
         ),
-        Node::TypeArgument { place, name } => print_line(
+        Node::TypeArgument { position, name } => print_line(
             out,
             "TypeArgument",
-            *place,
+            *position,
             &[Named(name.bytes())],
         ),
-        Node::IntType { place, is_array } => print_line(out, "IntType", *place, &[Flag(*is_array)]),
-        Node::BooleanType { place, is_array } => print_line(
+        Node::IntType { position, is_array } => print_line(out, "IntType", *position, &[Flag(*is_array)]),
+        Node::BooleanType { position, is_array } => print_line(
             out,
             "BooleanType",
-            *place,
+            *position,
             &[Flag(*is_array)],
         ),
         Node::ClassType {
-            place,
+            position,
             name,
             argument,
             is_array,
         } => print_line(
             out,
             "ClassType",
-            *place,
+            *position,
             &[Named(name.bytes()), Optional(*argument), Flag(*is_array)],
         ),
-        Node::VoidType { place } => print_line(out, "VoidType", *place, &[]),
-        Node::LongType { place } => print_line(out, "LongType", *place, &[]),
+        Node::VoidType { position } => print_line(out, "VoidType", *position, &[]),
+        Node::LongType { position } => print_line(out, "LongType", *position, &[]),
         Node::Field {
-            place,
+            position,
             name,
             flags,
             declared_type,
@@ -133,7 +133,7 @@ pub fn print_node<W: Write>(node: &Node, out: &mut W) -> Result<(), Stop> {
         } => print_line(
             out,
             "Field",
-            *place,
+            *position,
             &[
                 Named(name.bytes()),
                 Optional(*flags),
@@ -143,7 +143,7 @@ pub fn print_node<W: Write>(node: &Node, out: &mut W) -> Result<(), Stop> {
             ],
         ),
         Node::Method {
-            place,
+            position,
             name,
             flags,
             result_type,
@@ -152,7 +152,7 @@ pub fn print_node<W: Write>(node: &Node, out: &mut W) -> Result<(), Stop> {
         } => print_line(
             out,
             "Method",
-            *place,
+            *position,
             &[
                 Named(name.bytes()),
                 Optional(*flags),
@@ -162,7 +162,7 @@ pub fn print_node<W: Write>(node: &Node, out: &mut W) -> Result<(), Stop> {
             ],
         ),
         Node::Constructor {
-            place,
+            position,
             name,
             flags,
             parameters,
@@ -171,7 +171,7 @@ pub fn print_node<W: Write>(node: &Node, out: &mut W) -> Result<(), Stop> {
         } => print_line(
             out,
             "Constructor",
-            *place,
+            *position,
             &[
                 Named(name.bytes()),
                 Optional(*flags),
@@ -180,39 +180,39 @@ pub fn print_node<W: Write>(node: &Node, out: &mut W) -> Result<(), Stop> {
                 Child(*body),
             ],
         ),
-        Node::Parameters { place, list } => print_line(out, "Parameters", *place, &[List(list)]),
+        Node::Parameters { position, list } => print_line(out, "Parameters", *position, &[List(list)]),
         Node::Parameter {
-            place,
+            position,
             name,
             flags,
             declared_type,
         } => print_line(
             out,
             "Parameter",
-            *place,
+            *position,
             &[Named(name.bytes()), Optional(*flags), Child(*declared_type)],
         ),
-        Node::SuperCall { place, arguments } => print_line(
+        Node::SuperCall { position, arguments } => print_line(
             out,
             "SuperCall",
-            *place,
+            *position,
             &[List(arguments)],
         ),
-        Node::Block { place, statements } => print_line(out, "Block", *place, &[List(statements)]),
-        Node::Empty { place } => print_line(out, "Empty", *place, &[]),
+        Node::Block { position, statements } => print_line(out, "Block", *position, &[List(statements)]),
+        Node::Empty { position } => print_line(out, "Empty", *position, &[]),
         Node::Local {
-            place,
+            position,
             name,
             flags,
             declared_type,
         } => print_line(
             out,
             "Local",
-            *place,
+            *position,
             &[Named(name.bytes()), Optional(*flags), Child(*declared_type)],
         ),
         Node::LocalWithValue {
-            place,
+            position,
             name_place,
             name,
             flags,
@@ -221,7 +221,7 @@ pub fn print_node<W: Write>(node: &Node, out: &mut W) -> Result<(), Stop> {
         } => print_line(
             out,
             "LocalWithValue",
-            *place,
+            *position,
             &[
                 Place(*name_place),
                 Named(name.bytes()),
@@ -231,34 +231,34 @@ pub fn print_node<W: Write>(node: &Node, out: &mut W) -> Result<(), Stop> {
             ],
         ),
         Node::Assign {
-            place,
+            position,
             target,
             value,
-        } => print_line(out, "Assign", *place, &[Child(*target), Child(*value)]),
-        Node::ExpressionStatement { place, expression } => print_line(
+        } => print_line(out, "Assign", *position, &[Child(*target), Child(*value)]),
+        Node::ExpressionStatement { position, expression } => print_line(
             out,
             "ExpressionStatement",
-            *place,
+            *position,
             &[Child(*expression)],
         ),
         Node::If {
-            place,
+            position,
             condition,
             then_part,
             else_part,
         } => print_line(
             out,
             "If",
-            *place,
+            *position,
             &[Child(*condition), Child(*then_part), Optional(*else_part)],
         ),
         Node::While {
-            place,
+            position,
             condition,
             body,
-        } => print_line(out, "While", *place, &[Child(*condition), Child(*body)]),
+        } => print_line(out, "While", *position, &[Child(*condition), Child(*body)]),
         Node::For {
-            place,
+            position,
             first,
             condition,
             step,
@@ -266,112 +266,112 @@ pub fn print_node<W: Write>(node: &Node, out: &mut W) -> Result<(), Stop> {
         } => print_line(
             out,
             "For",
-            *place,
+            *position,
             &[Child(*first), Child(*condition), Child(*step), Child(*body)],
         ),
-        Node::Return { place, value } => print_line(out, "Return", *place, &[Optional(*value)]),
+        Node::Return { position, value } => print_line(out, "Return", *position, &[Optional(*value)]),
         Node::Binary {
-            place,
+            position,
             operator,
             left,
             right,
         } => print_line(
             out,
             "Binary",
-            *place,
+            *position,
             &[Number(*operator as u32), Child(*left), Child(*right)],
         ),
         Node::Unary {
-            place,
+            position,
             operator,
             operand,
         } => print_line(
             out,
             "Unary",
-            *place,
+            *position,
             &[Number(*operator as u32), Child(*operand)],
         ),
         Node::Cast {
-            place,
+            position,
             name_place,
             name,
             operand,
         } => print_line(
             out,
             "Cast",
-            *place,
+            *position,
             &[Place(*name_place), Named(name.bytes()), Child(*operand)],
         ),
-        Node::Parenthesized { place, inner } => print_line(
+        Node::Parenthesized { position, inner } => print_line(
             out,
             "Parenthesized",
-            *place,
+            *position,
             &[Child(*inner)],
         ),
-        Node::SimpleName { place, name } => print_line(
+        Node::SimpleName { position, name } => print_line(
             out,
             "SimpleName",
-            *place,
+            *position,
             &[Named(name.bytes())],
         ),
         Node::FieldAccess {
-            place,
+            position,
             name,
             object,
         } => print_line(
             out,
             "FieldAccess",
-            *place,
+            *position,
             &[Named(name.bytes()), Child(*object)],
         ),
         Node::Call {
-            place,
+            position,
             name,
             object,
             arguments,
         } => print_line(
             out,
             "Call",
-            *place,
+            *position,
             &[Named(name.bytes()), Optional(*object), List(arguments)],
         ),
         Node::Element {
-            place,
+            position,
             array,
             index,
-        } => print_line(out, "Element", *place, &[Child(*array), Child(*index)]),
+        } => print_line(out, "Element", *position, &[Child(*array), Child(*index)]),
         Node::New {
-            place,
+            position,
             name_place,
             name,
             arguments,
         } => print_line(
             out,
             "New",
-            *place,
+            *position,
             &[Place(*name_place), Named(name.bytes()), List(arguments)],
         ),
         Node::NewArray {
-            place,
+            position,
             element,
             length,
-        } => print_line(out, "NewArray", *place, &[Child(*element), Child(*length)]),
-        Node::Text { place, text } => print_line(out, "Text", *place, &[Named(text.items())]),
+        } => print_line(out, "NewArray", *position, &[Child(*element), Child(*length)]),
+        Node::Text { position, text } => print_line(out, "Text", *position, &[Named(text.items())]),
         Node::Number {
-            place,
+            position,
             value,
             is_negative,
-        } => print_line(out, "Number", *place, &[Number(*value), Flag(*is_negative)]),
-        Node::True { place } => print_line(out, "True", *place, &[]),
-        Node::False { place } => print_line(out, "False", *place, &[]),
-        Node::Null { place } => print_line(out, "Null", *place, &[]),
-        Node::This { place } => print_line(out, "This", *place, &[]),
+        } => print_line(out, "Number", *position, &[Number(*value), Flag(*is_negative)]),
+        Node::True { position } => print_line(out, "True", *position, &[]),
+        Node::False { position } => print_line(out, "False", *position, &[]),
+        Node::Null { position } => print_line(out, "Null", *position, &[]),
+        Node::This { position } => print_line(out, "This", *position, &[]),
     }
 }
 
-fn print_line<W: Write>(out: &mut W, kind: &str, place: Pos, fields: &[Field]) -> Result<(), Stop> {
+fn print_line<W: Write>(out: &mut W, kind: &str, position: Pos, fields: &[Field]) -> Result<(), Stop> {
     write!(out, "{kind} ")?;
-    print_place(place, out)?;
+    print_place(position, out)?;
     for field in fields {
         write!(out, " ")?;
         print_field(field, out)?;
@@ -382,8 +382,8 @@ fn print_line<W: Write>(out: &mut W, kind: &str, place: Pos, fields: &[Field]) -
 
 fn print_field<W: Write>(field: &Field, out: &mut W) -> Result<(), Stop> {
     match field {
-        Child(id) => write!(out, "{}", id.place())?,
-        Optional(Some(id)) => write!(out, "(Some {})", id.place())?,
+        Child(id) => write!(out, "{}", id.number())?,
+        Optional(Some(id)) => write!(out, "(Some {})", id.number())?,
         Optional(None) => write!(out, "None")?,
         List(list) => print_list(list.items(), out)?,
         Named(bytes) => print_bytes(bytes, out)?,
@@ -408,7 +408,7 @@ pub fn print_list<W: Write>(list: &[NodeId], out: &mut W) -> Result<(), Stop> {
     }
     write!(out, "(")?;
     for id in list {
-        write!(out, "{} ∷ ", id.place())?;
+        write!(out, "{} ∷ ", id.number())?;
     }
     write!(out, "[])")?;
     Ok(())
@@ -421,7 +421,7 @@ fn print_bytes<W: Write>(bytes: &[u8], out: &mut W) -> Result<(), Stop> {
     Ok(())
 }
 
-fn print_place<W: Write>(place: Pos, out: &mut W) -> Result<(), Stop> {
-    write!(out, "(at {} {} {})", place.file, place.line, place.col)?;
+fn print_place<W: Write>(position: Pos, out: &mut W) -> Result<(), Stop> {
+    write!(out, "(at {} {} {})", position.file, position.line, position.col)?;
     Ok(())
 }

@@ -57,8 +57,8 @@ fn add_file<S: Shelf>(
 
 fn print<W: Write>(program: &Program, name: &str, out: &mut W) -> Result<(), Stop> {
     writeln!(out, "== {name}")?;
-    for place in 0..program.len() {
-        if let Some(node) = program.get(NodeId::at(place as u32)) {
+    for number in 0..program.len() {
+        if let Some(node) = program.get(NodeId::at(number as u32)) {
             print_node(node, out)?;
         }
     }

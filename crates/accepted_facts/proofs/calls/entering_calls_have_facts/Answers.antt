@@ -5,4 +5,4 @@ use Rattle.accepted_facts.proofs.calls.entering_calls_have_facts.Goals as goal
 
 pub returns : goal.returns
 unfolding declarations_of
-returns c = λ forest a member class id size r place name object f there inside m n. enter_facts forest a.is_accepted a.whole (well_sorted forest a.is_read) member class id size r place name object f there inside m n
+returns c = λ forest a member class id size r position name object f there inside m n. enter_facts forest a.is_accepted a.whole (well_sorted forest a.is_read) member class id size r position name object f there inside m n

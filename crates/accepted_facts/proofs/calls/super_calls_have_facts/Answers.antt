@@ -5,4 +5,4 @@ use Rattle.accepted_facts.proofs.calls.super_calls_have_facts.Goals as goal
 
 pub returns : goal.returns
 unfolding declarations_of
-returns c = λ forest a member class id superclass place arguments there inside up. super_call_facts forest a.is_accepted a.whole (well_sorted forest a.is_read) member class id superclass place arguments there inside up
+returns c = λ forest a member class id superclass position arguments there inside up. super_call_facts forest a.is_accepted a.whole (well_sorted forest a.is_read) member class id superclass position arguments there inside up

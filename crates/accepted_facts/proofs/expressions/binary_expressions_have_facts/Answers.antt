@@ -5,4 +5,4 @@ use Rattle.accepted_facts.proofs.expressions.binary_expressions_have_facts.Goals
 
 pub returns : goal.returns
 unfolding declarations_of
-returns c = λ forest a member class id operator left operand place k there inside j. binary_facts forest a.is_accepted a.whole (well_sorted forest a.is_read) member class id operator left operand place k there inside j
+returns c = λ forest a member class id operator left operand position k there inside j. binary_facts forest a.is_accepted a.whole (well_sorted forest a.is_read) member class id operator left operand position k there inside j

@@ -5,4 +5,4 @@ use Rattle.accepted_facts.proofs.expressions.new_arrays_have_facts.Goals as goal
 
 pub returns : goal.returns
 unfolding declarations_of
-returns c = λ forest a member class id element size place k there inside j. new_array_facts forest a.is_accepted a.whole (well_sorted forest a.is_read) member class id element size place k there inside j
+returns c = λ forest a member class id element size position k there inside j. new_array_facts forest a.is_accepted a.whole (well_sorted forest a.is_read) member class id element size position k there inside j

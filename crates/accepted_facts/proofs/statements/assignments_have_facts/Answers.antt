@@ -5,4 +5,4 @@ use Rattle.accepted_facts.proofs.statements.assignments_have_facts.Goals as goal
 
 pub returns : goal.returns
 unfolding declarations_of
-returns c = λ forest a member class id target value place there inside. assign_facts forest a.is_accepted a.whole (well_sorted forest a.is_read) member class id target value place there inside
+returns c = λ forest a member class id target value position there inside. assign_facts forest a.is_accepted a.whole (well_sorted forest a.is_read) member class id target value position there inside

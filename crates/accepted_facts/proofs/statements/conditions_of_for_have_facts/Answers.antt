@@ -5,4 +5,4 @@ use Rattle.accepted_facts.proofs.statements.conditions_of_for_have_facts.Goals a
 
 pub returns : goal.returns
 unfolding declarations_of
-returns c = λ forest a member class id first condition step body place there inside. for_condition forest a.is_accepted a.whole (well_sorted forest a.is_read) member class id first condition step body place there inside
+returns c = λ forest a member class id first condition step body position there inside. for_condition forest a.is_accepted a.whole (well_sorted forest a.is_read) member class id first condition step body position there inside

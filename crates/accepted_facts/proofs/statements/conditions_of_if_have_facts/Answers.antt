@@ -5,4 +5,4 @@ use Rattle.accepted_facts.proofs.statements.conditions_of_if_have_facts.Goals as
 
 pub returns : goal.returns
 unfolding declarations_of
-returns c = λ forest a member class id condition then_part place else_part there inside. if_condition forest a.is_accepted a.whole (well_sorted forest a.is_read) member class id condition then_part place else_part there inside
+returns c = λ forest a member class id condition then_part position else_part there inside. if_condition forest a.is_accepted a.whole (well_sorted forest a.is_read) member class id condition then_part position else_part there inside

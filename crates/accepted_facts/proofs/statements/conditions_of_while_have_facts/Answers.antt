@@ -5,4 +5,4 @@ use Rattle.accepted_facts.proofs.statements.conditions_of_while_have_facts.Goals
 
 pub returns : goal.returns
 unfolding declarations_of
-returns c = λ forest a member class id condition body place there inside. while_condition forest a.is_accepted a.whole (well_sorted forest a.is_read) member class id condition body place there inside
+returns c = λ forest a member class id condition body position there inside. while_condition forest a.is_accepted a.whole (well_sorted forest a.is_read) member class id condition body position there inside

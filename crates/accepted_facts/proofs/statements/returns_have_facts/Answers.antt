@@ -5,4 +5,4 @@ use Rattle.accepted_facts.proofs.statements.returns_have_facts.Goals as goal
 
 pub returns : goal.returns
 unfolding declarations_of
-returns c = λ forest a member class id value place there inside. return_facts forest a.is_accepted a.whole (well_sorted forest a.is_read) member class id value place there inside
+returns c = λ forest a member class id value position there inside. return_facts forest a.is_accepted a.whole (well_sorted forest a.is_read) member class id value position there inside

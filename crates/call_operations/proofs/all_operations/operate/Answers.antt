@@ -11,7 +11,7 @@ use Rattle.call_operations.proofs.all_operations.operate.Goals as goal
 
 pub follow-requires : goal.follow-requires
 follow-requires c =
-    chooses c.args.code.now c.args.row.now c.node_number-id.result c.args.frame.now.place c.node_number-id.ensures
+    chooses c.args.code.now c.args.row.now c.node_number-id.result c.args.frame.now.position c.node_number-id.ensures
     c.requires.asks c.requires.goes
 
 pub returns-clause-does : goal.returns-clause-does

@@ -6,13 +6,13 @@ use Rattle.certain_faults.specs.declared.found.CertainFault.{CertainFault}
 use Rattle.certain_faults.specs.Places.{found_at}
 use Rattle.certain_faults.proofs.pass.faults_by_node.Goals as goal
 
-pub loop-place-init : goal.loop-place-init
+pub loop-number-init : goal.loop-number-init
 unfolding joined_below
-loop-place-init c = c.new-found.ensures.items
+loop-number-init c = c.new-found.ensures.items
 
-pub loop-place-preserved : goal.loop-place-preserved
-loop-place-preserved c =
+pub loop-number-preserved : goal.loop-number-preserved
+loop-number-preserved c =
     let code : Code = code_of c.args.checked.now.program in
     let noted = rw c.at.ensures at c.in_ok-note.ensures in
-    noted ∙ ap (λ (fs : List CertainFault). fs ++ found_at code c.loop-place.place) c.loop-place.invariant
-    ∙ sym (joined_next (found_at code) c.loop-place.place [])
+    noted ∙ ap (λ (fs : List CertainFault). fs ++ found_at code c.loop-number.number) c.loop-number.invariant
+    ∙ sym (joined_next (found_at code) c.loop-number.number [])

@@ -5,14 +5,14 @@ use Rattle.certain_faults.specs.Known.{next_left}
 use Rattle.certain_faults.proofs.PassLemmas.{one_row_more}
 use Rattle.certain_faults.proofs.pass.left_rows.Goals as goal
 
-pub loop-place-init : goal.loop-place-init
+pub loop-number-init : goal.loop-number-init
 unfolding bottom_up
-loop-place-init c = c.in_ok-rows.ensures.items
+loop-number-init c = c.in_ok-rows.ensures.items
 
-pub loop-place-preserved : goal.loop-place-preserved
-loop-place-preserved c =
+pub loop-number-preserved : goal.loop-number-preserved
+loop-number-preserved c =
     let code : Code = code_of c.args.checked.now.program in
     let told = rw (c.deref.ensures.value, c.at.ensures) at c.next_left-left.ensures in
     c.in_ok-push.ensures.items
-    ∙ one_row_more (next_left code) c.loop-place.place c.loop-place.rows.items c.next_left-left.result
-    c.loop-place.invariant told
+    ∙ one_row_more (next_left code) c.loop-number.number c.loop-number.rows.items c.next_left-left.result
+    c.loop-number.invariant told

@@ -5,5 +5,5 @@ use Rattle.certain_faults.specs.declared.known.Left.TheVariants.{Forgets}
 use Rattle.certain_faults.specs.Known.{next_left}
 use Rattle.certain_faults.proofs.pass.left_rows.Given as goal
 
-abbrev pub invariant-loop-place : goal.invariant-loop-place
-invariant-loop-place l = l.rows.items ≡ bottom_up Forgets (next_left (code_of l.checked.program)) l.place
+abbrev pub invariant-loop-number : goal.invariant-loop-number
+invariant-loop-number l = l.rows.items ≡ bottom_up Forgets (next_left (code_of l.checked.program)) l.number

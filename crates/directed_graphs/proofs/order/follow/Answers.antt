@@ -22,7 +22,7 @@ enter-requires-clause-whole c =
 pub merge-requires : goal.merge-requires
 merge-requires c =
     on_group (rows_of c.args.rows.now) (walk_of c.args.search.now) c.args.vertex c.requires.following c.requires.stay
-    c.in-OnPath.place
+    c.in-OnPath.index
     (mark_is (walk_of c.args.search.now) c.args.vertex c.index.result.now _
     (to_mark (rows_of c.args.rows.now) (walk_of c.args.search.now) c.args.vertex c.requires.following c.requires.stay)
     c.index.ensures c.in-OnPath.is)
@@ -41,7 +41,7 @@ returns-in-Unseen c =
 pub returns-in-OnPath : goal.returns-in-OnPath
 returns-in-OnPath c =
     follow_merges (rows_of c.args.rows.now) (walk_of c.args.search.now) c.args.vertex c.requires.following
-    c.requires.stay c.in-OnPath.place
+    c.requires.stay c.in-OnPath.index
     (mark_is (walk_of c.args.search.now) c.args.vertex c.index.result.now _
     (to_mark (rows_of c.args.rows.now) (walk_of c.args.search.now) c.args.vertex c.requires.following c.requires.stay)
     c.index.ensures c.in-OnPath.is) (walk_of c.merge.new.search) c.merge.ensures

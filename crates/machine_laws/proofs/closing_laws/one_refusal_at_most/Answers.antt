@@ -6,4 +6,4 @@ returns-clause-place c = λ before lexemes one other r s. one_place before lexem
 
 pub returns-clause-file : goal.returns-clause-file
 returns-clause-file c =
-    λ before after lexemes classes place d r. tree_not_refused before after lexemes classes place d r
+    λ before after lexemes classes position d r. tree_not_refused before after lexemes classes position d r

@@ -18,7 +18,7 @@ returns c =
     let s = c.requires.formed.stored c.args.class c.requires.listed in
     let reach : IsReachOf (rows_of c.args.tables.now.edges.items)
     (body_vertex (code_of c.args.code.now) c.handler_node-handler.result) c.in_ok-marks.marks.items =
-    (rw (c.as_slice.ensures.value, c.count.ensures.value, c.place.ensures) at c.in_ok-marks.ensures) in
+    (rw (c.as_slice.ensures.value, c.count.ensures.value, c.number.ensures) at c.in_ok-marks.ensures) in
     answer_is (code_of c.args.code.now) c.children_first.ensures c.args.tables.now c.requires.tables
     c.requires.formed.small c.args.class c.handler_node-handler.result c.handler_node-handler.ensures.handles
     c.handler_node-handler.ensures.there c.in_ok-marks.marks.items reach s.0 s.1 c.as_slice-2.result.now

@@ -5,6 +5,6 @@ use Rattle.memory_needs.specs.ClassShown.{is_point}
 use Rattle.memory_needs.specs.RowLists.{if_picked}
 use Rattle.memory_needs.proofs.points.all_points.Given as goal
 
-abbrev pub invariant-loop-place : goal.invariant-loop-place
-invariant-loop-place l =
-    l.points.items ≡ joined_below (if_picked (is_point (code_of l.code) l.loops l.shown)) l.place
+abbrev pub invariant-loop-number : goal.invariant-loop-number
+invariant-loop-number l =
+    l.points.items ≡ joined_below (if_picked (is_point (code_of l.code) l.loops l.shown)) l.number

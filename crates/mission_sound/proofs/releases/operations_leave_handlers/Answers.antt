@@ -7,6 +7,6 @@ returns c =
       operation =
           λ code base rows s job activity step acts outside h registers e. operation_handled code base rows s job
           activity step acts outside h registers e;
-      start = λ code base s place r step there waits exec h e. start_handled code base s place r step there waits exec h
+      start = λ code base s index r step there waits exec h e. start_handled code base s index r step there waits exec h
           e;
     }

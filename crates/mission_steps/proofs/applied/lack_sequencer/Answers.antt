@@ -11,8 +11,8 @@ use Rattle.mission_steps.proofs.applied.lack_sequencer.Goals as goal
 pub returns : goal.returns
 unfolding seq_applied
 returns c =
-    subst (λ (place : Pos). IsStep c.args.code.now
+    subst (λ (position : Pos). IsStep c.args.code.now
     (fault_in (state_of c.args.code.now c.args.state.now) TheSequencer
-    (state_of c.args.code.now c.args.state.now).activity place NullPointer) c.halted.new.state
-    c.args.told.now.items c.halted.new.told.items) c.place_of_object-place.ensures
+    (state_of c.args.code.now c.args.state.now).activity position NullPointer) c.halted.new.state
+    c.args.told.now.items c.halted.new.told.items) c.place_of_object-index.ensures
     (c.in_ok-halted.ensures c.args.code.now (state_of c.args.code.now c.args.state.now).activity)

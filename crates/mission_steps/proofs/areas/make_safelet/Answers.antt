@@ -37,9 +37,9 @@ returns c =
     (c.make_object.ensures.made c.args.code.now TheSequencer
     (state_of c.args.code.now c.args.state.now).activity
     (class_place (code_of c.args.code.now.program).program c.args.class)))
-    (subst (λ (place : Pos). IsStep c.args.code.now
+    (subst (λ (position : Pos). IsStep c.args.code.now
     (fault_in (state_of c.args.code.now c.make_object.new.state) TheSequencer
-    (state_of c.args.code.now c.args.state.now).activity place MemoryFull) c.halted.new.state
+    (state_of c.args.code.now c.args.state.now).activity position MemoryFull) c.halted.new.state
     c.args.told.now.items c.halted.new.told.items) c.class_place.ensures
     (c.in_ok-halted-in-None.ensures c.args.code.now
     (state_of c.args.code.now c.args.state.now).activity))

@@ -30,7 +30,7 @@ returns c =
     try_of c.args.code.now c.open_inside.new.state c.args.told.now.items c.open_inside.new.told.items _ _
     (immortal_opened c.args.code.now (state_of c.args.code.now c.args.state.now) c.in-Some.class
     c.in-Some-size_of.bytes (sym c.in-Some.ensures) (sym c.in-Some-size_of.ensures))
-    (subst (λ (place : Pos). IsStep c.args.code.now
-    (area_opened (state_of c.args.code.now c.args.state.now) place immortal_scope c.in-Some-size_of.bytes)
+    (subst (λ (position : Pos). IsStep c.args.code.now
+    (area_opened (state_of c.args.code.now c.args.state.now) position immortal_scope c.in-Some-size_of.bytes)
     c.open_inside.new.state c.args.told.now.items c.open_inside.new.told.items) c.class_place.ensures
     (c.in_ok-open_inside.ensures c.args.code.now))

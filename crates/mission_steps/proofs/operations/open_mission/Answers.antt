@@ -38,7 +38,7 @@ returns c =
     (mission_opened c.args.code.now (state_of c.args.code.now c.args.state.now) c.args.r
     c.in-Some.class c.in-Some-private_scope.scope c.in-Some-size_of.bytes c.in-Some.ensures
     (sym c.in-Some-private_scope.ensures) (sym c.in-Some-size_of.ensures))
-    (subst (λ (place : Pos). IsStep c.args.code.now
-    (area_opened (state_of c.args.code.now c.args.state.now) place c.in-Some-private_scope.scope
+    (subst (λ (position : Pos). IsStep c.args.code.now
+    (area_opened (state_of c.args.code.now c.args.state.now) position c.in-Some-private_scope.scope
     c.in-Some-size_of.bytes) c.open_inside.new.state c.args.told.now.items c.open_inside.new.told.items)
     c.class_place.ensures (c.in_ok-open_inside.ensures c.args.code.now))

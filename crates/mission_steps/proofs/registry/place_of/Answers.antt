@@ -6,5 +6,5 @@ use Rattle.mission_steps.proofs.registry.place_of.Goals as goal
 pub loop-rest-preserved : goal.loop-rest-preserved
 loop-rest-preserved c =
     passed_on (λ (row : HandlerRow). row.at == c.args.at) c.args.registry.now c.row-item.result c.loop-rest.rest.now
-    c.loop-rest.place c.in-len1-up.len_at_least c.row-item.is (sym c.is_at.ensures ∙ c.if-is_at.false)
+    c.loop-rest.index c.in-len1-up.len_at_least c.row-item.is (sym c.is_at.ensures ∙ c.if-is_at.false)
     c.loop-rest.invariant

@@ -18,7 +18,7 @@ returns-in_default c =
     c.args.state.now c.args.told.now.items c.args.told.now.items
     (λ f below. ap (option_map (λ (o : Object).
     registered (code_of c.args.code.now.program) (state_of c.args.code.now c.args.state.now)
-    (job_seen c.args.acting.job) (activity_seen c.args.code.now c.args.activity) c.args.acting.place c.args.r
+    (job_seen c.args.acting.job) (activity_seen c.args.code.now c.args.activity) c.args.acting.position c.args.r
     o
     (with_frame (state_of c.args.code.now c.args.state.now) (job_seen c.args.acting.job)
     (activity_seen c.args.code.now c.args.activity) f below)))
@@ -36,11 +36,11 @@ returns c =
     (λ f. AsksRegistration f c.args.r)
     c.register.new.state c.args.told.now.items c.register.new.told.items
     (λ s. registered (code_of c.args.code.now.program) (state_of c.args.code.now c.args.state.now)
-    (job_seen c.args.acting.job) (activity_seen c.args.code.now c.args.activity) c.args.acting.place c.args.r
+    (job_seen c.args.acting.job) (activity_seen c.args.code.now c.args.activity) c.args.acting.position c.args.r
     there.0 s)
     (λ f below. ap (option_map (λ (o : Object).
     registered (code_of c.args.code.now.program) (state_of c.args.code.now c.args.state.now)
-    (job_seen c.args.acting.job) (activity_seen c.args.code.now c.args.activity) c.args.acting.place c.args.r
+    (job_seen c.args.acting.job) (activity_seen c.args.code.now c.args.activity) c.args.acting.position c.args.r
     o
     (with_frame (state_of c.args.code.now c.args.state.now) (job_seen c.args.acting.job)
     (activity_seen c.args.code.now c.args.activity) f below))) there.1)

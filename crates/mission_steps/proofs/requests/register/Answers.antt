@@ -19,7 +19,7 @@ returns-then-not-is_init c = λ r o e.
     same_step c.args.code.now c.fault_in.new.state c.args.told.now.items c.fault_in.new.told.items _ _
     (registered_too_late c.args.code.now
     (state_of c.args.code.now c.args.state.now)
-    (job_seen c.args.acting.job) (activity_seen c.args.code.now c.args.activity) c.args.acting.place r o
+    (job_seen c.args.acting.job) (activity_seen c.args.code.now c.args.activity) c.args.acting.position r o
     (with_activity (state_of c.args.code.now c.args.state.now) (job_seen c.args.acting.job)
     (activity_seen c.args.code.now c.args.activity))
     (sym c.is_init.ensures ∙ c.if-not-is_init.true)) (c.in_ok-fault_in.ensures c.args.code.now)
@@ -30,7 +30,7 @@ returns-then-is_some c = λ r o e.
     same_step c.args.code.now c.put_back.new.state c.args.told.now.items c.args.told.now.items _ _
     (registered_already c.args.code.now
     (state_of c.args.code.now c.args.state.now)
-    (job_seen c.args.acting.job) (activity_seen c.args.code.now c.args.activity) c.args.acting.place r o
+    (job_seen c.args.acting.job) (activity_seen c.args.code.now c.args.activity) c.args.acting.position r o
     (with_activity (state_of c.args.code.now c.args.state.now) (job_seen c.args.acting.job)
     (activity_seen c.args.code.now c.args.activity))
     (sym c.is_init.ensures ∙ c.if-not-is_init.false)
@@ -49,7 +49,7 @@ returns-then-len-ge-MOST_HANDLERS c = λ r o e.
     c.fault_in-then-len-ge-MOST_HANDLERS.new.told.items _ _
     (registered_too_many c.args.code.now
     (state_of c.args.code.now c.args.state.now)
-    (job_seen c.args.acting.job) (activity_seen c.args.code.now c.args.activity) c.args.acting.place r o
+    (job_seen c.args.acting.job) (activity_seen c.args.code.now c.args.activity) c.args.acting.position r o
     (with_activity (state_of c.args.code.now c.args.state.now) (job_seen c.args.acting.job)
     (activity_seen c.args.code.now c.args.activity))
     (sym c.is_init.ensures ∙ c.if-not-is_init.false)
@@ -67,7 +67,7 @@ returns c = λ r o e.
     same_step c.args.code.now c.enter.new.state c.args.told.now.items c.enter.new.told.items _ _
     (registered_newly c.args.code.now
     (state_of c.args.code.now c.args.state.now)
-    (job_seen c.args.acting.job) (activity_seen c.args.code.now c.args.activity) c.args.acting.place r o
+    (job_seen c.args.acting.job) (activity_seen c.args.code.now c.args.activity) c.args.acting.position r o
     (with_activity (state_of c.args.code.now c.args.state.now) (job_seen c.args.acting.job)
     (activity_seen c.args.code.now c.args.activity))
     (sym c.is_init.ensures ∙ c.if-not-is_init.false)

@@ -13,7 +13,7 @@ pub returns-in_default : goal.returns-in_default
 unfolding state_of
 returns-in_default c = λ r e.
     no_step c.args.code.now c.args.state.now c.args.told.now.items c.args.told.now.items _
-    (no_row (code_of c.args.code.now.program) (state_of c.args.code.now c.args.state.now) c.args.place r
+    (no_row (code_of c.args.code.now.program) (state_of c.args.code.now c.args.state.now) c.args.index r
     (c.in_default.ensures ∙ ap (λ (rows : List HandlerRow). handler_row rows c.args.handler) c.as_slice.ensures.value
     ∙ ap (handler_row c.args.state.now.registry.items) (sym e)))
 
@@ -21,7 +21,7 @@ pub returns-in_default-private_scope : goal.returns-in_default-private_scope
 unfolding state_of
 returns-in_default-private_scope c = λ r e.
     no_step c.args.code.now c.args.state.now c.args.told.now.items c.args.told.now.items _
-    (no_private_scope (code_of c.args.code.now.program) (state_of c.args.code.now c.args.state.now) c.args.place r
+    (no_private_scope (code_of c.args.code.now.program) (state_of c.args.code.now c.args.state.now) c.args.index r
     c.in-Some.row
     (c.in-Some.ensures ∙ ap (λ (rows : List HandlerRow). handler_row rows c.args.handler) c.as_slice.ensures.value
     ∙ ap (handler_row c.args.state.now.registry.items) (sym e)) (sym c.in_default-private_scope.ensures))
@@ -30,7 +30,7 @@ pub returns-in_default-body_named : goal.returns-in_default-body_named
 unfolding state_of
 returns-in_default-body_named c = λ r e.
     no_step c.args.code.now c.args.state.now c.args.told.now.items c.args.told.now.items _
-    (no_body (code_of c.args.code.now.program) (state_of c.args.code.now c.args.state.now) c.args.place r
+    (no_body (code_of c.args.code.now.program) (state_of c.args.code.now c.args.state.now) c.args.index r
     c.in-Some.row
     (c.in-Some.ensures ∙ ap (λ (rows : List HandlerRow). handler_row rows c.args.handler) c.as_slice.ensures.value
     ∙ ap (handler_row c.args.state.now.registry.items) (sym e)) c.in-Some-private_scope.scope
@@ -42,7 +42,7 @@ pub returns : goal.returns
 unfolding state_of
 returns c = λ r e.
     try_of c.args.code.now c.started_with.new.state c.args.told.now.items c.started_with.new.told.items _ _
-    (begins_with (code_of c.args.code.now.program) (state_of c.args.code.now c.args.state.now) c.args.place r
+    (begins_with (code_of c.args.code.now.program) (state_of c.args.code.now c.args.state.now) c.args.index r
     c.in-Some.row
     (c.in-Some.ensures ∙ ap (λ (rows : List HandlerRow). handler_row rows c.args.handler) c.as_slice.ensures.value
     ∙ ap (handler_row c.args.state.now.registry.items) (sym e)) c.in-Some-private_scope.scope

@@ -17,15 +17,15 @@ use Rattle.mission_steps.proofs.starts.started_with.Goals as goal
 pub returns-in_ok-put_back-in-Some : goal.returns-in_ok-put_back-in-Some
 unfolding state_of
 returns-in_ok-put_back-in-Some c =
-    started_there c.args.code.now c.args.state.now c.args.start.now.place c.args.start.now.row
+    started_there c.args.code.now c.args.state.now c.args.start.now.index c.args.start.now.row
     c.args.start.now.scope c.args.start.now.body
     c.open_area.new.state c.put_back.new.state c.in-Some.area c.in_ok-activity-in-Some.activity c.in_ok-areas.areas
     c.args.told.now.items
-    (is_private c.args.code.now c.args.state.now c.args.start.now.place c.args.start.now.row
+    (is_private c.args.code.now c.args.state.now c.args.start.now.index c.args.start.now.row
     c.args.start.now.scope c.args.start.now.body
     c.innermost-parent.result c.open_area.result (Some c.in-Some.area)
     (state_of c.args.code.now c.open_area.new.state) c.innermost-parent.ensures c.in-Some.is
-    (c.open_area.ensures.opened c.args.code.now (ReleaseAt c.args.start.now.place) no_activity
+    (c.open_area.ensures.opened c.args.code.now (ReleaseAt c.args.start.now.index) no_activity
     (class_place (code_of c.args.code.now.program).program c.args.start.now.row.class)))
     c.in_ok-areas.ensures c.in_ok-activity-in-Some.ensures.seen
     (c.in_ok-put_back-in-Some.ensures.put c.args.code.now)
@@ -33,20 +33,20 @@ returns-in_ok-put_back-in-Some c =
 pub returns-in_ok-fault_in-in-None : goal.returns-in_ok-fault_in-in-None
 unfolding state_of
 returns-in_ok-fault_in-in-None c =
-    not_started c.args.code.now c.args.state.now c.args.start.now.place c.args.start.now.row
+    not_started c.args.code.now c.args.state.now c.args.start.now.index c.args.start.now.row
     c.args.start.now.scope c.args.start.now.body
     c.open_area.new.state c.fault_in.new.state c.args.told.now.items c.fault_in.new.told.items
-    (is_private c.args.code.now c.args.state.now c.args.start.now.place c.args.start.now.row
+    (is_private c.args.code.now c.args.state.now c.args.start.now.index c.args.start.now.row
     c.args.start.now.scope c.args.start.now.body
     c.innermost-parent.result c.open_area.result None
     (state_of c.args.code.now c.open_area.new.state) c.innermost-parent.ensures c.in-None.is
-    (c.open_area.ensures.opened c.args.code.now (ReleaseAt c.args.start.now.place) no_activity
+    (c.open_area.ensures.opened c.args.code.now (ReleaseAt c.args.start.now.index) no_activity
     (class_place (code_of c.args.code.now.program).program c.args.start.now.row.class)))
-    (subst (λ (place : Pos). IsStep c.args.code.now
-    (fault_in (state_of c.args.code.now c.open_area.new.state) (ReleaseAt c.args.start.now.place) no_activity
-    place StoreFull) c.fault_in.new.state c.args.told.now.items c.fault_in.new.told.items) c.class_place.ensures
+    (subst (λ (position : Pos). IsStep c.args.code.now
+    (fault_in (state_of c.args.code.now c.open_area.new.state) (ReleaseAt c.args.start.now.index) no_activity
+    position StoreFull) c.fault_in.new.state c.args.told.now.items c.fault_in.new.told.items) c.class_place.ensures
     (subst (λ (activity : StoredActivity). IsStep c.args.code.now
-    (fault_in (state_of c.args.code.now c.open_area.new.state) (ReleaseAt c.args.start.now.place)
+    (fault_in (state_of c.args.code.now c.open_area.new.state) (ReleaseAt c.args.start.now.index)
     (activity_seen c.args.code.now activity) c.class_place.result StoreFull) c.fault_in.new.state
     c.args.told.now.items c.fault_in.new.told.items) c.empty.ensures
     (c.in_ok-fault_in-in-None.ensures c.args.code.now)))

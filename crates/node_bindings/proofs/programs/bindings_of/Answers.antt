@@ -11,6 +11,6 @@ unfolding bindings_in declarations_of
 returns c =
     let p : Declarations = declarations_of c.args.facts.now in
     let all : List (Option Ty) → ℕ → List Binding = λ ts. listed (binding_at p (lookup None ts)) in
-    let full : c.loop-place.place ≡ length c.args.facts.now.nodes =
-    omega (arith, rw c.program-program.ensures at c.len-place-end.ensures.value) in
-    c.loop-place.invariant ∙ ap (all c.args.types.now) full ∙ ap (λ ts. all ts (length p.nodes)) c.requires.types
+    let full : c.loop-number.number ≡ length c.args.facts.now.nodes =
+    omega (arith, rw c.program-program.ensures at c.len-number-end.ensures.value) in
+    c.loop-number.invariant ∙ ap (all c.args.types.now) full ∙ ap (λ ts. all ts (length p.nodes)) c.requires.types

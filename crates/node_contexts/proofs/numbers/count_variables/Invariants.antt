@@ -5,9 +5,9 @@ use Rattle.node_contexts.specs.Numbers.{number_before, AreCounted}
 use Rattle.node_contexts.proofs.numbers.count_variables.Given as goal
 
 -- the nodes so far are counted, and numbered in a row for all
-abbrev pub invariant-loop-place : goal.invariant-loop-place
-invariant-loop-place l = record {
+abbrev pub invariant-loop-index : goal.invariant-loop-index
+invariant-loop-index l = record {
   whole : length l.numbers.items ≡ length l.program.nodes;
-  numbered : take l.place l.numbers.items ≡ listed (number_before (declarations_of l.program)) l.place;
-  counted : AreCounted (declarations_of l.program) l.place l.counts.items;
+  numbered : take l.index l.numbers.items ≡ listed (number_before (declarations_of l.program)) l.index;
+  counted : AreCounted (declarations_of l.program) l.index l.counts.items;
 }

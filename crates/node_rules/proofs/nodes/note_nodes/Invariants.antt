@@ -5,6 +5,6 @@ use Rattle.node_rules.specs.Nodes.{noted_at}
 use Rattle.node_rules.proofs.nodes.note_nodes.Given as goal
 
 -- the nodes so far are looked at
-abbrev pub invariant-loop-place : goal.invariant-loop-place
-invariant-loop-place l =
-    l.found.items ≡ l.initial.found.items ++ joined_below (noted_at (declarations_of l.classes)) l.place
+abbrev pub invariant-loop-number : goal.invariant-loop-number
+invariant-loop-number l =
+    l.found.items ≡ l.initial.found.items ++ joined_below (noted_at (declarations_of l.classes)) l.number

@@ -11,42 +11,42 @@ same_length : (t : Bool) (table : List (Option ℕ)) (n : ℕ) (c : Option ℕ) 
 same_length true table n c = length-set table n c
 same_length false table n c = refl
 
-pub loop-place-init : goal.loop-place-init
-loop-place-init c =
+pub loop-number-init : goal.loop-number-init
+loop-number-init c =
     record {
       whole = rw c.program.ensures at c.in_ok-table.ensures.whole;
       exact = λ body. (rw c.program.ensures at (c.in_ok-table.ensures.exact body))
-          ∙ known_first c.args.classes.now c.node_count-place-end.ensures.whole body;
+          ∙ known_first c.args.classes.now c.node_count-number-end.ensures.whole body;
     }
 
-pub overflow_cast-place : goal.overflow_cast-place
-overflow_cast-place c =
-    let small : length c.args.classes.now.nodes < 2 ^ 32 = c.node_count-place-end.ensures.whole.fits in
-    omega (arith, c.loop-place-test.true, small, c.node_count-place-end.ensures.value)
+pub overflow_cast-number : goal.overflow_cast-number
+overflow_cast-number c =
+    let small : length c.args.classes.now.nodes < 2 ^ 32 = c.node_count-number-end.ensures.whole.fits in
+    omega (arith, c.loop-number-test.true, small, c.node_count-number-end.ensures.value)
 
 pub learn-requires : goal.learn-requires
 learn-requires c =
-    omega (arith, c.loop-place-test.true, c.loop-place.invariant.whole, c.node_count-place-end.ensures.value)
+    omega (arith, c.loop-number-test.true, c.loop-number.invariant.whole, c.node_count-number-end.ensures.value)
 
-pub loop-place-preserved : goal.loop-place-preserved
-loop-place-preserved c =
+pub loop-number-preserved : goal.loop-number-preserved
+loop-number-preserved c =
     let forest = c.args.classes.now in
-    let table = c.loop-place.table.items in
-    let inside : c.loop-place.place < length table =
-    omega (arith, c.loop-place-test.true, c.loop-place.invariant.whole, c.node_count-place-end.ensures.value) in
-    let there : c.get-context.result ≡ context (declarations_of forest) c.loop-place.place =
+    let table = c.loop-number.table.items in
+    let inside : c.loop-number.number < length table =
+    omega (arith, c.loop-number-test.true, c.loop-number.invariant.whole, c.node_count-number-end.ensures.value) in
+    let there : c.get-context.result ≡ context (declarations_of forest) c.loop-number.number =
     c.get-context.ensures
     ∙ ap (λ (rows : List Context). lookup outermost rows c.at.result) (c.requires ∙ sym (contexts_are forest))
     ∙ ap (context (declarations_of forest)) c.at.ensures in
     record {
-      whole = ap (λ (xs : List (Option ℕ)). length xs) c.learn.ensures ∙ same_length _ table c.loop-place.place _
-          ∙ c.loop-place.invariant.whole;
+      whole = ap (λ (xs : List (Option ℕ)). length xs) c.learn.ensures ∙ same_length _ table c.loop-number.number _
+          ∙ c.loop-number.invariant.whole;
       exact = λ body. ap (λ (xs : List (Option ℕ)). lookup None xs body) c.learn.ensures
-          ∙ known_more (declarations_of forest) c.loop-place.place table c.get-context.result.class
-          (ap (λ (row : Context). row.class) there) inside c.loop-place.invariant.exact body;
+          ∙ known_more (declarations_of forest) c.loop-number.number table c.get-context.result.class
+          (ap (λ (row : Context). row.class) there) inside c.loop-number.invariant.exact body;
     }
 
 pub returns : goal.returns
-returns c = λ body. c.loop-place.invariant.exact body
-    ∙ known_last c.args.classes.now c.node_count-place-end.ensures.whole c.loop-place.place body
-    (omega (arith, c.loop-place-test.false, c.loop-place.auto.place-end, c.node_count-place-end.ensures.value))
+returns c = λ body. c.loop-number.invariant.exact body
+    ∙ known_last c.args.classes.now c.node_count-number-end.ensures.whole c.loop-number.number body
+    (omega (arith, c.loop-number-test.false, c.loop-number.auto.position-end, c.node_count-number-end.ensures.value))

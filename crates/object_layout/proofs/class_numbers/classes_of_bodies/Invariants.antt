@@ -5,8 +5,8 @@ use Rattle.object_layout.specs.BodyTables.{class_known}
 use Rattle.object_layout.proofs.class_numbers.classes_of_bodies.Given as goal
 
 -- the contexts of the nodes so far are known
-abbrev pub invariant-loop-place : goal.invariant-loop-place
-invariant-loop-place l = record {
+abbrev pub invariant-loop-number : goal.invariant-loop-number
+invariant-loop-number l = record {
   whole : length l.table.items ≡ length l.classes.nodes;
-  exact : (body : ℕ) → lookup None l.table.items body ≡ class_known (declarations_of l.classes) l.place body;
+  exact : (body : ℕ) → lookup None l.table.items body ≡ class_known (declarations_of l.classes) l.number body;
 }

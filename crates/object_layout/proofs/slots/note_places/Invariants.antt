@@ -4,7 +4,7 @@ use Rattle.object_layout.proofs.slots.note_places.Given as goal
 
 -- those that are left are still to be noted
 abbrev pub invariant-loop-others : goal.invariant-loop-others
-invariant-loop-others l = noted l.places.items l.place l.others ≡ noted l.initial.places.items 0 l.fields
+invariant-loop-others l = noted l.places.items l.index l.others ≡ noted l.initial.places.items 0 l.fields
 
 abbrev pub decreases-loop-others : goal.decreases-loop-others
 decreases-loop-others l = length l.others

@@ -5,5 +5,5 @@ use Rattle.object_layout.proofs.slots.place_by_search.Goals as goal
 pub returns-clause-value : goal.returns-clause-value
 returns-clause-value c =
     sym
-    (found_nowhere c.args.fields.now c.args.field c.loop-place.place (omega (arith, c.loop-place-test.false))
-    c.loop-place.invariant)
+    (found_nowhere c.args.fields.now c.args.field c.loop-index.index (omega (arith, c.loop-index-test.false))
+    c.loop-index.invariant)

@@ -2,20 +2,20 @@ use Rattle.std.proofs.Common.{◌∙◌, sym, arith}
 use Rattle.object_layout.proofs.SlotLemmas.{placed_there, placed_elsewhere, placed_nowhere}
 use Rattle.object_layout.proofs.slots.place_by_table.Goals as goal
 
-pub returns-then-place-fields-clause-value : goal.returns-then-place-fields-clause-value
-returns-then-place-fields-clause-value c =
+pub returns-then-index-fields-clause-value : goal.returns-then-index-fields-clause-value
+returns-then-index-fields-clause-value c =
     sym
     (placed_nowhere c.args.places.now c.args.fields.now c.args.field c.requires
-    (omega (arith, c.if-place-fields.true, c.told-place.ensures)))
+    (omega (arith, c.if-index-fields.true, c.told-index.ensures)))
 
 pub returns-then-stands_at-clause-value : goal.returns-then-stands_at-clause-value
 returns-then-stands_at-clause-value c =
     sym
-    (placed_there c.args.places.now c.args.fields.now c.args.field c.requires c.told-place.result
-    c.told-place.ensures (omega (arith, c.if-place-fields.false)) (sym c.stands_at.ensures ∙ c.if-stands_at.true))
+    (placed_there c.args.places.now c.args.fields.now c.args.field c.requires c.told-index.result
+    c.told-index.ensures (omega (arith, c.if-index-fields.false)) (sym c.stands_at.ensures ∙ c.if-stands_at.true))
 
 pub returns-else-stands_at-clause-value : goal.returns-else-stands_at-clause-value
 returns-else-stands_at-clause-value c =
     sym
-    (placed_elsewhere c.args.places.now c.args.fields.now c.args.field c.requires c.told-place.result
-    c.told-place.ensures (omega (arith, c.if-place-fields.false)) (sym c.stands_at.ensures ∙ c.if-stands_at.false))
+    (placed_elsewhere c.args.places.now c.args.fields.now c.args.field c.requires c.told-index.result
+    c.told-index.ensures (omega (arith, c.if-index-fields.false)) (sym c.stands_at.ensures ∙ c.if-stands_at.false))

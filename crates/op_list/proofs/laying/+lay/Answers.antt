@@ -26,9 +26,9 @@ lay_items-returns t c =
     let code = code_of c.args.code.now in
     let same : c.loop-index.index ≡ c.args.from = omega (arith, c.loop-index.invariant.from, c.loop-index-test.false) in
     subst (λ xs. IsLaid code c.args.rows.now.items c.loop-index.rows.items
-    (flat_map (ops_of code) (drop c.args.from xs)) c.args.next c.loop-index.place) c.items_at-items.ensures
+    (flat_map (ops_of code) (drop c.args.from xs)) c.args.next c.loop-index.position) c.items_at-items.ensures
     (subst (λ i. IsLaid code c.args.rows.now.items c.loop-index.rows.items
-    (flat_map (ops_of code) (drop i c.items_at-items.result.now)) c.args.next c.loop-index.place) same
+    (flat_map (ops_of code) (drop i c.items_at-items.result.now)) c.args.next c.loop-index.position) same
     c.loop-index.invariant.laid)
 
 pub lay_items-loop-index-init : goal.lay_items-loop-index-init
@@ -60,8 +60,8 @@ lay_items-loop-index-preserved t c =
       few = omega (arith, c.loop-index.invariant.few);
       from = omega (arith, c.loop-index-test.true);
       laid = laid_item code c.args.rows.now.items c.loop-index.rows.items c.lay_node.new.rows.items (ops_of code)
-          c.items_at-items.result.now c.loop-index.index c.index-items-index.result c.args.next c.loop-index.place
-          c.in_ok-place.place (omega (arith, c.loop-index-test.true))
+          c.items_at-items.result.now c.loop-index.index c.index-items-index.result c.args.next c.loop-index.position
+          c.in_ok-place.position (omega (arith, c.loop-index-test.true))
           (slice_get_read c.items_at-items.result.now (length c.items_at-items.result.now) (c.loop-index.index - 1)
           c.index-items-index.result refl (omega (arith, c.loop-index.invariant.few, c.loop-index-test.true))
           c.index-items-index.is) c.loop-index.invariant.laid c.in_ok-place.ensures;
@@ -101,7 +101,7 @@ lay_node-loop-index-preserved t c =
       few = omega (arith, c.loop-index.invariant.few);
       laid = laid_item code c.args.rows.now.items c.loop-index.rows.items c.lay_part.new.rows.items
           (part_ops code (ops_of code)) c.items-parts.result.now c.loop-index.index c.index-parts-index.result
-          c.args.next c.loop-index.place c.in_ok-place.place (omega (arith, c.loop-index-test.true))
+          c.args.next c.loop-index.position c.in_ok-place.position (omega (arith, c.loop-index-test.true))
           (slice_get_read c.items-parts.result.now (length c.items-parts.result.now) (c.loop-index.index - 1)
           c.index-parts-index.result refl (omega (arith, c.loop-index.invariant.few, c.loop-index-test.true))
           c.index-parts-index.is) c.loop-index.invariant.laid c.in_ok-place.ensures;
@@ -112,7 +112,7 @@ lay_node-returns t c =
     let code = code_of c.args.code.now in
     let is = c.items-parts.ensures ∙ c.parts_at-listed.ensures in
     let first : c.loop-index.index ≡ 0 = omega (arith, c.loop-index-test.false) in
-    laid_as code c.args.rows.now.items c.loop-index.rows.items _ _ c.args.next c.loop-index.place
+    laid_as code c.args.rows.now.items c.loop-index.rows.items _ _ c.args.next c.loop-index.position
     (ap (λ i. flat_map (part_ops code (ops_of code)) (drop i c.items-parts.result.now)) first
     ∙ ap (flat_map (part_ops code (ops_of code))) is
     ∙ parts_give c.args.code.now c.node_count.ensures.whole c.args.id)
@@ -139,7 +139,7 @@ unfolding optional_ops
 lay_optional-returns-in_ok-place-in-Some t c =
     let code = code_of c.args.code.now in
     subst (λ id. IsLaid code c.args.rows.now.items c.lay_node.new.rows.items (optional_ops code id) c.args.next
-    c.in_ok-place-in-Some.place) (sym c.in-Some.is) c.in_ok-place-in-Some.ensures
+    c.in_ok-place-in-Some.position) (sym c.in-Some.is) c.in_ok-place-in-Some.ensures
 
 pub lay_part-lay_node-requires : goal.lay_part-lay_node-requires
 unfolding IsPartBelow
@@ -224,7 +224,7 @@ lay_loop-returns t c =
     laid_set code c.args.rows.now.items c.put_row.new.rows.items c.lay_turn.new.rows.items c.set_row.new.rows.items
     c.args.op
     (ops_of code c.args.parts.body ++ (optional_ops code c.args.parts.step ++ ops_of code c.args.parts.test)) c.args.next
-    c.in_ok-place.place c.in_ok-turn.turn c.requires.inside
+    c.in_ok-place.position c.in_ok-turn.turn c.requires.inside
     (turn_true c.args.code.now c.args.op c.args.parts c.requires.choice)
     (turn_false c.args.code.now c.args.op c.args.parts c.requires.choice)
     c.in_ok-place.ensures.put c.in_ok-place.ensures.place c.in_ok-turn.ensures c.set_row.ensures

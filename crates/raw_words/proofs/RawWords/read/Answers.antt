@@ -7,8 +7,8 @@ some_of None h = cc
 
 pub get-requires : goal.get-requires
 get-requires c =
-    let P : List (Option ℕ) → Type 0 = λ l. IsSome (get_or l c.args.place None) in (
+    let P : List (Option ℕ) → Type 0 = λ l. IsSome (get_or l c.args.index None) in (
       c.self.invariant.0,
-      some_of (get_or c.self.inside.cells.slots c.args.place None) (subst P (sym c.self.view_is)
+      some_of (get_or c.self.inside.cells.slots c.args.index None) (subst P (sym c.self.view_is)
           c.requires),
     )

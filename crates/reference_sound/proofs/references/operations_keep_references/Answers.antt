@@ -10,7 +10,7 @@ returns-clause-operations c =
 
 pub returns-clause-starts : goal.returns-clause-starts
 returns-clause-starts c =
-    λ code s base held inside place release step e. (start_keeps code s base held inside place release).gives step e
+    λ code s base held inside index release step e. (start_keeps code s base held inside index release).gives step e
 
 pub returns-clause-sequencer : goal.returns-clause-sequencer
 returns-clause-sequencer c =

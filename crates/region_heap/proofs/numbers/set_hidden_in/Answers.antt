@@ -8,7 +8,7 @@ use Rattle.region_heap.proofs.numbers.set_hidden_in.Goals as goal
 pub set_hidden_at-requires : goal.set_hidden_at-requires
 set_hidden_at-requires c =
     let l : IsListed c.args.objects.now c.args.r c.in-Some.first = c.in-Some.ensures.found in
-    subst (λ (n : ℕ). IsObject c.args.words.now n) l.first_is (c.requires.objects l.place l.row l.is)
+    subst (λ (n : ℕ). IsObject c.args.words.now n) l.first_is (c.requires.objects l.index l.row l.is)
 
 pub returns-in-Ok-clause-set : goal.returns-in-Ok-clause-set
 returns-in-Ok-clause-set c = there c.in-Some.first c.in-Some.ensures.found c.in-Ok.ensures.set

@@ -8,6 +8,6 @@ use Rattle.run_plan.proofs.fires_by_unit.due_at.Goals as goal
 
 pub returns : goal.returns
 returns c =
-    let point : IsPartitionPoint (λ (f : Fire). nat_lt f.at c.args.at ≡ true) (λ (f : Fire). nat_lt f.at c.args.at ≡ false) c.args.fires.now c.partition_point-place.result =
-    IsPartitionPoint-from_clause (λ (f : Fire). nat_lt f.at c.args.at) _ _ c.partition_point-place.ensures.partitioned (parted _ _ c.requires) (λ a r q k. search (rules, of_calls)) in
-    c.due_from.ensures ∙ at_point _ _ _ c.requires c.partition_point-place.ensures.bound point
+    let point : IsPartitionPoint (λ (f : Fire). nat_lt f.at c.args.at ≡ true) (λ (f : Fire). nat_lt f.at c.args.at ≡ false) c.args.fires.now c.partition_point-index.result =
+    IsPartitionPoint-from_clause (λ (f : Fire). nat_lt f.at c.args.at) _ _ c.partition_point-index.ensures.partitioned (parted _ _ c.requires) (λ a r q k. search (rules, of_calls)) in
+    c.due_from.ensures ∙ at_point _ _ _ c.requires c.partition_point-index.ensures.bound point

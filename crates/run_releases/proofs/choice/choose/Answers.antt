@@ -24,13 +24,13 @@ loop-left-preserved c =
 
 pub returns-in-Some : goal.returns-in-Some
 returns-in-Some c =
-    ap (λ (x : Candidate). Some x.place) c.candidate.view_is
-    ∙ (ap (option_map (λ (x : Candidate). x.place)) (sym c.in-Some.is)
+    ap (λ (x : Candidate). Some x.index) c.candidate.view_is
+    ∙ (ap (option_map (λ (x : Candidate). x.index)) (sym c.in-Some.is)
     ∙ all_chosen c.args.registry.now c.args.rows.now c.args.places.now c.loop-left.left c.loop-left.found
     (omega arith) c.loop-left.invariant.best)
 
 pub returns-in-None : goal.returns-in-None
 returns-in-None c =
-    ap (option_map (λ (x : Candidate). x.place)) (sym c.in-None.is)
+    ap (option_map (λ (x : Candidate). x.index)) (sym c.in-None.is)
     ∙ all_chosen c.args.registry.now c.args.rows.now c.args.places.now c.loop-left.left c.loop-left.found
     (omega arith) c.loop-left.invariant.best

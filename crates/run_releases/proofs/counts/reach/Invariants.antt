@@ -6,4 +6,4 @@ abbrev pub invariant-loop-numbers : goal.invariant-loop-numbers
 invariant-loop-numbers l = (k : ℕ) → slice_index l.numbers.items k ≡ slice_index l.initial.numbers.items k
 
 abbrev pub decreases-loop-numbers : goal.decreases-loop-numbers
-decreases-loop-numbers l = l.place + 1 - vec_len l.numbers
+decreases-loop-numbers l = l.index + 1 - vec_len l.numbers

@@ -3,5 +3,5 @@ use Rattle.std.specs.List.{list_any}
 use Rattle.run_releases.specs.Counts.{is_under_way_at}
 use Rattle.run_releases.proofs.places.any_started.Given as goal
 
-abbrev pub invariant-loop-place : goal.invariant-loop-place
-invariant-loop-place l = list_any (is_under_way_at l.rows) (take l.place-index l.places) ≡ false
+abbrev pub invariant-loop-index : goal.invariant-loop-index
+invariant-loop-index l = list_any (is_under_way_at l.rows) (take l.index-index l.places) ≡ false

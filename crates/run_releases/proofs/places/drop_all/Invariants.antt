@@ -5,7 +5,7 @@ use Rattle.run_releases.specs.declared.rows.Release.{Release as StoredRelease}
 use Rattle.run_releases.specs.Rows.{dropped_row}
 use Rattle.run_releases.proofs.places.drop_all.Given as goal
 
-abbrev pub invariant-loop-place : goal.invariant-loop-place
-invariant-loop-place l =
-    l.rows.items ≡ fold (λ (some : List StoredRelease) (place : ℕ). changed dropped_row place some) l.initial.rows.items
-    (take l.place-index l.places)
+abbrev pub invariant-loop-index : goal.invariant-loop-index
+invariant-loop-index l =
+    l.rows.items ≡ fold (λ (some : List StoredRelease) (index : ℕ). changed dropped_row index some) l.initial.rows.items
+    (take l.index-index l.places)

@@ -4,4 +4,4 @@ use Rattle.run_releases.proofs.places.forget.Goals as goal
 
 pub returns : goal.returns
 returns c =
-    filter_same _ (λ other. not (other == c.args.place)) _ (λ x b f' k. search rules) _ _ c.retain.ensures.filtered
+    filter_same _ (λ other. not (other == c.args.index)) _ (λ x b f' k. search rules) _ _ c.retain.ensures.filtered

@@ -19,7 +19,7 @@ returns-then-was_full c = λ g before h.
     let full : c.was_full.result ≡ true = search rules in
     same_step code c.refused.new.state c.args.told.now.items c.refused.new.told.items _ _
     (called_full code (state_of code c.args.state.now) (job_seen c.args.acting.job) (activity_seen code before)
-    (frames_of code before.frames) c.args.acting.place g (sym (c.was_full.ensures.full code g before h) ∙ full))
+    (frames_of code before.frames) c.args.acting.position g (sym (c.was_full.ensures.full code g before h) ∙ full))
     (c.in_ok-refused.ensures code g before h)
 
 pub returns-in_ok-put_back-in-None : goal.returns-in_ok-put_back-in-None
@@ -29,7 +29,7 @@ returns-in_ok-put_back-in-None c = λ g before h.
     let few : c.was_full.result ≡ false = search rules in
     same_step code c.put_back.new.state c.args.told.now.items c.args.told.now.items _ _
     (called_plainly code (state_of code c.args.state.now) (job_seen c.args.acting.job) (activity_seen code before)
-    (frames_of code before.frames) c.args.acting.place g (sym (c.was_full.ensures.full code g before h) ∙ few)
+    (frames_of code before.frames) c.args.acting.position g (sym (c.was_full.ensures.full code g before h) ∙ few)
     (sym (c.in-None.ensures g before h)))
     (record {
       state = c.in_ok-put_back-in-None.ensures.put code ∙ ap (λ (a : Activity).
@@ -45,7 +45,7 @@ returns-in_ok-refused-in-Some c = λ g before h.
     let few : c.was_full.result ≡ false = search rules in
     same_step code c.refused-then-ceiling-activity.new.state c.args.told.now.items c.refused-then-ceiling-activity.new.told.items _ _
     (called_above code (state_of code c.args.state.now) (job_seen c.args.acting.job) (activity_seen code before)
-    (frames_of code before.frames) c.args.acting.place g c.in-Some.ceiling
+    (frames_of code before.frames) c.args.acting.position g c.in-Some.ceiling
     (sym (c.was_full.ensures.full code g before h) ∙ few) (sym (c.in-Some.ensures g before h))
     (lt-ltb c.in-Some.ceiling before.priority
     (rw (sym (ap (λ (a : StoredActivity). a.priority) h.whole)) (search rules))))
@@ -58,7 +58,7 @@ returns-in_ok-entered-in-Some c = λ g before h.
     let few : c.was_full.result ≡ false = search rules in
     same_step code c.entered.new.state c.args.told.now.items c.entered.new.told.items _ _
     (called_entering code (state_of code c.args.state.now) (job_seen c.args.acting.job) (activity_seen code before)
-    (frames_of code before.frames) c.args.acting.place g c.in-Some.ceiling
+    (frames_of code before.frames) c.args.acting.position g c.in-Some.ceiling
     (sym (c.was_full.ensures.full code g before h) ∙ few) (sym (c.in-Some.ensures g before h))
     (le-ltb c.in-Some.ceiling before.priority
     (rw (sym (ap (λ (a : StoredActivity). a.priority) h.whole)) (search rules))))

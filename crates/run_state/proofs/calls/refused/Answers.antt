@@ -20,7 +20,7 @@ returns c = λ code g before h.
     c.drop_top.ensures
     ∙ without_top code g before c.args.activity h in
     subst (λ (a : StoredActivity). IsStep code
-    (fault_in (state_of code c.args.state.now) (job_seen c.args.acting.job) (activity_seen code a) c.args.acting.place
+    (fault_in (state_of code c.args.state.now) (job_seen c.args.acting.job) (activity_seen code a) c.args.acting.position
     c.args.fault)
     c.fault_in.new.state c.args.told.now.items c.fault_in.new.told.items)
     same (c.in_ok-fault_in.ensures code)

@@ -24,7 +24,7 @@ returns-in-Sequencer-clause-left c = λ code.
 pub returns-in-Release-clause-taken : goal.returns-in-Release-clause-taken
 returns-in-Release-clause-taken c = λ code.
     rw c.in-Release.is (ap (option_map (activity_seen code)) c.take_activity.ensures.taken
-    ∙ found_activity code c.args.state.now c.in-Release.place)
+    ∙ found_activity code c.args.state.now c.in-Release.index)
 
 pub returns-in-Release-clause-left : goal.returns-in-Release-clause-left
 returns-in-Release-clause-left c = λ code. rw c.in-Release.is (left code c.take_activity.result refl)
@@ -32,13 +32,13 @@ returns-in-Release-clause-left c = λ code. rw c.in-Release.is (left code c.take
     left : (code : Listing) (o : Option StoredActivity) → c.take_activity.result ≡ o →
         OnSome o
         (state_of code (let st : RunState = record c.args.state.now { releases = c.take_activity.new.self } in st)
-        ≡ with_activity (state_of code c.args.state.now) (ReleaseAt c.in-Release.place) no_activity)
+        ≡ with_activity (state_of code c.args.state.now) (ReleaseAt c.in-Release.index) no_activity)
     left code None e = tt
     left code (Some a) e =
         ap (λ (rs : StoredReleases). state_of code (let st : RunState = record c.args.state.now { releases = rs } in
         st))
         c.take_activity.ensures.left
-        ∙ emptied code c.args.state.now c.in-Release.place a (sym c.take_activity.ensures.taken ∙ e)
+        ∙ emptied code c.args.state.now c.in-Release.index a (sym c.take_activity.ensures.taken ∙ e)
 
 pub returns-in-Release-clause-missing : goal.returns-in-Release-clause-missing
 returns-in-Release-clause-missing c = missing c.take_activity.result refl
@@ -49,5 +49,5 @@ returns-in-Release-clause-missing c = missing c.take_activity.result refl
     missing None e =
         ap (λ (rs : StoredReleases). let st : RunState = record c.args.state.now { releases = rs } in st)
         (c.take_activity.ensures.left
-        ∙ not_emptied c.args.state.now.releases c.in-Release.place (sym c.take_activity.ensures.taken ∙ e))
+        ∙ not_emptied c.args.state.now.releases c.in-Release.index (sym c.take_activity.ensures.taken ∙ e))
     missing (Some a) e = tt

@@ -10,8 +10,8 @@ use Rattle.run_state.proofs.memory.make_array.Goals as goal
 
 pub returns-in-Ok-clause-made : goal.returns-in-Ok-clause-made
 unfolding state_of
-returns-in-Ok-clause-made c = λ code job activity place.
-    object_there (state_of code c.args.state.now) job activity place c.args.array.class c.args.area
+returns-in-Ok-clause-made c = λ code job activity position.
+    object_there (state_of code c.args.state.now) job activity position c.args.array.class c.args.area
     (new_elements c.args.array.kind c.args.array.count) c.in-Ok.made _
     (ap (λ (n : ℕ). has_room (state_of code c.args.state.now) c.args.area n)
     (length-replicate c.args.array.count (default_value c.args.array.kind))
@@ -24,8 +24,8 @@ returns-in-Ok-clause-made c = λ code job activity place.
 
 pub returns-in-Err-clause-made : goal.returns-in-Err-clause-made
 unfolding state_of
-returns-in-Err-clause-made c = λ code job activity place.
-    memory_full_after (state_of code c.args.state.now) job activity place c.args.array.class c.args.area
+returns-in-Err-clause-made c = λ code job activity position.
+    memory_full_after (state_of code c.args.state.now) job activity position c.args.array.class c.args.area
     (new_elements c.args.array.kind c.args.array.count) _
     (ap (λ (n : ℕ). has_room (state_of code c.args.state.now) c.args.area n)
     (length-replicate c.args.array.count (default_value c.args.array.kind))

@@ -7,8 +7,8 @@ use Rattle.run_state.proofs.memory.open_area.Goals as goal
 
 pub returns-in-Ok-clause-opened : goal.returns-in-Ok-clause-opened
 unfolding state_of
-returns-in-Ok-clause-opened c = λ code job activity place.
-    area_there (state_of code c.args.state.now) job activity place c.args.area.scope c.args.area.parent
+returns-in-Ok-clause-opened c = λ code job activity position.
+    area_there (state_of code c.args.state.now) job activity position c.args.area.scope c.args.area.parent
     c.args.area.bytes c.in-Ok.opened _ (sym (c.in-Ok.ensures.full (state_of code c.args.state.now)))
     c.in-Ok.ensures.number
     (ap (λ (m : Contents). state_of code (let st : RunState = record c.args.state.now { memory = m } in st))
@@ -16,8 +16,8 @@ returns-in-Ok-clause-opened c = λ code job activity place.
 
 pub returns-in-Err-clause-opened : goal.returns-in-Err-clause-opened
 unfolding state_of
-returns-in-Err-clause-opened c = λ code job activity place.
-    store_full_after (state_of code c.args.state.now) job activity place c.args.area.scope c.args.area.parent
+returns-in-Err-clause-opened c = λ code job activity position.
+    store_full_after (state_of code c.args.state.now) job activity position c.args.area.scope c.args.area.parent
     c.args.area.bytes _ (sym (c.in-Err.ensures.full (state_of code c.args.state.now)))
     (ap (λ (m : Contents). state_of code (let st : RunState = record c.args.state.now { memory = m } in st))
     c.in-Err.ensures.err)

@@ -15,7 +15,7 @@ returns-then-is_cycle c = λ code g before h.
     let cycle : c.is_cycle.result ≡ true = search rules in
     same_step code c.refused.new.state c.args.told.now.items c.refused.new.told.items _ _
     (opened_in_cycle code (state_of code c.args.state.now) (job_seen c.args.acting.job) (activity_seen code before)
-    (frames_of code before.frames) c.args.acting.place g c.args.scope c.args.bytes
+    (frames_of code before.frames) c.args.acting.position g c.args.scope c.args.bytes
     (ap (λ (a : StoredActivity). is_some (area_with_scope (state_of code c.args.state.now) c.args.scope a.areas))
     (sym h.whole) ∙ (sym (c.is_cycle.ensures code) ∙ cycle)))
     (c.in_ok-refused.ensures code g before h)
@@ -26,7 +26,7 @@ returns-then-was_full c = λ code g before h.
     let full : c.was_full.result ≡ true = search rules in
     same_step code c.refused-then-was_full.new.state c.args.told.now.items c.refused-then-was_full.new.told.items _ _
     (opened_in_full code (state_of code c.args.state.now) (job_seen c.args.acting.job) (activity_seen code before)
-    (frames_of code before.frames) c.args.acting.place g c.args.scope c.args.bytes
+    (frames_of code before.frames) c.args.acting.position g c.args.scope c.args.bytes
     (ap (λ (a : StoredActivity). is_some (area_with_scope (state_of code c.args.state.now) c.args.scope a.areas))
     (sym h.whole) ∙ (sym (c.is_cycle.ensures code) ∙ other))
     (sym (c.was_full.ensures.full code g before h) ∙ full))
@@ -38,12 +38,12 @@ returns c = λ code g before h.
     let few : c.was_full.result ≡ false = search rules in
     same_step code c.opened_on_top.new.state c.args.told.now.items c.opened_on_top.new.told.items _ _
     (opened_in_new code (state_of code c.args.state.now) (job_seen c.args.acting.job) (activity_seen code before)
-    (frames_of code before.frames) c.args.acting.place g c.args.scope c.args.bytes
+    (frames_of code before.frames) c.args.acting.position g c.args.scope c.args.bytes
     (ap (λ (a : StoredActivity). is_some (area_with_scope (state_of code c.args.state.now) c.args.scope a.areas))
     (sym h.whole) ∙ (sym (c.is_cycle.ensures code) ∙ other))
     (sym (c.was_full.ensures.full code g before h) ∙ few)
     ∙ ap (λ (parent : Option ℕ). call_opened (state_of code c.args.state.now) (job_seen c.args.acting.job)
-    (activity_seen code before) (frames_of code before.frames) c.args.acting.place g c.args.scope parent c.args.bytes)
+    (activity_seen code before) (frames_of code before.frames) c.args.acting.position g c.args.scope parent c.args.bytes)
     (sym (c.area_on_top-parent.ensures code g before h)))
     (c.in_ok-opened_on_top.ensures code g before h)
 

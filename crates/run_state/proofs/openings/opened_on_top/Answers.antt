@@ -16,12 +16,12 @@ refused-requires c =
 pub returns-in_ok-put_back-in-Some : goal.returns-in_ok-put_back-in-Some
 returns-in_ok-put_back-in-Some c = λ code g before h.
     opened_step code (state_of code c.args.state.now) (job_seen c.args.acting.job) (activity_seen code before)
-    (frames_of code before.frames) c.args.acting.place g c.args.area.scope c.args.area.parent c.args.area.bytes
+    (frames_of code before.frames) c.args.acting.position g c.args.area.scope c.args.area.parent c.args.area.bytes
     (state_of code c.open_area.new.state) c.put_back.new.state c.args.told.now.items c.args.told.now.items
     c.in-Some.opened
     (rw c.in-Some.is at
     (c.open_area.ensures.opened code (job_seen c.args.acting.job)
-    (activity_seen code before) c.args.acting.place))
+    (activity_seen code before) c.args.acting.position))
     (record {
       state = c.in_ok-put_back-in-Some.ensures.put code ∙ ap (λ (a : Activity).
           with_activity (state_of code c.open_area.new.state) (job_seen c.args.acting.job) a)
@@ -32,9 +32,9 @@ returns-in_ok-put_back-in-Some c = λ code g before h.
 pub returns-in_ok-refused-in-None : goal.returns-in_ok-refused-in-None
 returns-in_ok-refused-in-None c = λ code g before h.
     unopened_step code (state_of code c.args.state.now) (job_seen c.args.acting.job) (activity_seen code before)
-    (frames_of code before.frames) c.args.acting.place g c.args.area.scope c.args.area.parent c.args.area.bytes
+    (frames_of code before.frames) c.args.acting.position g c.args.area.scope c.args.area.parent c.args.area.bytes
     (state_of code c.open_area.new.state) c.refused.new.state c.args.told.now.items c.refused.new.told.items
     (rw c.in-None.is at
     (c.open_area.ensures.opened code (job_seen c.args.acting.job)
-    (activity_seen code before) c.args.acting.place))
+    (activity_seen code before) c.args.acting.position))
     (c.in_ok-refused-in-None.ensures code g before h)

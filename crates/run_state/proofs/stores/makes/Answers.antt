@@ -23,5 +23,5 @@ returns c = λ code.
     c.args.object.slots.items c.make_object-found.result c.make_object-found.new.state c.made.new.state c.args.told.now.items c.made.new.told.items
     c.in_ok-area.ensures.area
     (c.make_object-found.ensures.made code (job_seen c.args.acting.job) (activity_seen code c.args.activity)
-    c.args.acting.place)
+    c.args.acting.position)
     (λ f below e. c.in_ok-made.ensures code f below e)

@@ -24,5 +24,5 @@ returns c = λ code.
     (new_elements c.args.array.kind c.args.array.count) c.make_array-found.result c.make_array-found.new.state c.made.new.state c.args.told.now.items c.made.new.told.items
     c.in_ok-area.ensures.area
     (c.make_array-found.ensures.made code (job_seen c.args.acting.job) (activity_seen code c.args.activity)
-    c.args.acting.place)
+    c.args.acting.position)
     (λ f below e. c.in_ok-made.ensures code f below e)

@@ -29,5 +29,5 @@ returns-in_ok-fault_in-in-Release c = λ code.
     applied_as code c.args.state.now c.args.acting c.args.activity (λ f. SetsCeiling f c.args.r c.args.ceiling)
     c.fault_in.new.state c.args.told.now.items c.fault_in.new.told.items
     (fault_in (state_of code c.args.state.now) (job_seen c.args.acting.job) (activity_seen code c.args.activity)
-    c.args.acting.place NotInitializing)
+    c.args.acting.position NotInitializing)
     (λ f below e. rw c.in-Release.is refl) (c.in_ok-fault_in-in-Release.ensures code)

@@ -12,11 +12,11 @@ pub returns : goal.returns
 unfolding applied state_of
 returns c = λ code told.
     applied_on_memory code c.args.state.now c.args.acting c.args.activity
-    (λ f. StoresStatic f c.args.place c.args.value)
+    (λ f. StoresStatic f c.args.index c.args.value)
     c.set_static.new.self c.put_back.new.state told
     (record
     (state_of code c.args.state.now)
-    { statics = slice_set (state_of code c.args.state.now).statics c.args.place c.args.value }) (λ f below. refl)
+    { statics = slice_set (state_of code c.args.state.now).statics c.args.index c.args.value }) (λ f below. refl)
     (ap (λ (m : Contents). state_of code (let st : RunState = record c.args.state.now { memory = m } in st))
     c.set_static.ensures)
     (c.in_ok-put_back.ensures.put code)

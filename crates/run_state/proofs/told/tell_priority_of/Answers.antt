@@ -9,13 +9,13 @@ use Rattle.run_state.proofs.told.tell_priority_of.Goals as goal
 pub returns-in_ok-tell-in-Some : goal.returns-in_ok-tell-in-Some
 returns-in_ok-tell-in-Some c = λ code.
     c.in_ok-tell-in-Some.ensures ∙ ap (λ (es : List Event). c.args.told.now.items ++ es)
-    (sym (told_of code c.args.state.now c.args.place
+    (sym (told_of code c.args.state.now c.args.index
     (λ (r : Release). Prio c.args.state.now.unit r.handler c.args.priority ∷ [])
     c.in-Some.release.now c.in-Some.ensures))
 
 pub returns-in-None : goal.returns-in-None
 returns-in-None c = λ code.
     sym (append-nil c.args.told.now.items) ∙ ap (λ (es : List Event). c.args.told.now.items ++ es)
-    (sym (told_of_none code c.args.state.now c.args.place
+    (sym (told_of_none code c.args.state.now c.args.index
     (λ (r : Release). Prio c.args.state.now.unit r.handler c.args.priority ∷ [])
     c.in-None.ensures))

@@ -5,7 +5,7 @@ use Rattle.runs_in_check.proofs.guards.asked.Goals as goal
 
 pub returns : goal.returns
 returns c = λ number.
-    let full : length c.args.facts.now.nodes ≤ c.loop-place.place =
-    omega (arith, rw c.program-program.ensures at c.len-place-end.ensures.value) in
-    c.loop-place.invariant number
-    ∙ all_below c.args.facts.now (lookup None c.args.types.now) c.loop-place.place number full
+    let full : length c.args.facts.now.nodes ≤ c.loop-index.index =
+    omega (arith, rw c.program-program.ensures at c.len-index-end.ensures.value) in
+    c.loop-index.invariant number
+    ∙ all_below c.args.facts.now (lookup None c.args.types.now) c.loop-index.index number full

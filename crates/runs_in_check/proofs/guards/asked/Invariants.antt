@@ -6,6 +6,6 @@ use Rattle.scj_rules.specs.Guards.{asked_at}
 use Rattle.runs_in_check.proofs.guards.asked.Given as goal
 
 -- what the nodes so far ask
-abbrev pub invariant-loop-place : goal.invariant-loop-place
-invariant-loop-place l = (number : ℕ) → get ◌==◌ l.rows number
-    ≡ (if nat_lt number l.place then asked_at (declarations_of l.facts) (lookup None l.types) number else None)
+abbrev pub invariant-loop-index : goal.invariant-loop-index
+invariant-loop-index l = (number : ℕ) → get ◌==◌ l.rows number
+    ≡ (if nat_lt number l.index then asked_at (declarations_of l.facts) (lookup None l.types) number else None)

@@ -5,6 +5,6 @@ use Rattle.scj_rules.specs.Guards.{asked_at}
 use Rattle.runs_in_check.proofs.guards.is_any_asked.Given as goal
 
 -- no node so far asks
-abbrev pub invariant-loop-place : goal.invariant-loop-place
-invariant-loop-place l =
-    (number : ℕ) → number < l.place → asked_at (declarations_of l.facts) (lookup None l.types) number ≡ None
+abbrev pub invariant-loop-index : goal.invariant-loop-index
+invariant-loop-index l =
+    (number : ℕ) → number < l.index → asked_at (declarations_of l.facts) (lookup None l.types) number ≡ None

@@ -5,7 +5,7 @@ use Rattle.runs_in_check.proofs.guards.undo_one.Goals as goal
 
 pub returns-then-is_asked_of : goal.returns-then-is_asked_of
 returns-then-is_asked_of c = λ other.
-    (rw c.place.ensures at (c.remove.ensures.updates.0 other))
+    (rw c.number.ensures at (c.remove.ensures.updates.0 other))
     ∙ left_without c.args.x.now (get ◌==◌ c.args.rows.now) c.args.number
     (sym c.is_asked_of.ensures ∙ c.if-is_asked_of.true) other
 

@@ -5,7 +5,7 @@ use Rattle.scj_lexer.proofs.texts.behind.Given as goal
 
 abbrev pub invariant-loop-byte : goal.invariant-loop-byte
 invariant-loop-byte l = record {
-  so_far : l.place ≡ fold place_behind_byte l.fn.pos (take l.byte-index l.bytes);
-  line : l.place.line ≤ l.fn.pos.line + l.byte-index;
-  column : l.place.col ≤ l.fn.pos.col + l.byte-index;
+  so_far : l.position ≡ fold place_behind_byte l.fn.pos (take l.byte-index l.bytes);
+  line : l.position.line ≤ l.fn.pos.line + l.byte-index;
+  column : l.position.col ≤ l.fn.pos.col + l.byte-index;
 }

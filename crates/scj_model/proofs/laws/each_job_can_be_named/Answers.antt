@@ -9,6 +9,6 @@ use Rattle.scj_model.proofs.laws.each_job_can_be_named.Goals as goal
 pub returns : goal.returns
 returns c =
     record {
-      release = λ code plan choices s place step h m e. by_some_list code plan Operated (with_turn step.state (TurnOf place)) (release_named code plan choices s place step h m e);
+      release = λ code plan choices s index step h m e. by_some_list code plan Operated (with_turn step.state (TurnOf index)) (release_named code plan choices s index step h m e);
       sequencer = λ code plan choices s step h m e. sequencer_named code plan (by_list choices) s step h m e;
     }

@@ -10,7 +10,7 @@ unfolding too_deep
 returns-then-body_height-gt-HIGHEST c =
     let P : ℕ → Type 0 = λ f. first_too_deep c.args.nodes.now (drop f c.args.nodes.now) ≡ Some
     (place_of c.index-nodes-next.result) in
-    ap (λ (p : Pos). Some p) c.place.ensures ∙ sym (subst P c.loop-next.invariant.first (gone_deep c.args.nodes.now _ _
+    ap (λ (p : Pos). Some p) c.position.ensures ∙ sym (subst P c.loop-next.invariant.first (gone_deep c.args.nodes.now _ _
     c.loop-next.next c.loop-next.invariant.gone c.index-nodes-next.result (omega arith) c.index-nodes-next.is
     (omega (arith, c.body_height.ensures))))
 

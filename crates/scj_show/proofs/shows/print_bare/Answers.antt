@@ -3,13 +3,13 @@ use Rattle.scj_show.specs.Parts.{bare_parts}
 use Rattle.scj_show.proofs.Unfolding.{bare_printed, bare_printed_behind, bare_smaller, none_smaller}
 use Rattle.scj_show.proofs.shows.print_bare.Goals as goal
 
-pub returns-then-place-len-clause-printed : goal.returns-then-place-len-clause-printed
-returns-then-place-len-clause-printed c =
+pub returns-then-number-len-clause-printed : goal.returns-then-number-len-clause-printed
+returns-then-number-len-clause-printed c =
     let behind : length c.args.program.now.nodes ≤ c.args.id = omega arith in
     bare_printed_behind c.args.program.now.nodes c.args.id c.args.parts.now behind c.requires
 
-pub returns-then-place-len-clause-smaller : goal.returns-then-place-len-clause-smaller
-returns-then-place-len-clause-smaller c = none_smaller _ _ _ c.requires
+pub returns-then-number-len-clause-smaller : goal.returns-then-number-len-clause-smaller
+returns-then-number-len-clause-smaller c = none_smaller _ _ _ c.requires
 
 pub returns-clause-printed : goal.returns-clause-printed
 returns-clause-printed c =

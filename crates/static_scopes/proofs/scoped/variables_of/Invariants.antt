@@ -6,6 +6,6 @@ use Rattle.scj_rules.specs.Contexts.{declarations_of}
 use Rattle.scj_rules.specs.UseRules.{variable_scope_at}
 use Rattle.static_scopes.proofs.scoped.variables_of.Given as goal
 
-abbrev pub invariant-loop-place : goal.invariant-loop-place
-invariant-loop-place l = (id : ℕ) (scope : Scope) → get nat_cmp l.rows id ≡ Some scope →
+abbrev pub invariant-loop-number : goal.invariant-loop-number
+invariant-loop-number l = (id : ℕ) (scope : Scope) → get nat_cmp l.rows id ≡ Some scope →
     variable_scope_at (declarations_of l.facts) id ≡ Some scope

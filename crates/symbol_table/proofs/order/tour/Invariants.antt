@@ -1,5 +1,5 @@
 use Rattle.symbol_table.specs.Symbols.{AreClasses}
 use Rattle.symbol_table.proofs.order.tour.Given as goal
 
-abbrev pub invariant-loop-place : goal.invariant-loop-place
-invariant-loop-place l = AreClasses l.classes l.order.items
+abbrev pub invariant-loop-index : goal.invariant-loop-index
+invariant-loop-index l = AreClasses l.classes l.order.items

@@ -7,10 +7,10 @@ use Rattle.type_check.proofs.PassLemmas.{breaks_at}
 use Rattle.type_check.proofs.types.check_types.Given as goal
 
 -- the types of the nodes so far, what is broken at them, and their rows
-abbrev pub invariant-loop-place : goal.invariant-loop-place
-invariant-loop-place l = record {
-  typed : l.types.items ≡ bottom_up None (type_of_next (declarations_of l.facts)) l.place;
+abbrev pub invariant-loop-number : goal.invariant-loop-number
+invariant-loop-number l = record {
+  typed : l.types.items ≡ bottom_up None (type_of_next (declarations_of l.facts)) l.number;
   noted : l.found.items ≡ joined_below
-      (breaks_at (declarations_of l.facts) (lookup None (types_in (declarations_of l.facts)))) l.place;
+      (breaks_at (declarations_of l.facts) (lookup None (types_in (declarations_of l.facts)))) l.number;
   right : AreMeanings l.facts l.rows.items;
 }

@@ -33,7 +33,7 @@ printed_alike code was acting activity effect st before after label value h same
       (λ (x : Effect).
       IsTry code
       (applied (code_of code.program) (state_of code was) (job_seen acting.job) (activity_seen code activity) (frames_of code below)
-      acting.place x) true st before after)
+      acting.position x) true st before after)
       (same (frame_of code f)) (h.tried f below e);
 }
 

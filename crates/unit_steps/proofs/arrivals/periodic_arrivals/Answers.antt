@@ -7,20 +7,20 @@ returns-then-not-takes_releases c = λ code.
     nobody_arrives code c.args.state.now c.args.told.now.items
     (sym (c.takes_releases.ensures code) ∙ c.if-not-takes_releases.true)
 
-pub loop-place-init : goal.loop-place-init
-loop-place-init c = λ code. none_arrived code c.args.state.now c.args.told.now.items
+pub loop-index-init : goal.loop-index-init
+loop-index-init c = λ code. none_arrived code c.args.state.now c.args.told.now.items
 
-pub loop-place-preserved : goal.loop-place-preserved
-loop-place-preserved c = λ code.
-    next_arrived code c.args.state.now c.loop-place.state c.arrive_if_due.new.state c.loop-place.place
-    c.args.told.now.items c.loop-place.told.items c.arrive_if_due.new.told.items
-    (omega (arith, c.loop-place-test.true, c.len-place-end.ensures, ap length (registry_seen code c.args.state.now)))
-    (c.loop-place.invariant code)
+pub loop-index-preserved : goal.loop-index-preserved
+loop-index-preserved c = λ code.
+    next_arrived code c.args.state.now c.loop-index.state c.arrive_if_due.new.state c.loop-index.index
+    c.args.told.now.items c.loop-index.told.items c.arrive_if_due.new.told.items
+    (omega (arith, c.loop-index-test.true, c.len-index-end.ensures, ap length (registry_seen code c.args.state.now)))
+    (c.loop-index.invariant code)
     (c.in_ok-arrive_if_due.ensures code)
 
 pub returns : goal.returns
 returns c = λ code.
-    all_arrived code c.args.state.now c.loop-place.state c.loop-place.place c.args.told.now.items
-    c.loop-place.told.items (sym (c.takes_releases.ensures code) ∙ c.if-not-takes_releases.false)
-    (omega (arith, c.loop-place-test.false, c.len-place-end.ensures, ap length (registry_seen code c.args.state.now)))
-    (c.loop-place.invariant code)
+    all_arrived code c.args.state.now c.loop-index.state c.loop-index.index c.args.told.now.items
+    c.loop-index.told.items (sym (c.takes_releases.ensures code) ∙ c.if-not-takes_releases.false)
+    (omega (arith, c.loop-index-test.false, c.len-index-end.ensures, ap length (registry_seen code c.args.state.now)))
+    (c.loop-index.invariant code)

@@ -3,7 +3,7 @@ use Rattle.unit_steps.proofs.Arriving.{AreArriving}
 use Rattle.unit_steps.proofs.arrivals.periodic_arrivals.Given as goal
 
 -- the handlers before the place are released if they were due
-abbrev pub invariant-loop-place : goal.invariant-loop-place
-invariant-loop-place l =
+abbrev pub invariant-loop-index : goal.invariant-loop-index
+invariant-loop-index l =
     (code : Listing) →
-    AreArriving code l.initial.state l.state l.place l.initial.told.items l.told.items
+    AreArriving code l.initial.state l.state l.index l.initial.told.items l.told.items

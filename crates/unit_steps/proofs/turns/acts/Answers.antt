@@ -40,12 +40,12 @@ turn_acts-requires c =
     let same = sym c.in_ok-turn_taken.ensures.same in
     record {
       numbers = subst (λ (st : RunState). HasNumbers st.memory) same c.requires.stands.numbers;
-      start = λ place e. subst (λ (st : RunState). StartStands st place) same
-          (start_with_turn c.args.state.now place (Some c.turn_of-turn.result)
-          (c.requires.stands.start place (sym (c.turn_of-turn.ensures code) ∙ ap (λ (turn : TurnSeen). Some turn) e)));
-      job = λ place e. subst (λ (st : RunState). JobStands code c.args.plan.now.readings st (ReleaseAt place)) same
-          (job_with_turn code c.args.plan.now.readings c.args.state.now (ReleaseAt place) (Some c.turn_of-turn.result)
-          (c.requires.stands.release place (sym (c.turn_of-turn.ensures code) ∙ ap (λ (turn : TurnSeen). Some turn) e)));
+      start = λ index e. subst (λ (st : RunState). StartStands st index) same
+          (start_with_turn c.args.state.now index (Some c.turn_of-turn.result)
+          (c.requires.stands.start index (sym (c.turn_of-turn.ensures code) ∙ ap (λ (turn : TurnSeen). Some turn) e)));
+      job = λ index e. subst (λ (st : RunState). JobStands code c.args.plan.now.readings st (ReleaseAt index)) same
+          (job_with_turn code c.args.plan.now.readings c.args.state.now (ReleaseAt index) (Some c.turn_of-turn.result)
+          (c.requires.stands.release index (sym (c.turn_of-turn.ensures code) ∙ ap (λ (turn : TurnSeen). Some turn) e)));
     }
 
 pub returns-clause-led : goal.returns-clause-led

@@ -10,7 +10,7 @@ use Rattle.unit_steps.proofs.turns.release_turn.Goals as goal
 
 pub returns-in_ok-went-in-Starts-clause-led : goal.returns-in_ok-went-in-Starts-clause-led
 returns-in_ok-went-in-Starts-clause-led c =
-    let there = starts_by c.args.code.now c.args.plan.now.readings c.args.state.now c.args.place
+    let there = starts_by c.args.code.now c.args.plan.now.readings c.args.state.now c.args.index
     c.in-Starts.handler c.in-Starts.ensures in
     led_by c.args.code.now _ c.came_to.result c.in_ok-went-in-Starts.went c.start_op.new.state
     c.args.told.now.items c.start_op.new.told.items c.came_to.ensures.went
@@ -22,13 +22,13 @@ returns-in_ok-went-in-Starts-clause-led c =
 pub returns-in_ok-went-in-Starts-clause-refused : goal.returns-in_ok-went-in-Starts-clause-refused
 returns-in_ok-went-in-Starts-clause-refused c =
     refuses_as c.came_to.result _ _
-    (start_refused c.args.code.now c.args.plan.now.readings c.args.state.now c.args.place
+    (start_refused c.args.code.now c.args.plan.now.readings c.args.state.now c.args.index
     c.in-Starts.handler c.in-Starts.ensures)
     c.came_to.ensures.refused
 
 pub returns-in_ok-acted-in-GoesOn-clause-led : goal.returns-in_ok-acted-in-GoesOn-clause-led
 returns-in_ok-acted-in-GoesOn-clause-led c =
-    let there = goes_on_with c.args.code.now c.args.plan.now.readings c.args.state.now c.args.place
+    let there = goes_on_with c.args.code.now c.args.plan.now.readings c.args.state.now c.args.index
     c.in-GoesOn.ensures in
     led_as c.args.code.now (went c.in_ok-acted-in-GoesOn.acted) c.frame_op.new.state c.args.told.now.items
     c.frame_op.new.told.items _ _ there.2
@@ -36,20 +36,20 @@ returns-in_ok-acted-in-GoesOn-clause-led c =
 
 pub returns-in_ok-acted-in-GoesOn-clause-refused : goal.returns-in_ok-acted-in-GoesOn-clause-refused
 returns-in_ok-acted-in-GoesOn-clause-refused c =
-    let there = goes_on_with c.args.code.now c.args.plan.now.readings c.args.state.now c.args.place
+    let there = goes_on_with c.args.code.now c.args.plan.now.readings c.args.state.now c.args.index
     c.in-GoesOn.ensures in
     refuses_as c.in_ok-acted-in-GoesOn.acted _ _
     (started_refused c.args.code.now c.args.plan.now.readings
-    (state_of c.args.code.now c.args.state.now) c.args.place
+    (state_of c.args.code.now c.args.state.now) c.args.index
     (activity_seen c.args.code.now there.0) there.1)
     (c.in_ok-acted-in-GoesOn.ensures.refused (activity_seen c.args.code.now there.0) there.1)
 
 pub returns-in-Nothing-clause-led : goal.returns-in-Nothing-clause-led
 returns-in-Nothing-clause-led c =
     none_there c.args.code.now _ c.args.state.now c.args.told.now.items c.args.told.now.items
-    (nothing_done c.args.code.now c.args.plan.now.readings c.args.state.now c.args.place
+    (nothing_done c.args.code.now c.args.plan.now.readings c.args.state.now c.args.index
     c.in-Nothing.ensures) refl
 
 pub start_op-requires-clause-few : goal.start_op-requires-clause-few
 start_op-requires-clause-few c = λ row e.
-    start_few c.args.state.now c.args.place c.in-Starts.handler row c.requires.start c.in-Starts.ensures e
+    start_few c.args.state.now c.args.index c.in-Starts.handler row c.requires.start c.in-Starts.ensures e

@@ -31,7 +31,7 @@ pub returns-in_ok-acted-in-Of-clause-refused : goal.returns-in_ok-acted-in-Of-cl
 returns-in_ok-acted-in-Of-clause-refused c = rw c.in-Of.is (c.in_ok-acted-in-Of.ensures.refused)
 
 pub release_turn-requires-clause-job : goal.release_turn-requires-clause-job
-release_turn-requires-clause-job c = c.requires.job c.in-Of.place (ap turn_seen c.in-Of.is)
+release_turn-requires-clause-job c = c.requires.job c.in-Of.index (ap turn_seen c.in-Of.is)
 
 pub release_turn-requires-clause-start : goal.release_turn-requires-clause-start
-release_turn-requires-clause-start c = c.requires.start c.in-Of.place (ap turn_seen c.in-Of.is)
+release_turn-requires-clause-start c = c.requires.start c.in-Of.index (ap turn_seen c.in-Of.is)

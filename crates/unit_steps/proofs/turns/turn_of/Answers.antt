@@ -8,7 +8,7 @@ use Rattle.unit_steps.proofs.turns.turn_of.Goals as goal
 
 pub returns-in-Some : goal.returns-in-Some
 returns-in-Some c = λ code.
-    turn_is (state_of code c.args.state.now) (Some c.in-Some.place)
+    turn_is (state_of code c.args.state.now) (Some c.in-Some.index)
     (c.in-Some.ensures code (state_of code c.args.state.now)
     ∙ ap (λ (s : State). chosen s)
     (seen_by_choice code c.args.state.now c.as_slice.result.now c.as_slice.ensures.value))

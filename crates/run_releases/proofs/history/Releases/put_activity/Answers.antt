@@ -11,15 +11,15 @@ use Rattle.run_releases.proofs.history.Releases.put_activity.Goals as goal
 
 pub invariant_of-self : goal.invariant_of-self
 invariant_of-self c =
-    let live : is_live_at c.self.inside.rows.items c.args.place ≡ true =
+    let live : is_live_at c.self.inside.rows.items c.args.index ≡ true =
     rw (← c.deref.ensures.value) (sym c.is_live_there.ensures ∙ c.if-not-is_live_there.false) in
     rw (c.take_one.ensures, c.waiting_there.ensures, c.deref-2.ensures.value, c.set_status.ensures)
-    (put_counted _ _ _ _ _ c.args.place (Started c.args.activity) live refl refl c.self.invariant)
+    (put_counted _ _ _ _ _ c.args.index (Started c.args.activity) live refl refl c.self.invariant)
 
 pub returns-clause-seen : goal.returns-clause-seen
 returns-clause-seen c = λ code s.
     let was : StoredReleases = record { rows = c.self.inside.rows.items; earlier = c.self.inside.earlier } in
     let P : StoredReleases → Type 0 = λ rs.
-    with_activity (with_releases code s rs) (ReleaseAt c.args.place) (activity_seen code c.args.activity)
-    ≡ with_releases code s (status_set c.args.place (Started c.args.activity) was) in
-    rw c.set_status.ensures (subst P c.self.view_is (put_seen code s was c.args.place c.args.activity))
+    with_activity (with_releases code s rs) (ReleaseAt c.args.index) (activity_seen code c.args.activity)
+    ≡ with_releases code s (status_set c.args.index (Started c.args.activity) was) in
+    rw c.set_status.ensures (subst P c.self.view_is (put_seen code s was c.args.index c.args.activity))

@@ -6,21 +6,21 @@ use Rattle.trace_audit.proofs.tables.ReleaseTable.arrive.Goals as goal
 
 pub returns-clause-seen : goal.returns-clause-seen
 returns-clause-seen c =
-    let place : c.len-place.result ≡ length c.args.self.now.releases.items = search rules in
+    let index : c.len-index.result ≡ length c.args.self.now.releases.items = search rules in
     let added : HasPlaceAdded c.args.self.now.handlers.items c.add_place.new.handlers.items (c.args.handler - 1)
     (length c.args.self.now.releases.items) =
     subst (λ (n : ℕ). HasPlaceAdded c.args.self.now.handlers.items c.add_place.new.handlers.items (c.args.handler - 1) n)
-    place c.in_ok-add_place.ensures in
+    index c.in_ok-add_place.ensures in
     table_arrived c.args.self.now.handlers.items c.add_place.new.handlers.items c.args.self.now.releases.items
     c.push.new.self.items c.args.handler c.args.number c.requires.next added c.in_ok-push.ensures.items
 
 pub returns-clause-kept : goal.returns-clause-kept
 returns-clause-kept c =
-    let place : c.len-place.result ≡ length c.args.self.now.releases.items = search rules in
+    let index : c.len-index.result ≡ length c.args.self.now.releases.items = search rules in
     let added : HasPlaceAdded c.args.self.now.handlers.items c.add_place.new.handlers.items (c.args.handler - 1)
     (length c.args.self.now.releases.items) =
     subst (λ (n : ℕ). HasPlaceAdded c.args.self.now.handlers.items c.add_place.new.handlers.items (c.args.handler - 1) n)
-    place c.in_ok-add_place.ensures in
+    index c.in_ok-add_place.ensures in
     let few : length c.args.self.now.releases.items < places_end = search rules in
     indexed_arrived c.args.self.now.handlers.items c.add_place.new.handlers.items c.args.self.now.releases.items
     c.push.new.self.items c.args.handler c.args.number c.requires.next added c.in_ok-push.ensures.items
