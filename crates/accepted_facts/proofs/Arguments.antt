@@ -11,7 +11,7 @@ use Rattle.scj_rules.specs.declared.typing.Ty.{Ty}
 use Rattle.scj_rules.specs.declared.typing.Ty.TheVariants.{Int, Bool as Boolean, Void, NullTy, Label, Class as ClassTy, IntArray, BoolArray, ClassArray}
 use Rattle.scj_rules.specs.declared.views.Declared.{Declared}
 use Rattle.scj_rules.specs.Words.{is_among, holds, broken}
-use Rattle.scj_rules.specs.Views.{place_at}
+use Rattle.scj_rules.specs.Views.{position_at}
 use Rattle.scj_rules.specs.Classes.{ClassRow}
 use Rattle.scj_rules.specs.Contexts.{Declarations, declarations_of}
 use Rattle.scj_rules.specs.StaticScopes.{substitute}
@@ -178,11 +178,11 @@ module _ (forest : Forest) (accepted : IsAccepted forest) (whole : IsForest fore
       let q = mapped (all_types types xs) t.0 ts t.2 in
       let parts = and_true (holds (declared_type_of p d) (assigns p.classes t.0)) (accepts_arguments p ds q.0) (ap (accepts_arguments p (d ∷ ds)) q.2 ∙ a) in
       let u = held (declared_type_of p d) (assigns p.classes t.0) parts.0 in
-      let both = both_empty (broken (misfit_scope (scopes x) (option_and_then (substitute (Some home) (Some now)) (scope d))) E3 (place_at p.nodes x)) (misfit_arguments p scopes (λ d. option_and_then (substitute (Some home) (Some now)) (scope d)) ds xs) m in
+      let both = both_empty (broken (misfit_scope (scopes x) (option_and_then (substitute (Some home) (Some now)) (scope d))) E3 (position_at p.nodes x)) (misfit_arguments p scopes (λ d. option_and_then (substitute (Some home) (Some now)) (scope d)) ds xs) m in
       let k = kinds d here in
       let seen : kind_of (Some u.0) (option_and_then (substitute (Some home) (Some now)) (scope d)) ≡ Some (seen_kind home now k.0)
       = ap (λ (o : Option Ty). kind_of o (option_and_then (substitute (Some home) (Some now)) (scope d))) (sym u.1) ∙ seen_there home now (declared_type_of p d) (scope d) ∙ ap (seen_option home now) k.1 ∙ seen_some home now k.0 in
       let among : is_among x (x ∷ xs) ≡ true = or_left (x == x) (is_among x xs) (is_same_number x x refl) in
-      let j = argument_fits b c id x u.0 (option_and_then (substitute (Some home) (Some now)) (scope d)) (seen_kind home now k.0) (at x among) t.0 t.1 seen u.2 (right _ E3 (place_at p.nodes x) both.0) in
+      let j = argument_fits b c id x u.0 (option_and_then (substitute (Some home) (Some now)) (scope d)) (seen_kind home now k.0) (at x among) t.0 t.1 seen u.2 (right _ E3 (position_at p.nodes x) both.0) in
       one_more b c id x xs d ds scope home now k.0 j.0 k.1 (operand x j.0 among j.1) j.2
       (pass b c id xs q.0 ds scope home now (λ y h. at y (or_right (y == x) (is_among y xs) h)) (λ y k h. operand y k (or_right (y == x) (is_among y xs) h)) q.1 parts.1 both.1 (λ y i. kinds y (there i)))

@@ -145,9 +145,9 @@ module _ (forest : Forest) (accepted : IsAccepted forest) (whole : IsForest fore
 
   -- ---- casts
 
-  use_of_cast : (id operand : ℕ) (position name_place : Pos) (name : List ℕ) → use_breaks p types scopes id (Cast position name_place name operand) ≡ [] → misfits_scope p (scopes operand) name ≡ false
+  use_of_cast : (id operand : ℕ) (position name_position : Pos) (name : List ℕ) → use_breaks p types scopes id (Cast position name_position name operand) ≡ [] → misfits_scope p (scopes operand) name ≡ false
   unfolding use_breaks e1 e2 e3 e4_and_e5 e6 e7 e8 e9 e10
-  use_of_cast id operand position name_place name e = right _ E9 position (both_empty (broken (misfits_scope p (scopes operand) name) E9 position) [] e).0
+  use_of_cast id operand position name_position name e = right _ E9 position (both_empty (broken (misfits_scope p (scopes operand) name) E9 position) [] e).0
 
   null_fits : (r : Scope) → fits Any r ≡ true
   unfolding fits
@@ -165,22 +165,22 @@ module _ (forest : Forest) (accepted : IsAccepted forest) (whole : IsForest fore
   second_of : (u v : Ty) → not (are_related p.classes u v) ≡ false → (assigns p.classes u v || assigns p.classes v u) ≡ true
   second_of u v e = (and_true (is_reference u) (assigns p.classes u v || assigns p.classes v u) (not_false _ e)).1
 
-  pub cast_facts : (b c id operand : ℕ) (position name_place : Pos) (name : List ℕ) (k : Kind) → slice_get forest.nodes id ≡ Some (Cast position name_place name operand) → Inside p b c id → Judged p id (Some k) → CastFacts p b c id name operand k
+  pub cast_facts : (b c id operand : ℕ) (position name_position : Pos) (name : List ℕ) (k : Kind) → slice_get forest.nodes id ≡ Some (Cast position name_position name operand) → Inside p b c id → Judged p id (Some k) → CastFacts p b c id name operand k
   unfolding children is_argument is_expression object_of takes_parts HasRightChildren declared_before type_of scope_of binding_of Judged
-  cast_facts b c id operand position name_place name k there inside judged =
-      let node : Node = Cast position name_place name operand in
+  cast_facts b c id operand position name_position name k there inside judged =
+      let node : Node = Cast position name_position name operand in
       let s = sorted.each id node there in
       let first = same_first forest accepted whole sorted operand [] in
       let x = child_at forest accepted whole sorted b c id node there inside refl operand first (of_expression forest accepted whole sorted operand s) refl refl in
       let u = type_of_value forest accepted whole sorted b c id operand x in
-      let n = cast_names_class forest accepted sorted id position name_place name operand (at_p forest accepted whole sorted id node there) in
-      let w = right_cast p types id position name_place name operand (unbroken forest accepted whole sorted id node there) in
+      let n = cast_names_class forest accepted sorted id position name_position name operand (at_p forest accepted whole sorted id node there) in
+      let w = right_cast p types id position name_position name operand (unbroken forest accepted whole sorted id node there) in
       let rel : not (are_related p.classes u.0 (ClassTy n.0)) ≡ false = sym (ap (λ (o : Option Ty). holds o (λ t. holds (class_number p.names name) (λ class. not (are_related p.classes t (ClassTy class))))) u.1 ∙ ap (λ (o : Option ℕ). holds o (λ class. not (are_related p.classes u.0 (ClassTy class)))) n.1) ∙ w in
       let reference_type = cast_of_reference forest accepted whole sorted u.0 (ClassTy n.0) rel in
       let related = second_of u.0 (ClassTy n.0) rel in
       let h = scope_of_value forest accepted whole sorted b c id operand u.0 x u.1 reference_type in
       let v = cast_kind p.classes u.0 (scopes operand) n.0 reference_type h related in
-      let outside : lies_outside p (scopes operand) n.0 ≡ false = sym (ap (λ (o : Option ℕ). holds o (lies_outside p (scopes operand))) n.1) ∙ use_of_cast id operand position name_place name (use_unbroken forest accepted whole sorted id node there) in
+      let outside : lies_outside p (scopes operand) n.0 ≡ false = sym (ap (λ (o : Option ℕ). holds o (lies_outside p (scopes operand))) n.1) ∙ use_of_cast id operand position name_position name (use_unbroken forest accepted whole sorted id node there) in
       let typed : types id ≡ Some (ClassTy n.0) = type_is forest accepted whole sorted id node there ∙ ap (option_and_then (λ t. class_type_named p name)) u.1 ∙ ap (option_map (λ class. ClassTy class)) n.1 in
       let scoped : scopes id ≡ scope_in_class p n.0 (scopes operand) = scope_is forest accepted whole sorted id node there ∙ ap (option_and_then (λ class. scope_in_class p class (scopes operand))) n.1 in
       record {

@@ -86,7 +86,7 @@ module _ (forest : Forest) (sorted : IsWellSorted forest.nodes) where
   unfolding variable_of HasRightChildren
   variable_node id (Parameter position name flags declared_type) d u h k e = type_holds declared_type u h.1 (as_declared _ d u (some_inj _ d k) e)
   variable_node id (Local position name flags declared_type) d u h k e = type_holds declared_type u h.1 (as_declared _ d u (some_inj _ d k) e)
-  variable_node id (LocalWithValue position name_place name flags declared_type value) d u h k e = type_holds declared_type u h.1 (as_declared _ d u (some_inj _ d k) e)
+  variable_node id (LocalWithValue position name_position name flags declared_type value) d u h k e = type_holds declared_type u h.1 (as_declared _ d u (some_inj _ d k) e)
   variable_node id _ d u h k e = absurd (cc (k))
 
   -- variables hold values

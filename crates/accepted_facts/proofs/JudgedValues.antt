@@ -197,7 +197,7 @@ module _ (forest : Forest) (accepted : IsAccepted forest) (whole : IsForest fore
       let a = of_option (types left) (λ a. option_and_then (binary_type p.classes operator a) (types operand)) Label e in
       let b = of_option (types operand) (binary_type p.classes operator a.0) Label a.2 in binary_no_label p.classes operator a.0 b.0 b.2
   expression_no_label id (Unary position operator operand) k h e = (let a = of_option (types operand) (unary_type operator) Label e in unary_no_label operator a.0 a.2)
-  expression_no_label id (Cast position name_place name operand) k h e =
+  expression_no_label id (Cast position name_position name operand) k h e =
       (let a = of_option (types operand) (λ t. option_map (λ class. ClassTy class) (class_number p.names name)) Label e in class_named_no_label (class_number p.names name) a.2)
   expression_no_label id (FieldAccess position name object) k h e = (let a = of_option (receiver p types object) (λ r. access_type p r name) Label e in access_no_label a.0 name a.2)
   expression_no_label id (Call position name object arguments) k h e =
@@ -206,7 +206,7 @@ module _ (forest : Forest) (accepted : IsAccepted forest) (whole : IsForest fore
   expression_no_label id (Element position array index) k h e =
       let a = of_option (types array) (λ a. option_and_then (λ i. element_type a) (types index)) Label e in
       let b = of_option (types index) (λ i. element_type a.0) Label a.2 in element_no_label a.0 b.2
-  expression_no_label id (New position name_place name arguments) k h e =
+  expression_no_label id (New position name_position name arguments) k h e =
       if_no_label _ None (option_and_then (λ ts. option_map (λ class. ClassTy class) (class_number p.names name)) (all_types types arguments)) none_no_label
       (λ e. (let a = of_option (all_types types arguments) (λ ts. option_map (λ class. ClassTy class) (class_number p.names name)) Label e in class_named_no_label (class_number p.names name) a.2)) e
   expression_no_label id (NewArray position element size) k h e =

@@ -192,9 +192,9 @@ module _ (forest : Forest) (accepted : IsAccepted forest) (whole : IsForest fore
     lies : misfits_scope p id name ≡ false
     passes : found_at (class_number p.names name) (λ class. e3_of_constructor p scopes (scope_of_new p id class) arguments class) ≡ []
 
-  use_of_new : (id : ℕ) (position name_place : Pos) (name arguments : List ℕ) → use_breaks p types scopes id (New position name_place name arguments) ≡ [] → UseOfNew id name arguments
+  use_of_new : (id : ℕ) (position name_position : Pos) (name arguments : List ℕ) → use_breaks p types scopes id (New position name_position name arguments) ≡ [] → UseOfNew id name arguments
   unfolding use_breaks e1 e2 e3 e4_and_e5 e6 e7 e8 e9 e10
-  use_of_new id position name_place name arguments e =
+  use_of_new id position name_position name arguments e =
       let one = both_empty (broken (misfits_scope p id name) E1 position) (found_at (class_number p.names name) (λ class. e3_of_constructor p scopes (scope_of_new p id class) arguments class) ++ []) e in
       let two = both_empty (found_at (class_number p.names name) (λ class. e3_of_constructor p scopes (scope_of_new p id class) arguments class)) [] one.1 in
       record { lies = right _ _ _ one.0; passes = two.0 }
@@ -246,35 +246,35 @@ module _ (forest : Forest) (accepted : IsAccepted forest) (whole : IsForest fore
   unfolding kind_of_constructor_parameter
   takes_are class ks e = record { are = e }
 
-  new_bound : (id : ℕ) (position name_place : Pos) (name arguments : List ℕ) (class : ℕ) → slice_get forest.nodes id ≡ Some (New position name_place name arguments) → is_form_part p id ≡ false → class_number p.names name ≡ Some class → binding_at_node p id ≡ ClassNamed class
+  new_bound : (id : ℕ) (position name_position : Pos) (name arguments : List ℕ) (class : ℕ) → slice_get forest.nodes id ≡ Some (New position name_position name arguments) → is_form_part p id ≡ false → class_number p.names name ≡ Some class → binding_at_node p id ≡ ClassNamed class
   unfolding binding_of
-  new_bound id position name_place name arguments class there part n =
-      binding_is forest accepted whole sorted id (New position name_place name arguments) there ∙ ap (λ t. if t then Plain else class_binding (class_number p.names name)) part ∙ ap (plain_or (λ c. ClassNamed c)) n
+  new_bound id position name_position name arguments class there part n =
+      binding_is forest accepted whole sorted id (New position name_position name arguments) there ∙ ap (λ t. if t then Plain else class_binding (class_number p.names name)) part ∙ ap (plain_or (λ c. ClassNamed c)) n
 
-  new_kind : (id : ℕ) (position name_place : Pos) (name arguments : List ℕ) (class : ℕ) (now : Scope) (ts : List Ty) (k : Kind) → slice_get forest.nodes id ≡ Some (New position name_place name arguments) → is_form_part p id ≡ false → class_number p.names name ≡ Some class → all_types types arguments ≡ Some ts → scope_of_new p id class ≡ Some now → Judged p id (Some k) → k ≡ reference (ClassTy class) now
+  new_kind : (id : ℕ) (position name_position : Pos) (name arguments : List ℕ) (class : ℕ) (now : Scope) (ts : List Ty) (k : Kind) → slice_get forest.nodes id ≡ Some (New position name_position name arguments) → is_form_part p id ≡ false → class_number p.names name ≡ Some class → all_types types arguments ≡ Some ts → scope_of_new p id class ≡ Some now → Judged p id (Some k) → k ≡ reference (ClassTy class) now
   unfolding type_of scope_of Judged
-  new_kind id position name_place name arguments class now ts k there part n e s judged =
-      let node : Node = New position name_place name arguments in
+  new_kind id position name_position name arguments class now ts k there part n e s judged =
+      let node : Node = New position name_position name arguments in
       let typed : types id ≡ Some (ClassTy class) = type_is forest accepted whole sorted id node there ∙ ap (λ t. if t then None else option_and_then (λ ts. class_type_named p name) (all_types types arguments)) part
       ∙ ap (option_and_then (λ ts. class_type_named p name)) e ∙ ap (option_map (λ class. ClassTy class)) n in
       let scoped : scopes id ≡ Some now = scope_is forest accepted whole sorted id node there ∙ ap (option_and_then (scope_of_new p id)) n ∙ s in
       some_inj k (reference (ClassTy class) now) (sym judged ∙ ap (λ (o : Option Ty). kind_of o (scopes id)) typed ∙ ap (kind_of (Some (ClassTy class))) scoped ∙ class_kind class now)
 
-  pub new_facts : (b c id : ℕ) (position name_place : Pos) (name arguments : List ℕ) (k : Kind) → slice_get forest.nodes id ≡ Some (New position name_place name arguments) → Inside p b c id → is_form_part p id ≡ false → Judged p id (Some k) → NewFacts p b c id name arguments k
+  pub new_facts : (b c id : ℕ) (position name_position : Pos) (name arguments : List ℕ) (k : Kind) → slice_get forest.nodes id ≡ Some (New position name_position name arguments) → Inside p b c id → is_form_part p id ≡ false → Judged p id (Some k) → NewFacts p b c id name arguments k
   unfolding children is_argument is_expression object_of takes_parts HasRightChildren declared_before
-  new_facts b c id position name_place name arguments k there inside part judged =
-      let node : Node = New position name_place name arguments in
+  new_facts b c id position name_position name arguments k there inside part judged =
+      let node : Node = New position name_position name arguments in
       let s = sorted.each id node there in
       let values : (x : ℕ) → is_among x arguments ≡ true → ValueAt forest accepted whole sorted b c id x = λ x among. child_at forest accepted whole sorted b c id node there inside refl x among (all_of forest accepted whole sorted x arguments s among) refl part in
       let ts = arguments_typed forest accepted whole sorted b c id arguments values in
-      let n = new_names_class forest accepted sorted id position name_place name arguments (at_p forest accepted whole sorted id node there) in
+      let n = new_names_class forest accepted sorted id position name_position name arguments (at_p forest accepted whole sorted id node there) in
       let l = named_is_class forest name n.0 n.1 in
       let class_of_b : (context p b).class ≡ Some c = (member_is forest whole sorted id b inside.member).same_class ∙ inside.class in
       let now = current_has_scope forest accepted whole sorted c b class_of_b in
       let here = current_is b c id now.0 inside now.1 in
-      let uses = use_of_new id position name_place name arguments (use_unbroken forest accepted whole sorted id node there) in
+      let uses = use_of_new id position name_position name arguments (use_unbroken forest accepted whole sorted id node there) in
       let lies = new_lies id n.0 now.0 here (sym (ap (λ (o : Option ℕ). holds o (lies_elsewhere p id)) n.1) ∙ uses.lies) in
-      let w = right_new p types id position name_place name arguments (unbroken forest accepted whole sorted id node there) in
+      let w = right_new p types id position name_position name arguments (unbroken forest accepted whole sorted id node there) in
       record {
         now = now.0;
         is_now = now.1;
@@ -282,12 +282,12 @@ module _ (forest : Forest) (accepted : IsAccepted forest) (whole : IsForest fore
         named = n.1;
         is_class = l;
         concrete = is_concrete_class id name arguments n.0 ts.0 n.1 ts.1 part w.makes_object w.no_form l;
-        binding = new_bound id position name_place name arguments n.0 there part n.1;
+        binding = new_bound id position name_position name arguments n.0 there part n.1;
         lies = lies.0;
         passes = λ user. (
             let passed = pass forest accepted whole sorted b c id arguments ts.0 (constructor_parameters p.classes n.0) (constructor_parameter_scope p n.0) now.0 now.0 values
             (λ x k among j. operand_at forest accepted whole sorted b c id x node k there among refl (values x among) j) ts.1
             (constructor_accepts id name arguments n.0 ts.0 n.1 ts.1 part w.arguments_fit user) (constructor_scoped id name arguments n.0 now.0 n.1 lies.1 uses.passes) (λ d h. parameters_kinds n.0 d h) in
             record { taken = passed.0; takes = takes_are n.0 passed.0 passed.1; passes = passed.2 });
-        gives = new_kind id position name_place name arguments n.0 now.0 ts.0 k there part n.1 ts.1 lies.1 judged;
+        gives = new_kind id position name_position name arguments n.0 now.0 ts.0 k there part n.1 ts.1 lies.1 judged;
       }

@@ -39,7 +39,7 @@ variable_number : (nodes : List Node) (x : ℕ) (node : Node) (d : Declared) →
 unfolding variable_of
 variable_number nodes x (Parameter position name flags declared_type) d e = sym (ap (λ (d : Declared). d.node) (some_inj _ d e))
 variable_number nodes x (Local position name flags declared_type) d e = sym (ap (λ (d : Declared). d.node) (some_inj _ d e))
-variable_number nodes x (LocalWithValue position name_place name flags declared_type value) d e = sym (ap (λ (d : Declared). d.node) (some_inj _ d e))
+variable_number nodes x (LocalWithValue position name_position name flags declared_type value) d e = sym (ap (λ (d : Declared). d.node) (some_inj _ d e))
 variable_number nodes x _ d e = absurd (cc (e))
 
 module _ (forest : Forest) (accepted : IsAccepted forest) (whole : IsForest forest) (sorted : IsWellSorted forest.nodes) where

@@ -85,36 +85,36 @@ module _ (forest : Forest) (accepted : IsAccepted forest) (whole : IsForest fore
 
   -- ---- declarations with a value (JLS 14.4)
 
-  rules_of_local : (id : ℕ) (position name_place : Pos) (name : List ℕ) (flags : Option ℕ) (declared_type value : ℕ) → slice_get forest.nodes id ≡ Some (LocalWithValue position name_place name flags declared_type value)
+  rules_of_local : (id : ℕ) (position name_position : Pos) (name : List ℕ) (flags : Option ℕ) (declared_type value : ℕ) → slice_get forest.nodes id ≡ Some (LocalWithValue position name_position name flags declared_type value)
       → (misfits_initial_value p types declared_type value ≡ false) × (misfit_scope (scopes value) (variable_scope_at p id) ≡ false)
   unfolding type_breaks t1 t2 t3 t4 t5 t6 t7 t8 t9 t10 t11 t12 t13 t14 use_breaks e1 e2 e3 e4_and_e5 e6 e7 e8 e9 e10
-  rules_of_local id position name_place name flags declared_type value there =
-      let node : Node = LocalWithValue position name_place name flags declared_type value in
-      let after = both_empty (broken (is_declared_already p id name) T2 name_place) (broken (misfits_initial_value p types declared_type value) T7 position ++ []) (unbroken forest accepted whole sorted id node there) in (
+  rules_of_local id position name_position name flags declared_type value there =
+      let node : Node = LocalWithValue position name_position name flags declared_type value in
+      let after = both_empty (broken (is_declared_already p id name) T2 name_position) (broken (misfits_initial_value p types declared_type value) T7 position ++ []) (unbroken forest accepted whole sorted id node there) in (
         right (misfits_initial_value p types declared_type value) T7 position (both_empty (broken (misfits_initial_value p types declared_type value) T7 position) [] after.1).0,
         right (misfit_scope (scopes value) (variable_scope_at p id)) E4 position (both_empty (broken (misfit_scope (scopes value) (variable_scope_at p id)) E4 position) [] (use_unbroken forest accepted whole sorted id node there)).0,
       )
 
-  local_is : (id : ℕ) (position name_place : Pos) (name : List ℕ) (flags : Option ℕ) (declared_type value : ℕ) → slice_get p.nodes id ≡ Some (LocalWithValue position name_place name flags declared_type value) → (d : Declared) × (variable_at p.nodes id ≡ Some d) × (declared_type_of p d ≡ written_type p declared_type)
+  local_is : (id : ℕ) (position name_position : Pos) (name : List ℕ) (flags : Option ℕ) (declared_type value : ℕ) → slice_get p.nodes id ≡ Some (LocalWithValue position name_position name flags declared_type value) → (d : Declared) × (variable_at p.nodes id ≡ Some d) × (declared_type_of p d ≡ written_type p declared_type)
   unfolding variable_of
-  local_is id position name_place name flags declared_type value there = (_, ap (λ (o : Option Node). option_and_then (variable_of p.nodes id) o) there, refl)
+  local_is id position name_position name flags declared_type value there = (_, ap (λ (o : Option Node). option_and_then (variable_of p.nodes id) o) there, refl)
 
   behind : (q : ℕ) (xs ys : List ℕ) → is_among q ys ≡ true → is_among q (xs ++ ys) ≡ true
   behind q [] ys h = h
   behind q (x ∷ xs) ys h = or_right (q == x) (is_among q (xs ++ ys)) (behind q xs ys h)
 
-  pub initial_value_facts : (b c id value declared_type : ℕ) (position name_place : Pos) (name : List ℕ) (flags : Option ℕ) → slice_get forest.nodes id ≡ Some (LocalWithValue position name_place name flags declared_type value) → Inside p b c id → InitialValueFacts p b c id value
+  pub initial_value_facts : (b c id value declared_type : ℕ) (position name_position : Pos) (name : List ℕ) (flags : Option ℕ) → slice_get forest.nodes id ≡ Some (LocalWithValue position name_position name flags declared_type value) → Inside p b c id → InitialValueFacts p b c id value
   unfolding children is_inner object_of takes_parts HasRightChildren declared_before kind_of_variable
-  initial_value_facts b c id value declared_type position name_place name flags there inside =
-      let node : Node = LocalWithValue position name_place name flags declared_type value in
+  initial_value_facts b c id value declared_type position name_position name flags there inside =
+      let node : Node = LocalWithValue position name_position name flags declared_type value in
       let w = (sorted.each id node there).2 in
       let among = behind value (optional flags) (declared_type ∷ value ∷ []) (or_right (value == declared_type) _ (or_left (value == value) _ (is_same_number value value refl))) in
       let y = statement_value forest accepted whole sorted b c id value node there inside refl among (of_expression forest accepted whole sorted value w) refl refl in
       let t = type_of_value forest accepted whole sorted b c id value y in
-      let d = local_is id position name_place name flags declared_type value (at_p forest accepted whole sorted id node there) in
+      let d = local_is id position name_position name flags declared_type value (at_p forest accepted whole sorted id node there) in
       let u = variable_has_type forest accepted sorted id d.0 d.1 in
       let k = has_kind u.0 (variable_scope_at p id) (variable_holds forest sorted id d.0 u.0 d.1 u.1) (λ r. variable_has_scope forest accepted whole sorted id b c d.0 u.0 d.1 inside.class inside.member u.1 r) in
-      let rules = rules_of_local id position name_place name flags declared_type value there in
+      let rules = rules_of_local id position name_position name flags declared_type value there in
       let fit : assigns p.classes t.0 u.0 ≡ true = not_false (assigns p.classes t.0 u.0)
       (sym (ap (λ (o : Option Ty). holds o (λ u. holds (types value) (λ v. not (assigns p.classes v u)))) (sym d.2 ∙ u.1) ∙ ap (λ (o : Option Ty). holds o (λ v. not (assigns p.classes v u.0))) t.1) ∙ rules.0) in
       let j = value_fits forest accepted whole sorted b c id value u.0 (variable_scope_at p id) k.0 y w.node w.is_there w.passes k.1 (λ t2 e. ap (λ t. assigns p.classes t u.0) (some_inj t2 t.0 (sym e ∙ t.1)) ∙ fit) rules.1 in

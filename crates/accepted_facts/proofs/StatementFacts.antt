@@ -17,7 +17,7 @@ use Rattle.scj_rules.specs.declared.typing.Ty.{Ty}
 use Rattle.scj_rules.specs.declared.typing.Ty.TheVariants.{Int, Bool as Boolean, Void, NullTy, Class as ClassTy, IntArray, BoolArray, ClassArray}
 use Rattle.scj_rules.specs.Definitions.{read}
 use Rattle.scj_rules.specs.Words.{is_among, holds, broken, found_at}
-use Rattle.scj_rules.specs.Views.{place_at}
+use Rattle.scj_rules.specs.Views.{position_at}
 use Rattle.scj_rules.specs.Classes.{ClassRow, class_number, field_named}
 use Rattle.scj_rules.specs.Contexts.{Declarations, declarations_of, context, variable_named, object_of, declared_before}
 use Rattle.scj_rules.specs.Guards.{is_guarded_store}
@@ -162,10 +162,10 @@ module _ (forest : Forest) (accepted : IsAccepted forest) (whole : IsForest fore
 
   -- ---- conditions
 
-  condition_at : (b c id x : ℕ) → At b c id x → broken (holds (types x) (λ t. not (is_boolean t))) T8 (place_at p.nodes x) ++ [] ≡ [] → Judged p x (Some truth)
+  condition_at : (b c id x : ℕ) → At b c id x → broken (holds (types x) (λ t. not (is_boolean t))) T8 (position_at p.nodes x) ++ [] ≡ [] → Judged p x (Some truth)
   condition_at b c id x v e =
       let t = type_of_value forest accepted whole sorted b c id x v in
-      let k = boolean_is t.0 (sym (ap (λ (o : Option Ty). holds o (λ t. not (is_boolean t))) t.1) ∙ right (holds (types x) (λ t. not (is_boolean t))) T8 (place_at p.nodes x) (both_empty (broken (holds (types x) (λ t. not (is_boolean t))) T8 (place_at p.nodes x)) [] e).0) in
+      let k = boolean_is t.0 (sym (ap (λ (o : Option Ty). holds o (λ t. not (is_boolean t))) t.1) ∙ right (holds (types x) (λ t. not (is_boolean t))) T8 (position_at p.nodes x) (both_empty (broken (holds (types x) (λ t. not (is_boolean t))) T8 (position_at p.nodes x)) [] e).0) in
       boolean_judged forest accepted whole sorted x (t.1 ∙ ap (λ t. Some t) k)
 
   pub if_condition : (b c id condition then_part : ℕ) (position : Pos) (else_part : Option ℕ) → slice_get forest.nodes id ≡ Some (If position condition then_part else_part) → Inside p b c id → Operand p b c id condition truth

@@ -22,7 +22,7 @@ pub fn calls_have_facts()
 /// A `new` that is no part of a form makes an object of a concrete class in the current scope, and its arguments fit (JLS
 /// 15.9).
 pub fn new_objects_have_facts()
-    ensures { (forest : Forest) → IsAcceptedProgram forest → (member class id : ℕ) (position name_place : Place) (name arguments : List ℕ) (k : Kind) → slice_get (declarations_of forest).nodes id ≡ Some (NewNode position name_place name arguments) → Inside (declarations_of forest) member class id → is_form_part (declarations_of forest) id ≡ false → Judged (declarations_of forest) id (Some k) → NewFacts (declarations_of forest) member class id name arguments k }
+    ensures { (forest : Forest) → IsAcceptedProgram forest → (member class id : ℕ) (position name_position : Place) (name arguments : List ℕ) (k : Kind) → slice_get (declarations_of forest).nodes id ≡ Some (NewNode position name_position name arguments) → Inside (declarations_of forest) member class id → is_form_part (declarations_of forest) id ≡ false → Judged (declarations_of forest) id (Some k) → NewFacts (declarations_of forest) member class id name arguments k }
 {}
 
 /// The arguments of a call have types that the parameters of its method take.

@@ -39,7 +39,7 @@ pub fn new_arrays_have_facts()
 
 /// A cast is of a reference of a related type, which lies where the class's objects lie.
 pub fn casts_have_facts()
-    ensures { (forest : Forest) → IsAcceptedProgram forest → (member class id operand : ℕ) (position name_place : Place) (name : List ℕ) (k : Kind) → slice_get (declarations_of forest).nodes id ≡ Some (Cast position name_place name operand) → Inside (declarations_of forest) member class id → Judged (declarations_of forest) id (Some k) → CastFacts (declarations_of forest) member class id name operand k }
+    ensures { (forest : Forest) → IsAcceptedProgram forest → (member class id operand : ℕ) (position name_position : Place) (name : List ℕ) (k : Kind) → slice_get (declarations_of forest).nodes id ≡ Some (Cast position name_position name operand) → Inside (declarations_of forest) member class id → Judged (declarations_of forest) id (Some k) → CastFacts (declarations_of forest) member class id name operand k }
 {}
 
 /// A binary operator has operands of kinds that it takes, and gives a number or a truth value (JLS 15.17 to 15.24).

@@ -41,7 +41,7 @@ pub fn fitting_values_go()
 
 /// The value with which a local is declared fits it (JLS 14.4).
 pub fn initial_values_have_facts()
-    ensures { (forest : Forest) → IsAcceptedProgram forest → (member class id value declared_type : ℕ) (position name_place : Place) (name : List ℕ) (flags : Option ℕ) → slice_get (declarations_of forest).nodes id ≡ Some (LocalWithValue position name_place name flags declared_type value) → Inside (declarations_of forest) member class id → InitialValueFacts (declarations_of forest) member class id value }
+    ensures { (forest : Forest) → IsAcceptedProgram forest → (member class id value declared_type : ℕ) (position name_position : Place) (name : List ℕ) (flags : Option ℕ) → slice_get (declarations_of forest).nodes id ≡ Some (LocalWithValue position name_position name flags declared_type value) → Inside (declarations_of forest) member class id → InitialValueFacts (declarations_of forest) member class id value }
 {}
 
 /// A value that is returned fits the result of the method around it (JLS 14.17).

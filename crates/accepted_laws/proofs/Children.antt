@@ -58,7 +58,7 @@ module _ (nodes : List Node) where
   inner_children (SuperCall position arguments) e h = listed is_argument is_inner inner_argument arguments h
   inner_children (Block position statements) e h = listed is_statement is_inner inner_statement statements h
   inner_children (Local position name flags declared_type) e h = both is_inner (optional flags) _ (maybe is_flags is_inner inner_flags flags h.0) (one is_type is_inner inner_type h.1, tt)
-  inner_children (LocalWithValue position name_place name flags declared_type value) e h =
+  inner_children (LocalWithValue position name_position name flags declared_type value) e h =
       both is_inner (optional flags) _ (maybe is_flags is_inner inner_flags flags h.0) (one is_type is_inner inner_type h.1, (one is_expression is_inner inner_expression h.2, tt))
   inner_children (Assign position target value) e h = (one is_target is_inner inner_target h.0, (one is_expression is_inner inner_expression h.1, tt))
   inner_children (ExpressionStatement position expression) e h = (one is_invocation is_inner inner_invocation h, tt)
@@ -68,12 +68,12 @@ module _ (nodes : List Node) where
   inner_children (Return position value) e h = maybe is_expression is_inner inner_expression value h
   inner_children (Binary position operator left right) e h = (one is_expression is_inner inner_expression h.0, (one is_expression is_inner inner_expression h.1, tt))
   inner_children (Unary position operator child) e h = (one is_expression is_inner inner_expression h, tt)
-  inner_children (Cast position name_place name child) e h = (one is_expression is_inner inner_expression h, tt)
+  inner_children (Cast position name_position name child) e h = (one is_expression is_inner inner_expression h, tt)
   inner_children (Parenthesized position inner) e h = (one is_expression is_inner inner_expression h, tt)
   inner_children (FieldAccess position name object) e h = (one is_expression is_inner inner_expression h, tt)
   inner_children (Call position name object arguments) e h = both is_inner (optional object) _ (maybe is_expression is_inner inner_expression object h.0) (listed is_argument is_inner inner_argument arguments h.1)
   inner_children (Element position array index) e h = (one is_expression is_inner inner_expression h.0, (one is_expression is_inner inner_expression h.1, tt))
-  inner_children (New position name_place name arguments) e h = listed is_argument is_inner inner_argument arguments h
+  inner_children (New position name_position name arguments) e h = listed is_argument is_inner inner_argument arguments h
   inner_children (NewArray position element length_) e h = (one is_element_type is_inner inner_element_type h.0, (one is_expression is_inner inner_expression h.1, tt))
   inner_children (ScopeName position name) e h = tt
   inner_children (TypeArgument position name) e h = tt

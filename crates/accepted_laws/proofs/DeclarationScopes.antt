@@ -66,7 +66,7 @@ right_declaration p id (Field position name flags declared_type equals value) t 
 right_declaration p id (Method position name flags result_type parameters body) t e h k = declared_right p t _ e h k
 right_declaration p id (Parameter position name flags declared_type) t e h k = declared_right p t _ e h k
 right_declaration p id (Local position name flags declared_type) t e h k = declared_right p t _ e h k
-right_declaration p id (LocalWithValue position name_place name flags declared_type value) t e h k = declared_right p t _ e h k
+right_declaration p id (LocalWithValue position name_position name flags declared_type value) t e h k = declared_right p t _ e h k
 right_declaration p id _ t e h k = declared_right p t _ e h k
 
 module _ (forest : Forest) (accepted : IsAccepted forest) (whole : IsForest forest) (sorted : IsWellSorted forest.nodes) where
@@ -153,7 +153,7 @@ module _ (forest : Forest) (accepted : IsAccepted forest) (whole : IsForest fore
   defaults id (Method position name flags result_type parameters body) t e = method_defaults id t (context p id).class refl (method_at p.nodes id) refl e
   defaults id (Parameter position name flags declared_type) t e = variable_defaults id t (context p id).class refl (context p id).member refl (variable_at p.nodes id) e
   defaults id (Local position name flags declared_type) t e = variable_defaults id t (context p id).class refl (context p id).member refl (variable_at p.nodes id) e
-  defaults id (LocalWithValue position name_place name flags declared_type value) t e = variable_defaults id t (context p id).class refl (context p id).member refl (variable_at p.nodes id) e
+  defaults id (LocalWithValue position name_position name flags declared_type value) t e = variable_defaults id t (context p id).class refl (context p id).member refl (variable_at p.nodes id) e
   defaults id _ t e = absurd (cc (e))
 
   -- each variable, field and result whose values are references has a scope

@@ -11,7 +11,7 @@ use Rattle.std.proofs.lemmas.Bool.{cases_lt, lt-ltb, le-ltb}
 use Rattle.scj_base.specs.Bytes.{is_same}
 use Rattle.scj_rules.specs.Words.{is_among, along, chain, StaysBelow}
 use Rattle.scj_rules.specs.Classes.{ClassRow, superclass_in, superclasses, own_field, field_named, own_instance_fields, instance_fields, hidden_fields}
-use Rattle.scj_rules.specs.Layout.{slot_of, field_numbered, place_among}
+use Rattle.scj_rules.specs.Layout.{slot_of, field_numbered, index_among}
 use Rattle.scj_rules.specs.Contexts.{Declarations}
 use Rattle.scj_rules.proofs.ChainLemmas.{chain_reaches, or_cases}
 use Rattle.accepted_laws.proofs.Tools.{some_inj}
@@ -163,4 +163,4 @@ module _ (p : Declarations) (stays : StaysBelow (superclass_in p.classes) (lengt
       let t : (f.field.node == f.field.node) ≡ true = grind (arith, nat_tests) in
       let q = in_position (λ (d : Declared). d.node == f.field.node) f.field (instance_fields p.classes c) member t in
       let node : q.y.node ≡ f.field.node = (let h = q.passes in grind (arith, nat_tests)) in
-      (q.i, ap (λ (o : Option Declared). option_and_then (λ (f : Declared). option_map (λ k. hidden_fields p.classes c + k) (place_among (instance_fields p.classes c) f)) o) number ∙ ap (option_map (λ k. hidden_fields p.classes c + k)) q.is, q.at ∙ ap (λ d. Some d) (one_node c q.y f.field q.member member node))
+      (q.i, ap (λ (o : Option Declared). option_and_then (λ (f : Declared). option_map (λ k. hidden_fields p.classes c + k) (index_among (instance_fields p.classes c) f)) o) number ∙ ap (option_map (λ k. hidden_fields p.classes c + k)) q.is, q.at ∙ ap (λ d. Some d) (one_node c q.y f.field q.member member node))

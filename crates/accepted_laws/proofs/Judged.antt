@@ -45,7 +45,7 @@ module _ (p : Declarations) (types : Types) where
   scope-same id t u (Call position name (Some object) ids) same b =
       ap (λ (o : Option Scope). option_and_then (λ (r : Receiver). option_and_then (scope_of_call p o (current_at p id)) (called_method p r name)) (call_receiver p types id (Some object))) (same object b.0)
   scope-same id t u (Element position array index) same b = ap (λ (o : Option Scope). option_and_then (scope_of_element p o) (types array)) (same array b.0)
-  scope-same id t u (Cast position name_place name child) same b = ap (λ (o : Option Scope). option_and_then (λ class. scope_in_class p class o) (class_number p.names name)) (same child b.0)
+  scope-same id t u (Cast position name_position name child) same b = ap (λ (o : Option Scope). option_and_then (λ class. scope_in_class p class o) (class_number p.names name)) (same child b.0)
   scope-same id t u _ same b = refl
 
   pub scopes_are : BehindChildren p → (id : ℕ) (node : Node) → slice_get p.nodes id ≡ Some node → lookup None (scopes_in p types) id ≡ scope_of p types (lookup None (scopes_in p types)) id node

@@ -82,7 +82,7 @@ no_variable : (nodes : List Node) (x : ℕ) (node : Node) → is_quiet node ≡ 
 unfolding is_quiet variable_of
 no_variable nodes x (Parameter position name flags declared_type) e = absurd (true≢false (sym e))
 no_variable nodes x (Local position name flags declared_type) e = absurd (true≢false (sym e))
-no_variable nodes x (LocalWithValue position name_place name flags declared_type value) e = absurd (true≢false (sym e))
+no_variable nodes x (LocalWithValue position name_position name flags declared_type value) e = absurd (true≢false (sym e))
 no_variable nodes x _ e = refl
 
 module _ (nodes : List Node) where

@@ -15,7 +15,7 @@ use Rattle.scj_rules.specs.Classes.{ClassRow, user_row, class_number, superclass
 use Rattle.scj_rules.specs.Contexts.{Declarations, declarations_of}
 use Rattle.scj_rules.specs.ScopeRules.{immortal_scope, scope_number, scope_written_in}
 use Rattle.scj_rules.specs.StaticScopes.{has_unknown_scope, differs_from_above, is_implied_immortal, scope_of_right_class, class_scope_under, class_scope_on, class_scope}
-use Rattle.scj_rules.specs.AnnotationRules.{scope_above, a1, a2, a2_place, a3_to_a5, a6_to_a8, a9, annotation_breaks, broken_value, has_other_scope}
+use Rattle.scj_rules.specs.AnnotationRules.{scope_above, a1, a2, a2_position, a3_to_a5, a6_to_a8, a9, annotation_breaks, broken_value, has_other_scope}
 use Rattle.scj_rules.specs.Phases.{IsAccepted}
 use Rattle.scj_rules.proofs.ChainLemmas.{or_cases, same_number}
 use Rattle.scj_rules.proofs.WithinLemmas.{counted-stays}
@@ -101,8 +101,8 @@ module _ (forest : Forest) (accepted : IsAccepted forest) where
         let name : class_number p.names c.name ≡ Some class = name_denotes forest whole accepted sorted class row c e w in
         record {
           known = unknown_not (scope_written_in p class) (sym (ap (λ (o : Option ℕ). found_at o (λ class. broken_value (scope_written_in p class) (λ w. has_unknown_scope p (Some w)) A1)) name) ∙ b.unknown_scope);
-          same = right (has_other_scope p class) A2 (a2_place u.node.position (scope_written_in p class))
-              (sym (ap (λ (o : Option ℕ). found_at o (λ class. broken (has_other_scope p class) A2 (a2_place u.node.position (scope_written_in p class)))) name) ∙ b.class_scope);
+          same = right (has_other_scope p class) A2 (a2_position u.node.position (scope_written_in p class))
+              (sym (ap (λ (o : Option ℕ). found_at o (λ class. broken (has_other_scope p class) A2 (a2_position u.node.position (scope_written_in p class)))) name) ∙ b.class_scope);
         }
       where
         unknown_not : (o : Option Written) → broken_value o (λ w. has_unknown_scope p (Some w)) A1 ≡ [] → has_unknown_scope p o ≡ false

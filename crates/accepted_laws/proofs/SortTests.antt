@@ -33,7 +33,7 @@ has_right_children nodes (Parameter position name flags declared_type) = option_
 has_right_children nodes (SuperCall position arguments) = all_test is_argument nodes arguments
 has_right_children nodes (Block position statements) = all_test is_statement nodes statements
 has_right_children nodes (Local position name flags declared_type) = option_test is_flags nodes flags && of_test is_type nodes declared_type
-has_right_children nodes (LocalWithValue position name_place name flags declared_type value) = option_test is_flags nodes flags && (of_test is_type nodes declared_type && of_test is_expression nodes value)
+has_right_children nodes (LocalWithValue position name_position name flags declared_type value) = option_test is_flags nodes flags && (of_test is_type nodes declared_type && of_test is_expression nodes value)
 has_right_children nodes (Assign position target value) = of_test is_target nodes target && of_test is_expression nodes value
 has_right_children nodes (ExpressionStatement position expression) = of_test is_invocation nodes expression
 has_right_children nodes (If position condition then_part else_part) = of_test is_expression nodes condition && (of_test is_statement nodes then_part && option_test is_statement nodes else_part)
@@ -42,12 +42,12 @@ has_right_children nodes (For position first condition step body) = of_test is_f
 has_right_children nodes (Return position value) = option_test is_expression nodes value
 has_right_children nodes (Binary position operator left right) = of_test is_expression nodes left && of_test is_expression nodes right
 has_right_children nodes (Unary position operator operand) = of_test is_expression nodes operand
-has_right_children nodes (Cast position name_place name operand) = of_test is_expression nodes operand
+has_right_children nodes (Cast position name_position name operand) = of_test is_expression nodes operand
 has_right_children nodes (Parenthesized position inner) = of_test is_expression nodes inner
 has_right_children nodes (FieldAccess position name object) = of_test is_expression nodes object
 has_right_children nodes (Call position name object arguments) = option_test is_expression nodes object && all_test is_argument nodes arguments
 has_right_children nodes (Element position array index) = of_test is_expression nodes array && of_test is_expression nodes index
-has_right_children nodes (New position name_place name arguments) = all_test is_argument nodes arguments
+has_right_children nodes (New position name_position name arguments) = all_test is_argument nodes arguments
 has_right_children nodes (NewArray position element length) = of_test is_element_type nodes element && of_test is_expression nodes length
 has_right_children nodes _ = true
 
@@ -91,7 +91,7 @@ right_children nodes (Parameter position name flags declared_type) e = let a0 = 
 right_children nodes (SuperCall position arguments) e = all_right is_argument nodes arguments e
 right_children nodes (Block position statements) e = all_right is_statement nodes statements e
 right_children nodes (Local position name flags declared_type) e = let a0 = parts (option_test is_flags nodes flags) (of_test is_type nodes declared_type) e in (option_right is_flags nodes flags a0.0, of_right is_type nodes declared_type a0.1)
-right_children nodes (LocalWithValue position name_place name flags declared_type value) e = let a0 = parts (option_test is_flags nodes flags) (of_test is_type nodes declared_type && of_test is_expression nodes value) e in let a1 = parts (of_test is_type nodes declared_type) (of_test is_expression nodes value) a0.1 in (option_right is_flags nodes flags a0.0, of_right is_type nodes declared_type a1.0, of_right is_expression nodes value a1.1)
+right_children nodes (LocalWithValue position name_position name flags declared_type value) e = let a0 = parts (option_test is_flags nodes flags) (of_test is_type nodes declared_type && of_test is_expression nodes value) e in let a1 = parts (of_test is_type nodes declared_type) (of_test is_expression nodes value) a0.1 in (option_right is_flags nodes flags a0.0, of_right is_type nodes declared_type a1.0, of_right is_expression nodes value a1.1)
 right_children nodes (Assign position target value) e = let a0 = parts (of_test is_target nodes target) (of_test is_expression nodes value) e in (of_right is_target nodes target a0.0, of_right is_expression nodes value a0.1)
 right_children nodes (ExpressionStatement position expression) e = of_right is_invocation nodes expression e
 right_children nodes (If position condition then_part else_part) e = let a0 = parts (of_test is_expression nodes condition) (of_test is_statement nodes then_part && option_test is_statement nodes else_part) e in let a1 = parts (of_test is_statement nodes then_part) (option_test is_statement nodes else_part) a0.1 in (of_right is_expression nodes condition a0.0, of_right is_statement nodes then_part a1.0, option_right is_statement nodes else_part a1.1)
@@ -100,12 +100,12 @@ right_children nodes (For position first condition step body) e = let a0 = parts
 right_children nodes (Return position value) e = option_right is_expression nodes value e
 right_children nodes (Binary position operator left right) e = let a0 = parts (of_test is_expression nodes left) (of_test is_expression nodes right) e in (of_right is_expression nodes left a0.0, of_right is_expression nodes right a0.1)
 right_children nodes (Unary position operator operand) e = of_right is_expression nodes operand e
-right_children nodes (Cast position name_place name operand) e = of_right is_expression nodes operand e
+right_children nodes (Cast position name_position name operand) e = of_right is_expression nodes operand e
 right_children nodes (Parenthesized position inner) e = of_right is_expression nodes inner e
 right_children nodes (FieldAccess position name object) e = of_right is_expression nodes object e
 right_children nodes (Call position name object arguments) e = let a0 = parts (option_test is_expression nodes object) (all_test is_argument nodes arguments) e in (option_right is_expression nodes object a0.0, all_right is_argument nodes arguments a0.1)
 right_children nodes (Element position array index) e = let a0 = parts (of_test is_expression nodes array) (of_test is_expression nodes index) e in (of_right is_expression nodes array a0.0, of_right is_expression nodes index a0.1)
-right_children nodes (New position name_place name arguments) e = all_right is_argument nodes arguments e
+right_children nodes (New position name_position name arguments) e = all_right is_argument nodes arguments e
 right_children nodes (NewArray position element length) e = let a0 = parts (of_test is_element_type nodes element) (of_test is_expression nodes length) e in (of_right is_element_type nodes element a0.0, of_right is_expression nodes length a0.1)
 right_children nodes _ e = tt
 

@@ -32,7 +32,7 @@ module _ (p : Declarations) where
       let f : Option Ty → Option Ty → Option Ty = λ l r. option_and_then (λ a. option_and_then (binary_type p.classes operator a) r) l in
       ap (λ l. f l (t right)) (same left b.0) ∙ ap (λ r. f (u left) r) (same right b.1.0)
   type-same id t u (Unary position operator operand) same b = ap (λ (o : Option Ty). option_and_then (unary_type operator) o) (same operand b.0)
-  type-same id t u (Cast position name_place name operand) same b = ap (λ (o : Option Ty). option_and_then (λ t. option_map (λ class. ClassTy class) (class_number p.names name)) o) (same operand b.0)
+  type-same id t u (Cast position name_position name operand) same b = ap (λ (o : Option Ty). option_and_then (λ t. option_map (λ class. ClassTy class) (class_number p.names name)) o) (same operand b.0)
   type-same id t u (FieldAccess position name object) same b = ap (λ (o : Option Receiver). option_and_then (λ r. access_type p r name) o) (receiver-same p t u object (same object b.0))
   type-same id t u (Call position name object arguments) same b =
       let f : Option Receiver → Option (List Ty) → Option Ty = λ o ts. option_and_then (λ r. option_and_then (λ _. call_type p r name) ts) o in
@@ -40,7 +40,7 @@ module _ (p : Declarations) where
   type-same id t u (Element position array index) same b =
       let f : Option Ty → Option Ty → Option Ty = λ l r. option_and_then (λ a. option_and_then (λ i. element_type a) r) l in
       ap (λ l. f l (t index)) (same array b.0) ∙ ap (λ r. f (u array) r) (same index b.1.0)
-  type-same id t u (New position name_place name arguments) same b =
+  type-same id t u (New position name_position name arguments) same b =
       ap (λ (ts : Option (List Ty)). if is_form_part p id then None else option_and_then (λ _. option_map (λ class. ClassTy class) (class_number p.names name)) ts) (all-same id t u arguments same b)
   type-same id t u (NewArray position element length_) same b = ap (λ (o : Option Ty). option_and_then (λ n. option_and_then array_of (written_type p element)) o) (same length_ b.1.0)
   type-same id t u _ same b = refl

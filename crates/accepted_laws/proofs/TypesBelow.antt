@@ -15,7 +15,7 @@ use Rattle.scj_rules.specs.declared.typing.Receiver.TheVariants.{Class as the_cl
 use Rattle.scj_rules.specs.Definitions.{read}
 use Rattle.scj_rules.specs.Words.{broken, holds}
 use Rattle.scj_rules.specs.Classes.{FoundMethod, class_number, is_user_class}
-use Rattle.scj_rules.specs.Views.{place_at}
+use Rattle.scj_rules.specs.Views.{position_at}
 use Rattle.scj_rules.specs.Contexts.{Declarations, variable_named}
 use Rattle.scj_rules.specs.Types.{receiver, call_receiver, class_at_name, all_types, accepts_arguments, is_no_reference, called_method, accessed_field, is_int, is_boolean, is_array, is_array_value, is_length, binary_type, unary_type, kind_is, is_form, has_form, is_form_part, constructor_parameters}
 use Rattle.scj_rules.specs.TypeRules.{Types, t1, t2, t3, t4, t5, t6, t7, t8, t9, t10, t11, t12, t13, t14, type_breaks, lacks_field, lacks_method, lacks_object, misfits_method, misfits_new, misfits_form_part, is_never_made, are_related, element_class, written_type, misfits_value, is_length_target, superclass_at, result_at, fits_result}
@@ -103,7 +103,7 @@ module _ (p : Declarations) where
       ap (λ l. f l (t index)) (same array b.0) ∙ ap (λ r. f (u array) r) (same index b.1.0)
   breaks-same first id t u (NewArray position element length) same b =
       ap (λ (o : Option Ty). broken (holds o (λ n. not (is_int n))) T3 position ++ broken (holds (read p.nodes (element_class p) element) (kind_is is_form p)) T14 position) (same length b.1.0)
-  breaks-same first id t u (Cast position name_place name operand) same b =
+  breaks-same first id t u (Cast position name_position name operand) same b =
       ap (λ (o : Option Ty). broken (holds o (λ x. holds (class_number p.names name) (λ class. not (are_related p.classes x (ClassTy class))))) T12 position ++ []) (same operand b.0)
   breaks-same first id t u (FieldAccess position name object) same b =
       ap (λ (o : Option Receiver). broken (holds o is_no_reference) T3 position ++ (broken (holds o (λ r. lacks_field p r name)) T4 position ++ (broken (holds o (λ r. lacks_object p id r && holds (accessed_field p r name) (λ (f : FoundField). not f.field.modifiers.is_static))) T13 position ++ [])))
@@ -116,7 +116,7 @@ module _ (p : Declarations) where
       ++ (broken (holds o (λ r. holds ts (λ _. lacks_object p id r && (not (lacks_method p r name) && holds (called_method p r name) (λ (m : FoundMethod). not m.method.declared.modifiers.is_static))))) T13 position ++ []))) in
       ap (λ o. f o (all_types t arguments)) (call-receiver-same id t u object arguments same b)
       ∙ ap (λ ts. f (call_receiver p u id object) ts) (all-same id t u arguments same (below-right id (optional object) arguments b))
-  breaks-same first id t u (New position name_place name arguments) same b =
+  breaks-same first id t u (New position name_position name arguments) same b =
       let f : Bool → Option (List Ty) → List Found = λ part ts.
       broken (if is_form_part p id then part else holds (class_number p.names name) (λ class. (is_user_class class || (class == 0)) && holds ts (λ xs. not (accepts_arguments p (constructor_parameters p.classes class) xs)))) T6 position
       ++ (broken (holds ts (λ _. holds (class_number p.names name) (kind_is is_never_made p))) T11 position
@@ -132,8 +132,8 @@ module _ (p : Declarations) where
   breaks-same first id t u (SuperCall position arguments) same b =
       ap (λ (o : Option (List Ty)). broken (holds (superclass_at p id) (λ superclass. not (has_form superclass) && holds o (λ ts. not (accepts_arguments p (constructor_parameters p.classes superclass) ts)))) T6 position ++ [])
       (all-same id t u arguments same b)
-  breaks-same first id t u (LocalWithValue position name_place name flags declared_type value) same b =
-      ap (λ (o : Option Ty). broken (is_some (variable_named p id name)) T2 name_place ++ (broken (misfits_value p (written_type p declared_type) o) T7 position ++ []))
+  breaks-same first id t u (LocalWithValue position name_position name flags declared_type value) same b =
+      ap (λ (o : Option Ty). broken (is_some (variable_named p id name)) T2 name_position ++ (broken (misfits_value p (written_type p declared_type) o) T7 position ++ []))
       (same value (below-right id (optional flags) (declared_type ∷ value ∷ []) b).1.0)
   breaks-same first id t u (Assign position target value) same b =
       let f : Option Ty → Option Ty → Option Bool → List Found = λ a v o. broken (is_some a && (is_some v && (misfits_value p a v || holds o (λ h. h)))) T7 position ++ [] in
@@ -141,11 +141,11 @@ module _ (p : Declarations) where
       ∙ ap (λ v. f (u target) v (read p.nodes (is_length_target p t) target)) (same value b.1.0)
       ∙ ap (λ o. f (u target) (u value) o) (length-same first id t u target same b.0)
   breaks-same first id t u (If position condition then_part else_part) same b =
-      ap (λ (o : Option Ty). broken (holds o (λ ty. not (is_boolean ty))) T8 (place_at p.nodes condition) ++ []) (same condition b.0)
+      ap (λ (o : Option Ty). broken (holds o (λ ty. not (is_boolean ty))) T8 (position_at p.nodes condition) ++ []) (same condition b.0)
   breaks-same first id t u (While position condition body) same b =
-      ap (λ (o : Option Ty). broken (holds o (λ ty. not (is_boolean ty))) T8 (place_at p.nodes condition) ++ []) (same condition b.0)
+      ap (λ (o : Option Ty). broken (holds o (λ ty. not (is_boolean ty))) T8 (position_at p.nodes condition) ++ []) (same condition b.0)
   breaks-same first id t u (For position start condition step body) same b =
-      ap (λ (o : Option Ty). broken (holds o (λ ty. not (is_boolean ty))) T8 (place_at p.nodes condition) ++ []) (same condition b.1.0)
+      ap (λ (o : Option Ty). broken (holds o (λ ty. not (is_boolean ty))) T8 (position_at p.nodes condition) ++ []) (same condition b.1.0)
   breaks-same first id t u (Return position None) same b = refl
   breaks-same first id t u (Return position (Some value)) same b =
       ap (λ (o : Option Ty). broken (holds o (λ ty. not (fits_result p (result_at p id) ty))) T9 position ++ []) (same value b.0)

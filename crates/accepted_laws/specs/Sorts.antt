@@ -9,13 +9,13 @@ use Rattle.scj_rules.specs.Contexts.{is_member, is_super_call}
 unfoldable pub is_expression : Node → Bool
 is_expression (Binary position operator left right) = true
 is_expression (Unary position operator operand) = true
-is_expression (Cast position name_place name operand) = true
+is_expression (Cast position name_position name operand) = true
 is_expression (Parenthesized position inner) = true
 is_expression (SimpleName position name) = true
 is_expression (FieldAccess position name object) = true
 is_expression (Call position name object arguments) = true
 is_expression (Element position array index) = true
-is_expression (New position name_place name arguments) = true
+is_expression (New position name_position name arguments) = true
 is_expression (NewArray position element length) = true
 is_expression (Number position value is_negative) = true
 is_expression (True position) = true
@@ -39,7 +39,7 @@ is_target _ = false
 -- an expression that may stand as a statement, but for assignments (JLS 14.8)
 unfoldable pub is_invocation : Node → Bool
 is_invocation (Call position name object arguments) = true
-is_invocation (New position name_place name arguments) = true
+is_invocation (New position name_position name arguments) = true
 is_invocation _ = false
 
 -- the value with which a field is declared
@@ -94,7 +94,7 @@ unfoldable pub is_statement : Node → Bool
 is_statement (Block position statements) = true
 is_statement (Empty position) = true
 is_statement (Local position name flags declared_type) = true
-is_statement (LocalWithValue position name_place name flags declared_type value) = true
+is_statement (LocalWithValue position name_position name flags declared_type value) = true
 is_statement (Assign position target value) = true
 is_statement (ExpressionStatement position expression) = true
 is_statement (If position condition then_part else_part) = true
@@ -114,7 +114,7 @@ is_assignment _ = false
 -- what stands first in a `for`
 unfoldable pub is_for_start : Node → Bool
 is_for_start (Assign position target value) = true
-is_for_start (LocalWithValue position name_place name flags declared_type value) = true
+is_for_start (LocalWithValue position name_position name flags declared_type value) = true
 is_for_start _ = false
 
 -- ---- members and classes (JLS 8)
@@ -183,7 +183,7 @@ HasRightChildren nodes (SuperCall position arguments) = AllOf is_argument nodes 
 HasRightChildren nodes (Block position statements) = AllOf is_statement nodes statements
 HasRightChildren nodes (Local position name flags declared_type) =
     OptionOf is_flags nodes flags × Of is_type nodes declared_type
-HasRightChildren nodes (LocalWithValue position name_place name flags declared_type value) =
+HasRightChildren nodes (LocalWithValue position name_position name flags declared_type value) =
     OptionOf is_flags nodes flags × Of is_type nodes declared_type × Of is_expression nodes value
 HasRightChildren nodes (Assign position target value) = Of is_target nodes target × Of is_expression nodes value
 HasRightChildren nodes (ExpressionStatement position expression) = Of is_invocation nodes expression
@@ -196,13 +196,13 @@ HasRightChildren nodes (For position first condition step body) =
 HasRightChildren nodes (Return position value) = OptionOf is_expression nodes value
 HasRightChildren nodes (Binary position operator left right) = Of is_expression nodes left × Of is_expression nodes right
 HasRightChildren nodes (Unary position operator operand) = Of is_expression nodes operand
-HasRightChildren nodes (Cast position name_place name operand) = Of is_expression nodes operand
+HasRightChildren nodes (Cast position name_position name operand) = Of is_expression nodes operand
 HasRightChildren nodes (Parenthesized position inner) = Of is_expression nodes inner
 HasRightChildren nodes (FieldAccess position name object) = Of is_expression nodes object
 HasRightChildren nodes (Call position name object arguments) =
     OptionOf is_expression nodes object × AllOf is_argument nodes arguments
 HasRightChildren nodes (Element position array index) = Of is_expression nodes array × Of is_expression nodes index
-HasRightChildren nodes (New position name_place name arguments) = AllOf is_argument nodes arguments
+HasRightChildren nodes (New position name_position name arguments) = AllOf is_argument nodes arguments
 HasRightChildren nodes (NewArray position element length) =
     Of is_element_type nodes element × Of is_expression nodes length
 HasRightChildren nodes _ = Unit {0}

@@ -200,7 +200,7 @@ module _ (forest : Forest) (accepted : IsAccepted forest) (whole : IsForest fore
   unfolding variable_of scoped_declaration_at scoped_variable_at
   scoped_there v b c (Parameter position name flags declared_type) d there is ec em = (refl, at_variable v b c d ec em (ap (option_and_then (variable_of q.nodes v)) there ∙ is))
   scoped_there v b c (Local position name flags declared_type) d there is ec em = (refl, at_variable v b c d ec em (ap (option_and_then (variable_of q.nodes v)) there ∙ is))
-  scoped_there v b c (LocalWithValue position name_place name flags declared_type value) d there is ec em = (refl, at_variable v b c d ec em (ap (option_and_then (variable_of q.nodes v)) there ∙ is))
+  scoped_there v b c (LocalWithValue position name_position name flags declared_type value) d there is ec em = (refl, at_variable v b c d ec em (ap (option_and_then (variable_of q.nodes v)) there ∙ is))
   scoped_there v b c _ d there is ec em = absurd (cc (is))
 
   -- a variable of a body, whose type is a reference, has a scope

@@ -95,7 +95,7 @@ module _ (forest : Forest) (accepted : IsAccepted forest) (sorted : IsWellSorted
       (let t = of_type declared_type h.1 e in (t.0, ap (declared_type_of p) (sym (some_inj _ d k)) ∙ t.1))
   variable_typed id (Local position name flags declared_type) d h e k =
       (let t = of_type declared_type h.1 e in (t.0, ap (declared_type_of p) (sym (some_inj _ d k)) ∙ t.1))
-  variable_typed id (LocalWithValue position name_place name flags declared_type value) d h e k =
+  variable_typed id (LocalWithValue position name_position name flags declared_type value) d h e k =
       (let t = of_type declared_type h.1 e in (t.0, ap (declared_type_of p) (sym (some_inj _ d k)) ∙ t.1))
   variable_typed id _ d h e k = absurd (cc (k))
 
@@ -139,13 +139,13 @@ module _ (forest : Forest) (accepted : IsAccepted forest) (sorted : IsWellSorted
       go (Some node) there k = result_typed id node m (children_at id node there) (c9_unbroken id node there) k
 
   -- a class is named after `new` and in a cast
-  pub new_names_class : (id : ℕ) (position name_place : Pos) (name : List ℕ) (arguments : List ℕ) → slice_get p.nodes id ≡ Some (New position name_place name arguments) → HasNumber (class_number p.names name)
+  pub new_names_class : (id : ℕ) (position name_position : Pos) (name : List ℕ) (arguments : List ℕ) → slice_get p.nodes id ≡ Some (New position name_position name arguments) → HasNumber (class_number p.names name)
   unfolding c9
-  new_names_class id position name_place name arguments there = numbered (class_number p.names name) (right (names_no_class p name) C9 name_place (c9_unbroken id (New position name_place name arguments) there))
+  new_names_class id position name_position name arguments there = numbered (class_number p.names name) (right (names_no_class p name) C9 name_position (c9_unbroken id (New position name_position name arguments) there))
 
-  pub cast_names_class : (id : ℕ) (position name_place : Pos) (name : List ℕ) (operand : ℕ) → slice_get p.nodes id ≡ Some (Cast position name_place name operand) → HasNumber (class_number p.names name)
+  pub cast_names_class : (id : ℕ) (position name_position : Pos) (name : List ℕ) (operand : ℕ) → slice_get p.nodes id ≡ Some (Cast position name_position name operand) → HasNumber (class_number p.names name)
   unfolding c9
-  cast_names_class id position name_place name operand there = numbered (class_number p.names name) (right (names_no_class p name) C9 name_place (c9_unbroken id (Cast position name_place name operand) there))
+  cast_names_class id position name_position name operand there = numbered (class_number p.names name) (right (names_no_class p name) C9 name_position (c9_unbroken id (Cast position name_position name operand) there))
 
   -- the elements of a new array have a type, of which there are arrays
   element_made : (t : ℕ) (node : Node) → slice_get p.nodes t ≡ Some node → is_element_type node ≡ true → at_node p (c9_element p) t ≡ [] → HasType (option_and_then array_of (written_type p t))

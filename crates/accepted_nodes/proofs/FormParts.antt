@@ -49,9 +49,9 @@ pub record IsSuperCall (p : Declarations) (arguments : List ℕ) : Type 0 where
 -- `new` of a form's class at a node
 pub record IsNewAt (p : Declarations) (class : ℕ) (id : ℕ) (arguments : List ℕ) : Type 0 where
   pub position : Pos
-  pub name_place : Pos
+  pub name_position : Pos
   pub name : List ℕ
-  pub is_there : slice_get p.nodes id ≡ Some (New position name_place name arguments)
+  pub is_there : slice_get p.nodes id ≡ Some (New position name_position name arguments)
   pub names : class_number p.names name ≡ Some class
 
 module _ (p : Declarations) where
@@ -74,12 +74,12 @@ module _ (p : Declarations) where
 
   new_at : (class count id : ℕ) (arguments : List ℕ) (node : Node) → slice_get p.nodes id ≡ Some node → new_of p class count node ≡ Some arguments → IsNewAt p class id arguments
   unfolding new_of
-  new_at class count id arguments (New position name_place name list) there e =
+  new_at class count id arguments (New position name_position name list) there e =
       let a = if_some (holds (class_number p.names name) (λ c. c == class) && (length list == count)) (Some list) arguments e in
       let same = some_inj list arguments a.1 in
       let b = and_true (holds (class_number p.names name) (λ c. c == class)) (length list == count) a.0 in
       let c = held (class_number p.names name) (λ c. c == class) b.0 in
-      record { position = position; name_place = name_place; name = name; is_there = there ∙ ap (λ xs. Some (New position name_place name xs)) same; names = c.1 ∙ ap (λ n. Some n) (same_number c.0 class c.2) }
+      record { position = position; name_position = name_position; name = name; is_there = there ∙ ap (λ xs. Some (New position name_position name xs)) same; names = c.1 ∙ ap (λ n. Some n) (same_number c.0 class c.2) }
   new_at class count id arguments _ there e = absurd (cc (e))
 
   read_new : (class count id : ℕ) (arguments : List ℕ) → read p.nodes (new_of p class count) id ≡ Some arguments → IsNewAt p class id arguments
@@ -168,7 +168,7 @@ module _ (p : Declarations) where
 -- a node whose arguments may be parts of a form
 unfoldable pub takes_parts : Declarations → ℕ → Node → Bool
 takes_parts p id (SuperCall position arguments) = true
-takes_parts p id (New position name_place name arguments) = is_form_part p id
+takes_parts p id (New position name_position name arguments) = is_form_part p id
 takes_parts p id _ = false
 
 module _ (forest : Forest) (whole : IsForest forest) (accepted : IsAccepted forest) where
@@ -243,11 +243,11 @@ module _ (forest : Forest) (whole : IsForest forest) (accepted : IsAccepted fore
         | inr s ↦ (
             let n = s.3 in
             let inside : (context q s.0).in_super_call ≡ true = ap (λ (c : Context). c.in_super_call) (child_context_is forest whole f.written.node s.0 (SuperCall f.written.position f.arguments) f.written.is_there s.6) in
-            let same : (context q x).class ≡ (context q s.0).class = ap (λ (c : Context). c.class) (child_context_is forest whole s.0 x (New n.position n.name_place n.name s.2) n.is_there s.4)
-            ∙ ap (λ o. or_else o (context q s.0).class) (no_class_number forest whole s.0 (New n.position n.name_place n.name s.2) n.is_there refl) in
+            let same : (context q x).class ≡ (context q s.0).class = ap (λ (c : Context). c.class) (child_context_is forest whole s.0 x (New n.position n.name_position n.name s.2) n.is_there s.4)
+            ∙ ap (λ o. or_else o (context q s.0).class) (no_class_number forest whole s.0 (New n.position n.name_position n.name s.2) n.is_there refl) in
             let part : is_form_part q s.0 ≡ true = ap (λ t. t && holds (context q s.0).class (λ class. holds (form_in q class) (is_among s.0))) inside
             ∙ ap (λ (o : Option ℕ). holds o (λ class. holds (form_in q class) (is_among s.0))) (sym same ∙ b.1) ∙ ap (λ (o : Option (List ℕ)). holds o (is_among s.0)) c.1 ∙ s.5 in
-            record { parent = s.0; node = New n.position n.name_place n.name s.2; is_there = n.is_there; among = s.4; takes = part })
+            record { parent = s.0; node = New n.position n.name_position n.name s.2; is_there = n.is_there; among = s.4; takes = part })
       ]
 
   -- what stands elsewhere is no part of a form

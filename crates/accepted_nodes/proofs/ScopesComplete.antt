@@ -207,14 +207,14 @@ module _ (forest : Forest) (accepted : IsAccepted forest) (whole : IsForest fore
       go true e = refl
       go false e = absurd (true≢false e)
 
-  cast_scoped : (id : ℕ) (position name_place : Pos) (name : List ℕ) (operand : ℕ) → Scoped id (Cast position name_place name operand)
+  cast_scoped : (id : ℕ) (position name_position : Pos) (name : List ℕ) (operand : ℕ) → Scoped id (Cast position name_position name operand)
   unfolding type_of scope_of children is_argument is_expression object_of takes_parts HasRightChildren scope_in_class
-  cast_scoped id position name_place name operand b c t there inside below e r =
-      let s = sorted.each id (Cast position name_place name operand) there in
+  cast_scoped id position name_position name operand b c t there inside below e r =
+      let s = sorted.each id (Cast position name_position name operand) there in
       let v = child_at forest accepted whole sorted b c id _ there inside refl operand (same_first forest accepted whole sorted operand []) (of_expression forest accepted whole sorted operand s) refl refl in
       let u = value_has_type forest accepted whole sorted b c operand v.node v.is_there v.inside v.value in
-      let n = cast_names_class forest accepted sorted id position name_place name operand (at_p forest accepted whole sorted id _ there) in
-      let w = right_cast p types id position name_place name operand (unbroken forest accepted whole sorted id _ there) in
+      let n = cast_names_class forest accepted sorted id position name_position name operand (at_p forest accepted whole sorted id _ there) in
+      let w = right_cast p types id position name_position name operand (unbroken forest accepted whole sorted id _ there) in
       let reference : is_reference u.0 ≡ true = cast_of_reference u.0 (ClassTy n.0)
       (sym (ap (λ (o : Option Ty). holds o (λ t. holds (class_number p.names name) (λ class. not (are_related p.classes t (ClassTy class))))) u.1 ∙ ap (λ (o : Option ℕ). holds o (λ class. not (are_related p.classes u.0 (ClassTy class)))) n.1) ∙ w) in
       let h = scope_or_has (class_scope p n.0) (scopes operand) (known n.0) (scoped_at b c id operand u.0 below v u.1 reference) in
@@ -237,10 +237,10 @@ module _ (forest : Forest) (accepted : IsAccepted forest) (whole : IsForest fore
       let h = element_of_array a.0 t (scopes array) i.2 r (λ k. scoped_at b c id array a.0 below v a.1 k) in
       (h.0, ap (option_and_then (scope_of_element p (scopes array))) a.1 ∙ h.1)
 
-  new_scoped : (id : ℕ) (position name_place : Pos) (name arguments : List ℕ) → Scoped id (New position name_place name arguments)
+  new_scoped : (id : ℕ) (position name_position : Pos) (name arguments : List ℕ) → Scoped id (New position name_position name arguments)
   unfolding scope_of scope_of_new
-  new_scoped id position name_place name arguments b c t there inside below e r =
-      let n = new_names_class forest accepted sorted id position name_place name arguments (at_p forest accepted whole sorted id _ there) in
+  new_scoped id position name_position name arguments b c t there inside below e r =
+      let n = new_names_class forest accepted sorted id position name_position name arguments (at_p forest accepted whole sorted id _ there) in
       let h = scope_or_has (class_scope p n.0) (current_at p id) (known n.0) (current_there b c id inside) in
       (h.0, ap (option_and_then (scope_of_new p id)) n.1 ∙ h.1)
 
@@ -386,11 +386,11 @@ module _ (forest : Forest) (accepted : IsAccepted forest) (whole : IsForest fore
   scoped_of id (Binary position operator left operand) v b c t there inside below e r =
       absurd (let x = of_option (types left) (λ a. option_and_then (binary_type p.classes operator a) (types operand)) t e in let y = of_option (types operand) (binary_type p.classes operator x.0) t x.2 in true≢false (sym r ∙ binary_plain p.classes operator x.0 y.0 t y.2))
   scoped_of id (Unary position operator operand) v b c t there inside below e r = absurd (let x = of_option (types operand) (unary_type operator) t e in true≢false (sym r ∙ unary_plain operator x.0 t x.2))
-  scoped_of id (Cast position name_place name operand) v b c t there inside below e r = cast_scoped id position name_place name operand b c t there inside below e r
+  scoped_of id (Cast position name_position name operand) v b c t there inside below e r = cast_scoped id position name_position name operand b c t there inside below e r
   scoped_of id (FieldAccess position name object) v b c t there inside below e r = access_scoped id position name object b c t there inside below e r
   scoped_of id (Call position name object arguments) v b c t there inside below e r = call_scoped id position name object arguments b c t there inside below e r
   scoped_of id (Element position array index) v b c t there inside below e r = element_scoped id position array index b c t there inside below e r
-  scoped_of id (New position name_place name arguments) v b c t there inside below e r = new_scoped id position name_place name arguments b c t there inside below e r
+  scoped_of id (New position name_position name arguments) v b c t there inside below e r = new_scoped id position name_position name arguments b c t there inside below e r
   scoped_of id (NewArray position element size) v b c t there inside below e r = current_there b c id inside
   scoped_of id _ v b c t there inside below e r = absurd (true≢false (sym v.is_argument))
 

@@ -38,9 +38,9 @@ module _ (p : Declarations) (types : Types) (id : ℕ) where
   unfolding type_breaks t1 t2 t3 t4 t5 t6 t7 t8 t9 t10 t11 t12 t13 t14
   right_element position array index e = right _ _ _ (both_empty (broken (misfits_index types array index) T3 position) [] e).0
 
-  pub right_cast : (position name_place : Pos) (name : List ℕ) (operand : ℕ) → type_breaks p types id (Cast position name_place name operand) ≡ [] → misfits_cast p types name operand ≡ false
+  pub right_cast : (position name_position : Pos) (name : List ℕ) (operand : ℕ) → type_breaks p types id (Cast position name_position name operand) ≡ [] → misfits_cast p types name operand ≡ false
   unfolding type_breaks t1 t2 t3 t4 t5 t6 t7 t8 t9 t10 t11 t12 t13 t14
-  right_cast position name_place name operand e = right _ _ _ (both_empty (broken (misfits_cast p types name operand) T12 position) [] e).0
+  right_cast position name_position name operand e = right _ _ _ (both_empty (broken (misfits_cast p types name operand) T12 position) [] e).0
 
   pub record RightNewArray (element size : ℕ) : Type 0 where
     pub right_length : misfits_length types size ≡ false
@@ -85,9 +85,9 @@ module _ (p : Declarations) (types : Types) (id : ℕ) where
     pub makes_object : makes_no_object p types name arguments ≡ false
     pub no_form : is_misplaced_form p id name ≡ false
 
-  pub right_new : (position name_place : Pos) (name arguments : List ℕ) → type_breaks p types id (New position name_place name arguments) ≡ [] → RightNew name arguments
+  pub right_new : (position name_position : Pos) (name arguments : List ℕ) → type_breaks p types id (New position name_position name arguments) ≡ [] → RightNew name arguments
   unfolding type_breaks t1 t2 t3 t4 t5 t6 t7 t8 t9 t10 t11 t12 t13 t14
-  right_new position name_place name arguments e =
+  right_new position name_position name arguments e =
       let one = both_empty (broken (misfits_new p types id name arguments) T6 position) (broken (makes_no_object p types name arguments) T11 position ++ broken (is_misplaced_form p id name) T14 position) e in
       let two = both_empty (broken (makes_no_object p types name arguments) T11 position) (broken (is_misplaced_form p id name) T14 position) one.1 in
       record { arguments_fit = right _ _ _ one.0; makes_object = right _ _ _ two.0; no_form = right _ _ _ two.1 }

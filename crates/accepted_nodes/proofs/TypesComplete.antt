@@ -259,12 +259,12 @@ module _ (forest : Forest) (accepted : IsAccepted forest) (whole : IsForest fore
       let x = typed_child b c id _ there inside below refl operand (same_first operand []) (of_expression operand s) refl refl in
       one_fits (types operand) (unary_type operator) x (right_unary p types id position operator operand (unbroken id _ there))
 
-  cast_typed : (id : ℕ) (position name_place : Pos) (name : List ℕ) (operand : ℕ) → Typed id (Cast position name_place name operand)
+  cast_typed : (id : ℕ) (position name_position : Pos) (name : List ℕ) (operand : ℕ) → Typed id (Cast position name_position name operand)
   unfolding type_of children is_argument is_expression object_of takes_parts HasRightChildren
-  cast_typed id position name_place name operand b c there inside below =
-      let s = sorted.each id (Cast position name_place name operand) there in
+  cast_typed id position name_position name operand b c there inside below =
+      let s = sorted.each id (Cast position name_position name operand) there in
       let x = typed_child b c id _ there inside below refl operand (same_first operand []) (of_expression operand s) refl refl in
-      let n = cast_names_class forest accepted sorted id position name_place name operand (at_p id _ there) in
+      let n = cast_names_class forest accepted sorted id position name_position name operand (at_p id _ there) in
       (ClassTy n.0, ap (option_and_then (λ t. class_type_named p name)) x.1 ∙ ap (option_map (λ class. ClassTy class)) n.1)
 
   element_typed : (id : ℕ) (position : Pos) (array index : ℕ) → Typed id (Element position array index)
@@ -328,12 +328,12 @@ module _ (forest : Forest) (accepted : IsAccepted forest) (whole : IsForest fore
       let r = receiver_there object o.node o.is_there (object_typed b c id _ there inside below refl object (same_first object arguments) o refl) in
       called_there id position name (Some object) arguments r.0 ts.0 r.1 ts.1 (right_call p types id position name (Some object) arguments (unbroken id _ there))
 
-  new_there : (id : ℕ) (position name_place : Pos) (name arguments : List ℕ) → is_form_part p id ≡ false → Typed id (New position name_place name arguments)
+  new_there : (id : ℕ) (position name_position : Pos) (name arguments : List ℕ) → is_form_part p id ≡ false → Typed id (New position name_position name arguments)
   unfolding type_of children is_argument is_expression object_of takes_parts HasRightChildren
-  new_there id position name_place name arguments plain b c there inside below =
-      let s = sorted.each id (New position name_place name arguments) there in
+  new_there id position name_position name arguments plain b c there inside below =
+      let s = sorted.each id (New position name_position name arguments) there in
       let ts = all_typed arguments (λ x among. typed_child b c id _ there inside below refl x among (all_of x arguments s among) refl plain) in
-      let n = new_names_class forest accepted sorted id position name_place name arguments (at_p id _ there) in
+      let n = new_names_class forest accepted sorted id position name_position name arguments (at_p id _ there) in
       (ClassTy n.0, ap (λ t. if t then None else option_and_then (λ ts. class_type_named p name) (all_types types arguments)) plain ∙ ap (option_and_then (λ ts. class_type_named p name)) ts.1 ∙ ap (option_map (λ class. ClassTy class)) n.1)
 
   typed_of : (id : ℕ) (node : Node) → IsValue p id node → Typed id node
@@ -349,11 +349,11 @@ module _ (forest : Forest) (accepted : IsAccepted forest) (whole : IsForest fore
   typed_of id (Parenthesized position inner) v b c there inside below = parenthesized_typed id position inner b c there inside below
   typed_of id (Binary position operator left operand) v b c there inside below = binary_typed id position operator left operand b c there inside below
   typed_of id (Unary position operator operand) v b c there inside below = unary_typed id position operator operand b c there inside below
-  typed_of id (Cast position name_place name operand) v b c there inside below = cast_typed id position name_place name operand b c there inside below
+  typed_of id (Cast position name_position name operand) v b c there inside below = cast_typed id position name_position name operand b c there inside below
   typed_of id (FieldAccess position name object) v b c there inside below = access_there id position name object b c there inside below
   typed_of id (Call position name object arguments) v b c there inside below = call_there id position name object arguments b c there inside below
   typed_of id (Element position array index) v b c there inside below = element_typed id position array index b c there inside below
-  typed_of id (New position name_place name arguments) v b c there inside below = new_there id position name_place name arguments v.no_form_part b c there inside below
+  typed_of id (New position name_position name arguments) v b c there inside below = new_there id position name_position name arguments v.no_form_part b c there inside below
   typed_of id (NewArray position element size) v b c there inside below = new_array_typed id position element size b c there inside below
   typed_of id _ v b c there inside below = absurd (true≢false (sym v.is_argument))
 

@@ -11,7 +11,7 @@ use Rattle.scj_rules.specs.declared.typing.Ty.TheVariants.{Int, Bool as Boolean,
 use Rattle.scj_rules.specs.declared.typing.Scope.{Scope}
 use Rattle.scj_rules.specs.declared.typing.Scope.TheVariants.{Any, This, Caller, In, Unknown, Lost}
 use Rattle.scj_rules.specs.Words.{broken, holds}
-use Rattle.scj_rules.specs.Views.{place_at, variable_at, variable_of}
+use Rattle.scj_rules.specs.Views.{position_at, variable_at, variable_of}
 use Rattle.scj_rules.specs.Contexts.{Declarations, declarations_of, has_object}
 use Rattle.scj_rules.specs.Types.{assigns, are_same, is_boolean}
 use Rattle.scj_rules.specs.TypeRules.{t1, t2, t3, t4, t5, t6, t7, t8, t9, t10, t11, t12, t13, t14, type_breaks, type_of, misfits_initial_value, written_type, declared_type_of, is_declared_already}
@@ -60,10 +60,10 @@ module _ (forest : Forest) (accepted : IsAccepted forest) where
   abbrev p : Declarations
   p = declarations_of forest
 
-  condition_boolean : (condition : ℕ) (t : Ty) → broken (holds (type_at_node p condition) (λ t. not (is_boolean t))) T8 (place_at p.nodes condition) ++ [] ≡ [] → type_at_node p condition ≡ Some t → t ≡ Boolean
+  condition_boolean : (condition : ℕ) (t : Ty) → broken (holds (type_at_node p condition) (λ t. not (is_boolean t))) T8 (position_at p.nodes condition) ++ [] ≡ [] → type_at_node p condition ≡ Some t → t ≡ Boolean
   condition_boolean condition t e h =
       boolean_is t (sym (ap (λ (o : Option Ty). holds o (λ t. not (is_boolean t))) h)
-      ∙ right (holds (type_at_node p condition) (λ t. not (is_boolean t))) T8 (place_at p.nodes condition) (both_empty (broken (holds (type_at_node p condition) (λ t. not (is_boolean t))) T8 (place_at p.nodes condition)) [] e).0)
+      ∙ right (holds (type_at_node p condition) (λ t. not (is_boolean t))) T8 (position_at p.nodes condition) (both_empty (broken (holds (type_at_node p condition) (λ t. not (is_boolean t))) T8 (position_at p.nodes condition)) [] e).0)
 
   -- the condition of an `if` is boolean
   pub if_condition : (id : ℕ) (position : Pos) (condition then_part : ℕ) (else_part : Option ℕ) (t : Ty) → slice_get p.nodes id ≡ Some (If position condition then_part else_part) → type_at_node p condition ≡ Some t → t ≡ Boolean
@@ -83,23 +83,23 @@ module _ (forest : Forest) (accepted : IsAccepted forest) where
   for_condition id position first condition step body t there h =
       let n = no_break_at_node forest accepted id (For position first condition step body) there in condition_boolean condition t n.no_type_rule h
 
-  variable_is : (id : ℕ) (position name_place : Pos) (name : List ℕ) (flags : Option ℕ) (declared_type value : ℕ) → slice_get p.nodes id ≡ Some (LocalWithValue position name_place name flags declared_type value)
+  variable_is : (id : ℕ) (position name_position : Pos) (name : List ℕ) (flags : Option ℕ) (declared_type value : ℕ) → slice_get p.nodes id ≡ Some (LocalWithValue position name_position name flags declared_type value)
       → option_and_then (declared_type_of p) (variable_at p.nodes id) ≡ written_type p declared_type
   unfolding variable_of
-  variable_is id position name_place name flags declared_type value there =
+  variable_is id position name_position name flags declared_type value there =
       ap (λ (o : Option Node). option_and_then (declared_type_of p) (option_and_then (variable_of p.nodes id) o)) there
 
   -- the value with which a local is declared fits the local
-  pub initial_value_fits : (id : ℕ) (position name_place : Pos) (name : List ℕ) (flags : Option ℕ) (declared_type value : ℕ) → slice_get p.nodes id ≡ Some (LocalWithValue position name_place name flags declared_type value)
+  pub initial_value_fits : (id : ℕ) (position name_position : Pos) (name : List ℕ) (flags : Option ℕ) (declared_type value : ℕ) → slice_get p.nodes id ≡ Some (LocalWithValue position name_position name flags declared_type value)
       → (j k : Kind) → Judged p value (Some j) → kind_of_variable p id ≡ Some k → IsRealKind k → Fits p This Caller j k
   unfolding Judged kind_of_variable type_breaks t1 t2 t3 t4 t5 t6 t7 t8 t9 t10 t11 t12 t13 t14 use_breaks e1 e2 e3 e4_and_e5 e6 e7 e8 e9 e10
-  initial_value_fits id position name_place name flags declared_type value there j k ej ek real_ =
-      let n = no_break_at_node forest accepted id (LocalWithValue position name_place name flags declared_type value) there in
-      let after = both_empty (broken (is_declared_already p id name) T2 name_place) (broken (misfits_initial_value p (type_at_node p) declared_type value) T7 position ++ []) n.no_type_rule in
+  initial_value_fits id position name_position name flags declared_type value there j k ej ek real_ =
+      let n = no_break_at_node forest accepted id (LocalWithValue position name_position name flags declared_type value) there in
+      let after = both_empty (broken (is_declared_already p id name) T2 name_position) (broken (misfits_initial_value p (type_at_node p) declared_type value) T7 position ++ []) n.no_type_rule in
       let types = right (misfits_initial_value p (type_at_node p) declared_type value) T7 position (both_empty (broken (misfits_initial_value p (type_at_node p) declared_type value) T7 position) [] after.1).0 in
       let scopes = right (misfit_scope (scope_at_node p value) (variable_scope_at p id)) E4 position (both_empty (broken (misfit_scope (scope_at_node p value) (variable_scope_at p id)) E4 position) [] n.no_use_rule).0 in
       let t = typed_of (type_at_node p value) (scope_at_node p value) j ej in
-      let ek2 : kind_of (written_type p declared_type) (variable_scope_at p id) ≡ Some k = ap (λ (o : Option Ty). kind_of o (variable_scope_at p id)) (sym (variable_is id position name_place name flags declared_type value there)) ∙ ek in
+      let ek2 : kind_of (written_type p declared_type) (variable_scope_at p id) ≡ Some k = ap (λ (o : Option Ty). kind_of o (variable_scope_at p id)) (sym (variable_is id position name_position name flags declared_type value there)) ∙ ek in
       let u = typed_of (written_type p declared_type) (variable_scope_at p id) k ek2 in
       let fit : not (assigns p.classes t.0 u.0) ≡ false =
       sym (ap (λ (o : Option Ty). holds o (λ u. holds (type_at_node p value) (λ v. not (assigns p.classes v u)))) u.1 ∙ ap (λ (o : Option Ty). holds o (λ v. not (assigns p.classes v u.0))) t.1) ∙ types in

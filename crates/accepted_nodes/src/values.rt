@@ -42,7 +42,7 @@ pub fn conditions_of_for_are_boolean()
 
 /// The value with which a local is declared fits the local in type and scope, where both are judged.
 pub fn initial_values_fit()
-    ensures { (forest : Forest) → IsAccepted forest → (id : ℕ) (position name_place : Place) (name : List ℕ) (flags : Option ℕ) (declared_type value : ℕ) → slice_get (declarations_of forest).nodes id ≡ Some (LocalWithValue position name_place name flags declared_type value) → (j k : Kind) → Judged (declarations_of forest) value (Some j) → kind_of_variable (declarations_of forest) id ≡ Some k → Fits (declarations_of forest) This Caller j k }
+    ensures { (forest : Forest) → IsAccepted forest → (id : ℕ) (position name_position : Place) (name : List ℕ) (flags : Option ℕ) (declared_type value : ℕ) → slice_get (declarations_of forest).nodes id ≡ Some (LocalWithValue position name_position name flags declared_type value) → (j k : Kind) → Judged (declarations_of forest) value (Some j) → kind_of_variable (declarations_of forest) id ≡ Some k → Fits (declarations_of forest) This Caller j k }
 {}
 
 /// `this` stands where there is an object, is of the class around it, and lies where that class's objects lie.

@@ -6,7 +6,7 @@ ghost use Rattle.scj_rules.specs.Words.{broken, found_at};
 ghost use Rattle.scj_rules.specs.Contexts.{declarations_of};
 ghost use Rattle.scj_rules.specs.ScopeRules.{scope_written_in};
 ghost use Rattle.scj_rules.specs.StaticScopes.{is_unknown_scope, contradicts, scoped_field};
-ghost use Rattle.scj_rules.specs.AnnotationRules.{a1_of_class, has_other_scope, a2_place, broken_value, field_rule, a3_to_a5_of, scoped_variable_at};
+ghost use Rattle.scj_rules.specs.AnnotationRules.{a1_of_class, has_other_scope, a2_position, broken_value, field_rule, a3_to_a5_of, scoped_variable_at};
 
 use program_facts::Facts;
 use scj_base::{ClassId, Found, Memory, NodeId, Pos, Rule};
@@ -97,7 +97,7 @@ pub fn note_variable(found: &mut Vec<Found>, facts: &Facts, id: NodeId) -> Resul
 }
 
 /// Notes A1 and A2 at a class that is named at a place.
-#[tactic(auto, unfolding(scj_rules::specs::AnnotationRules::a2_place))]
+#[tactic(auto, unfolding(scj_rules::specs::AnnotationRules::a2_position))]
 pub fn note_class(
     found: &mut Vec<Found>,
     facts: &Facts,
@@ -106,7 +106,7 @@ pub fn note_class(
 ) -> Result<(), Memory>
     ensures { let p = declarations_of facts.now in
         OnOk result (found.new.items ≡ found.old.items
-        ++ (a1_of_class p class ++ broken (has_other_scope p class) A2 (a2_place position (scope_written_in p class)))) }
+        ++ (a1_of_class p class ++ broken (has_other_scope p class) A2 (a2_position position (scope_written_in p class)))) }
 {
     let written = scope_written_in(facts, class);
     let above = match facts.classes().superclass(class) {

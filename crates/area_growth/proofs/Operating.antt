@@ -7,7 +7,7 @@ use Rattle.scj_base.specs.declared.values.Value.{Value}
 use Rattle.scj_rules.specs.declared.views.Body.{Body}
 use Rattle.scj_rules.specs.Words.{◌>>=◌, is_among}
 use Rattle.scj_rules.specs.ScopeRules.{immortal_scope, defined_by_chain}
-use Rattle.scj_rules.specs.Bodies.{body_named, constructor_body, size_of, safelet_class, class_place}
+use Rattle.scj_rules.specs.Bodies.{body_named, constructor_body, size_of, safelet_class, class_position}
 use Rattle.scj_model.specs.declared.operations.Op.{Op}
 use Rattle.scj_model.specs.declared.operations.SeqOp.{SeqOp}
 use Rattle.scj_model.specs.declared.operations.SeqOp.TheVariants.{OpenImmortal, AllocSafelet, ConstructSafelet, InitializeApplication, GetSequencer, GetNextMission, OpenMission, Initialize, CleanUp, Execute, Finished}
@@ -20,7 +20,7 @@ use Rattle.scj_model.specs.Steps.{Step}
 use Rattle.scj_model.specs.Effects.{Effect, Goes, Prints, Makes, Stores, StoresStatic, SetsHidden, SetsCeiling, Calls, Opens, Leaves, AsksRegistration, AsksRelease, AsksTermination, Faults, Stuck}
 use Rattle.scj_model.specs.Apply.{with_ceiling, with_first, with_frame, applied, is_sequencer}
 use Rattle.scj_model.specs.Sequencer.{innermost, area_opened, safelet_made, body_called, method_called, sequencer_op}
-use Rattle.scj_model.specs.Run.{frame_op, effect_at, place_of_op, start_op, started_with, no_activity, release_op_of, sequencer_turn, ref_op}
+use Rattle.scj_model.specs.Run.{frame_op, effect_at, position_of_op, start_op, started_with, no_activity, release_op_of, sequencer_turn, ref_op}
 use Rattle.scj_rules.specs.Layout.{size_with_slots}
 use Rattle.region_heap.specs.Kept.{bytes_in}
 use Rattle.area_growth.specs.Growth.{AreSituated, GoesOn, IsSituated, StaysSame}
@@ -135,18 +135,18 @@ goes_frame code rows s job activity m = go activity.frames m
         ((op : Op) (rest : List Op) → ops ≡ op ∷ rest → IsSituated s.areas s.objects (effect_at code rows s f op rest)) →
         GoesIf s (elim ops [
           | [] ↦ None
-          | op ∷ rest ↦ applied code s job activity below (place_of_op code op) (effect_at code rows s f op rest)
+          | op ∷ rest ↦ applied code s job activity below (position_of_op code op) (effect_at code rows s f op rest)
         ])
     act f below [] k = none_goes s
     act f below (op ∷ rest) k =
-        goes_applied code s job activity below (place_of_op code op) (effect_at code rows s f op rest) (k op rest refl)
+        goes_applied code s job activity below (position_of_op code op) (effect_at code rows s f op rest) (k op rest refl)
 
     go : (fs : List Frame) → Situated code rows s fs →
         GoesIf s (elim fs [
           | [] ↦ None
           | f ∷ below ↦ elim f.rest [
             | [] ↦ None
-            | op ∷ rest ↦ applied code s job activity below (place_of_op code op) (effect_at code rows s f op rest)
+            | op ∷ rest ↦ applied code s job activity below (position_of_op code op) (effect_at code rows s f op rest)
           ]
         ])
     go [] k = none_goes s
@@ -159,7 +159,7 @@ goes_start code s index r =
     bind_goes s (defined_by_chain code.program row.class) _ (λ scope _.
     bind_goes s (body_named code.program row.class (codes "handleAsyncEvent")) _ (λ body _.
     some_goes s _
-    (goes_opening s (ReleaseAt index) no_activity (class_place code.program row.class) scope
+    (goes_opening s (ReleaseAt index) no_activity (class_position code.program row.class) scope
     (innermost s.activity.areas) row.bytes _ (λ t a. same_active t (ReleaseAt index) _)))))
 
 goes_release : (code : Code) (rows : List ReadingRow) (s : State) (index : ℕ) (r : Release) →
@@ -234,12 +234,12 @@ unfolding sequencer_op
 goes_sequencer_op code s OpenImmortal m =
     bind_goes s (safelet_class code.program) _ (λ class _.
     bind_goes s (size_of code.program class) _ (λ bytes _.
-    some_goes s _ (goes_area s (class_place code.program class) immortal_scope bytes)))
+    some_goes s _ (goes_area s (class_position code.program class) immortal_scope bytes)))
 goes_sequencer_op code s AllocSafelet m =
     bind_goes s (safelet_class code.program) _ (λ class _.
     bind_goes s (innermost s.activity.areas) _ (λ area e.
     some_goes s _
-    (goes_safelet code s (class_place code.program class) class area
+    (goes_safelet code s (class_position code.program class) class area
     (m area (among_first s.activity.areas area e)))))
 goes_sequencer_op code s (ConstructSafelet r) m =
     bind_goes s (object_at s r) _ (λ o _.
@@ -251,7 +251,7 @@ goes_sequencer_op code s (OpenMission r) m =
     bind_goes s (object_at s r) _ (λ o _.
     bind_goes s (defined_by_chain code.program o.class) _ (λ scope _.
     bind_goes s (size_of code.program o.class) _ (λ bytes _.
-    some_goes s _ (goes_area s (class_place code.program o.class) scope bytes))))
+    some_goes s _ (goes_area s (class_position code.program o.class) scope bytes))))
 goes_sequencer_op code s (Initialize r) m = goes_method code s r (codes "initialize")
 goes_sequencer_op code s (CleanUp r) m = goes_method code s r (codes "cleanUp")
 goes_sequencer_op code s Execute m = none_goes s

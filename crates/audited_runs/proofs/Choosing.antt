@@ -12,7 +12,7 @@ use Rattle.priority_laws.proofs.Urgency.{IsChosen, is_chosen}
 use Rattle.trace_audit.specs.declared.choices.Choice.{Choice}
 use Rattle.trace_audit.specs.declared.choices.Choice.TheVariants.{Idle as Nobody, Chosen}
 use Rattle.trace_audit.specs.declared.releases.Release.{Release}
-use Rattle.trace_audit.specs.Replay.{Releases, Replay, choice_at, differs, is_same_choice, picked, picked_place}
+use Rattle.trace_audit.specs.Replay.{Releases, Replay, choice_at, differs, is_same_choice, picked, picked_index}
 use Rattle.trace_audit.specs.StandsFor.{StandsFor, release_seen}
 use Rattle.trace_audit.proofs.ChosenLaws.{pick_is_choice}
 use Rattle.audited_runs.proofs.Changes.{get_drop}
@@ -28,7 +28,7 @@ turn_of o = elim o as (λ z. Turn) [ None ↦ IdleTurn | Some index ↦ TurnOf i
 
 -- nobody is chosen and nobody picked, or a release of the mission is
 pub data Picks (s : State) (r : Replay) : Type 0 where
-  nobody : (chosen_none : chosen s ≡ None) (place_none : picked_place r.all ≡ None) (none : picked r.all ≡ Nobody) →
+  nobody : (chosen_none : chosen s ≡ None) (place_none : picked_index r.all ≡ None) (none : picked r.all ≡ Nobody) →
       Picks s r
   somebody : (q p : ℕ) (x : ReleaseNow) (at : p ≡ s.earlier_releases + q) (is_chosen : chosen s ≡ Some p)
       (there : slice_get s.releases p ≡ Some x) (seen : slice_get r.all.releases q ≡ Some (release_seen x))
@@ -42,12 +42,12 @@ seen_there s all p q x stands at there =
     (get_drop s.earlier_releases p q s.releases at ∙ there)
 
 pub picks : (s : State) (r : Replay) → StandsFor s r.all → Picks s r
-picks s r stands = go (picked_place r.all) refl
+picks s r stands = go (picked_index r.all) refl
   where
-    choice : chosen s ≡ option_map (λ (n : ℕ). s.earlier_releases + n) (picked_place r.all)
+    choice : chosen s ≡ option_map (λ (n : ℕ). s.earlier_releases + n) (picked_index r.all)
     choice = pick_is_choice s r.all stands
 
-    go : (o : Option ℕ) → picked_place r.all ≡ o → Picks s r
+    go : (o : Option ℕ) → picked_index r.all ≡ o → Picks s r
     go None e =
         nobody (choice ∙ ap (option_map (λ (n : ℕ). s.earlier_releases + n)) e) e (ap (choice_at r.all.releases) e)
     go (Some q) e =

@@ -8,7 +8,7 @@ use Rattle.scj_model.specs.Sequencer.{has_started}
 use Rattle.scj_model.specs.State.{Release, State, is_exec, is_started, is_waiting}
 use Rattle.mission_sound.specs.Invariant.{has_waiting, phase_of}
 use Rattle.priority_laws.proofs.Urgency.{IsChosen, is_chosen}
-use Rattle.trace_audit.specs.Replay.{Replay, picked_place}
+use Rattle.trace_audit.specs.Replay.{Replay, picked_index}
 use Rattle.audited_runs.proofs.Executing.{Executes}
 use Rattle.audited_runs.proofs.Choosing.{Picks, nobody, picks, somebody}
 use Rattle.audited_runs.proofs.Phasing.{no_candidate, none_at}
@@ -16,10 +16,10 @@ use Rattle.audited_runs.proofs.Phasing.{no_candidate, none_at}
 -- ---- nobody is left where execution ends
 
 pub none_left : (t : State) (m : Replay) → Executes t m → has_waiting t ≡ false → has_started t ≡ false →
-    picked_place m.all ≡ None
+    picked_index m.all ≡ None
 none_left t m h waits started = go (picks t m h.stands)
   where
-    go : Picks t m → picked_place m.all ≡ None
+    go : Picks t m → picked_index m.all ≡ None
     go (nobody none place_none pick) = place_none
     go (somebody q p x at is there seen pick) =
         let k : IsChosen t p = is_chosen t p is in

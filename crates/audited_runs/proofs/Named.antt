@@ -9,7 +9,7 @@ use Rattle.scj_model.specs.State.{changed}
 use Rattle.trace_audit.specs.declared.releases.Release.{Release}
 use Rattle.trace_audit.specs.declared.releases.Standing.{Standing}
 use Rattle.trace_audit.specs.declared.releases.Standing.TheVariants.{Waits}
-use Rattle.trace_audit.specs.Replay.{HandlerSeen, Releases, is_named, one_more, place_of, release_named, restanding}
+use Rattle.trace_audit.specs.Replay.{HandlerSeen, Releases, is_named, one_more, index_of, release_named, restanding}
 use Rattle.audited_runs.proofs.Changes.{AtChanged, is_changed, is_kept, at_changed, count_changed, count_else, count_more}
 use Rattle.accepted_laws.proofs.Tools.{some_inj}
 use Rattle.priority_laws.proofs.AreaLists.{number_cases, same_test}
@@ -53,7 +53,7 @@ named_so : (r : Release) → is_named r.handler r.number r ≡ true
 named_so r = grind (arith, nat_tests)
 
 pub place_of_name : (handlers : List HandlerSeen) (rs : List Release) → AreNamed handlers rs → (q : ℕ) (x : Release) →
-    slice_get rs q ≡ Some x → place_of rs x.handler x.number ≡ Some q
+    slice_get rs q ≡ Some x → index_of rs x.handler x.number ≡ Some q
 place_of_name handlers rs named q x there =
     position_once (is_named x.handler x.number) rs q x there (named_so x)
     (λ j y at test. named.once j q y x at there (same_handler x.handler x.number y test)

@@ -6,7 +6,7 @@ use Rattle.scj_base.specs.declared.faults.RunFault.TheVariants.{NotInitializing,
 use Rattle.scj_base.specs.declared.values.Value.{Value}
 use Rattle.scj_rules.specs.Words.{◌>>=◌}
 use Rattle.scj_rules.specs.ScopeRules.{defined_by_chain}
-use Rattle.scj_rules.specs.Bodies.{body_named, class_place}
+use Rattle.scj_rules.specs.Bodies.{body_named, class_position}
 use Rattle.scj_model.specs.declared.events.Event.TheVariants as event
 use Rattle.scj_model.specs.declared.handlers.HandlerRow.{HandlerRow}
 use Rattle.scj_model.specs.declared.operations.Op.{Op}
@@ -23,7 +23,7 @@ use Rattle.scj_model.specs.Effects.{Effect, Goes, Prints, Makes, Stores, StoresS
 use Rattle.scj_model.specs.Apply.{class_name, registered, with_frame, applied}
 use Rattle.scj_model.specs.Sequencer.{innermost}
 use Rattle.scj_model.specs.Choice.{handler_priority}
-use Rattle.scj_model.specs.Run.{frame_op, effect_at, place_of_op, start_op, started_with, no_activity, release_op_of, ref_op}
+use Rattle.scj_model.specs.Run.{frame_op, effect_at, position_of_op, start_op, started_with, no_activity, release_op_of, ref_op}
 use Rattle.trace_audit.specs.Replay.{Replay}
 use Rattle.audited_runs.proofs.InUnit.{Live}
 use Rattle.accepted_laws.proofs.Tools.{some_inj}
@@ -153,11 +153,11 @@ module _ (plan : Plan) (code : Code) (s : State) (p : ℕ) (r : Replay) (live : 
   unfolding frame_op
   frame_told rows = go activity.frames
     where
-      act : (f : Frame) (below : List Frame) (ops : List Op) → TellsIf plan s r (elim ops [ [] ↦ None | op ∷ rest ↦ applied code s (ReleaseAt p) activity below (place_of_op code op) (effect_at code rows s f op rest) ])
+      act : (f : Frame) (below : List Frame) (ops : List Op) → TellsIf plan s r (elim ops [ [] ↦ None | op ∷ rest ↦ applied code s (ReleaseAt p) activity below (position_of_op code op) (effect_at code rows s f op rest) ])
       act f below [] = tells_nothing plan s r
-      act f below (op ∷ rest) = applied_told below (place_of_op code op) (effect_at code rows s f op rest)
+      act f below (op ∷ rest) = applied_told below (position_of_op code op) (effect_at code rows s f op rest)
 
-      go : (fs : List Frame) → TellsIf plan s r (elim fs [ [] ↦ None | f ∷ below ↦ elim f.rest [ [] ↦ None | op ∷ rest ↦ applied code s (ReleaseAt p) activity below (place_of_op code op) (effect_at code rows s f op rest) ] ])
+      go : (fs : List Frame) → TellsIf plan s r (elim fs [ [] ↦ None | f ∷ below ↦ elim f.rest [ [] ↦ None | op ∷ rest ↦ applied code s (ReleaseAt p) activity below (position_of_op code op) (effect_at code rows s f op rest) ] ])
       go [] = tells_nothing plan s r
       go (f ∷ below) = act f below f.rest
 
@@ -176,7 +176,7 @@ start_told plan code s p r x live h =
     tells_bind plan s r (defined_by_chain code.program row.class) _ (λ scope f.
     tells_bind plan s r (body_named code.program row.class (codes "handleAsyncEvent")) _ (λ body g.
     tells_some plan s r _
-    (opening_told plan s p (handler_priority s x.handler) r live h no_activity (class_place code.program row.class) scope
+    (opening_told plan s p (handler_priority s x.handler) r live h no_activity (class_position code.program row.class) scope
     (innermost s.activity.areas) row.bytes _
     (λ t a b. gets plan s p (handler_priority s x.handler) r live h t _ b (priority_of s x.handler row e))))))
 

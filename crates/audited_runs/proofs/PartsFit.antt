@@ -2,7 +2,7 @@
 use Rattle.std.proofs.Common.{◌≡◌, ◌≤◌, ◌<◌, ◌+◌, ◌^◌, ℕ, zero, suc, true, All, FitsSigned, List, [], ◌∷◌, length, ℤ, pos, negsuc, sym, subst, arith}
 use Rattle.std.specs.Int.{w32}
 use Rattle.std.proofs.lemmas.List.Elements.{All-head, All-tail}
-use Rattle.source_nodes.specs.Nodes.{IsPlace}
+use Rattle.source_nodes.specs.Nodes.{IsPosition}
 use Rattle.std.specs.List.{list_all}
 use Rattle.scj_base.specs.Lexeme.{is_name, is_text_byte}
 use Rattle.scj_tree.specs.declared.nodes.Node.{Node}
@@ -43,7 +43,7 @@ bits_fit (negsuc n) h = let l = h.sfits in omega (arith, l)
 -- those that the program and its states bound, and the others, together
 pub parts_fit : (nodes : List Node) (names : List (List ℕ)) (files longest : ℕ) → length names ≡ files →
     All (λ name. is_file_name name ≡ true) names → longest + 1 < 2 ^ 64 → (e : Event) →
-    IsProper nodes (IsPlace files longest) e → PrintsInt e → PartsFit nodes names e
+    IsProper nodes (IsPosition files longest) e → PrintsInt e → PartsFit nodes names e
 parts_fit nodes names files longest many named short (event.Mission unit class) h k = h
 parts_fit nodes names files longest many named short (event.Register unit handler class priority) h k = h
 parts_fit nodes names files longest many named short (event.Lost unit handler) h k = h

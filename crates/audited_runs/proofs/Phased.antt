@@ -15,7 +15,7 @@ use Rattle.scj_model.specs.Plan.{Plan}
 use Rattle.scj_model.specs.Apply.{takes_releases}
 use Rattle.scj_model.specs.Arrivals.{executes_since}
 use Rattle.scj_model.specs.Memory.{closed}
-use Rattle.scj_model.specs.Sequencer.{BeginsExecution, BeginsMission, ClosesMission, EndsExecution, LacksSequencer, SkipsExecution, TakesMission, TakesSafelet, TakesSequencer, after_execution, after_operation, gone_to, goes_to, has_started, innermost, phase_after, place_of_object, seq_applied, transition, transition_done, without_innermost}
+use Rattle.scj_model.specs.Sequencer.{BeginsExecution, BeginsMission, ClosesMission, EndsExecution, LacksSequencer, SkipsExecution, TakesMission, TakesSafelet, TakesSequencer, after_execution, after_operation, gone_to, goes_to, has_started, innermost, phase_after, position_of_object, seq_applied, transition, transition_done, without_innermost}
 use Rattle.scj_model.specs.State.{State, is_exec, is_over}
 use Rattle.scj_model.specs.Steps.{Step, fault_in, silently}
 use Rattle.mission_sound.specs.Invariant.{has_waiting, phase_of}
@@ -155,7 +155,7 @@ module _ (plan : Plan) (code : Code) (t : State) (m : Replay) (h : Phases plan t
     unfolding seq_applied fault_in executes_since is_exec is_over
     halts object goes =
         let k : HaltTold plan t.unit m (event.Fault t.unit NullPointer
-        (place_of_object code (gone_to t (record {
+        (position_of_object code (gone_to t (record {
           phase = Over;
           operation = Finished;
           effect = LacksSequencer object;

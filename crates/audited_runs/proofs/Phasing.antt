@@ -16,7 +16,7 @@ use Rattle.scj_model.specs.State.{ReleaseStatus, Waits, Started, Ended, Dropped,
 use Rattle.trace_audit.specs.declared.lines.Entry.TheVariants.{Mission, Exec as ExecEntry, Cleanup as CleanupEntry, Done, Stopped}
 use Rattle.trace_audit.specs.Passing.{begun, entry_done, entry_passes, rest_done, table_done}
 use Rattle.trace_audit.specs.Printed.{entry_told}
-use Rattle.trace_audit.specs.Replay.{Releases, Replay, candidates_from, picked_place}
+use Rattle.trace_audit.specs.Replay.{Releases, Replay, candidates_from, picked_index}
 use Rattle.trace_audit.specs.StandsFor.{StandsFor}
 use Rattle.audited_runs.proofs.Told.{told, told_none, told_one, told_then}
 use Rattle.audited_runs.proofs.InUnit.{Kept, Live, kept_then, line_opens, line_passes, live_kept}
@@ -197,7 +197,7 @@ unfolding rest_done
 cleanup_core b unit = (refl, refl)
 
 pub cleanup_told : (plan : Plan) (unit : ℕ) (m : Replay) (t : State) (object : ℕ) → Live plan unit m →
-    picked_place m.all ≡ None → executes_since t ≡ None → t.operation ≡ CleanUp object → is_over t.phase ≡ false →
+    picked_index m.all ≡ None → executes_since t ≡ None → t.operation ≡ CleanUp object → is_over t.phase ≡ false →
     SeqTold plan unit m t (event.Cleanup unit ∷ [])
 unfolding entry_told unit_of entry_passes
 cleanup_told plan unit m t object live none since op over =
@@ -213,8 +213,8 @@ cleanup_told plan unit m t object live none since op over =
       over = (cleanup_core (begun m unit) unit).1 ∙ (core.over ∙ (live.goes_on ∙ sym over));
     }
 
-none_picked : (all : Releases) → all.releases ≡ [] → picked_place all ≡ None
-unfolding picked_place candidates_from most_urgent
+none_picked : (all : Releases) → all.releases ≡ [] → picked_index all ≡ None
+unfolding picked_index candidates_from most_urgent
 none_picked all e =
     ap (λ rs. option_map (λ (c : Candidate). c.index) (most_urgent (candidates_from all.handlers 0 rs))) e
 

@@ -5,7 +5,7 @@ use Rattle.scj_base.specs.declared.places.Pos.{Pos}
 use Rattle.scj_rules.specs.declared.views.Body.{Body}
 use Rattle.scj_rules.specs.Words.{◌>>=◌}
 use Rattle.scj_rules.specs.ScopeRules.{immortal_scope, defined_by_chain}
-use Rattle.scj_rules.specs.Bodies.{body_named, constructor_body, size_of, safelet_class, class_place}
+use Rattle.scj_rules.specs.Bodies.{body_named, constructor_body, size_of, safelet_class, class_position}
 use Rattle.scj_model.specs.declared.operations.Op.{Op}
 use Rattle.scj_model.specs.declared.operations.SeqOp.{SeqOp}
 use Rattle.scj_model.specs.declared.operations.SeqOp.TheVariants.{OpenImmortal, AllocSafelet, ConstructSafelet, InitializeApplication, GetSequencer, GetNextMission, OpenMission, Initialize, CleanUp, Execute, Finished}
@@ -17,7 +17,7 @@ use Rattle.scj_model.specs.Steps.{Step}
 use Rattle.scj_model.specs.Effects.{Effect, Goes, Prints, Makes, Stores, StoresStatic, SetsHidden, SetsCeiling, Calls, Opens, Leaves, AsksRegistration, AsksRelease, AsksTermination, Faults, Stuck}
 use Rattle.scj_model.specs.Apply.{with_frame, applied}
 use Rattle.scj_model.specs.Sequencer.{innermost, area_opened, safelet_made, body_called, sequencer_op}
-use Rattle.scj_model.specs.Run.{frame_op, effect_at, place_of_op, sequencer_turn}
+use Rattle.scj_model.specs.Run.{frame_op, effect_at, position_of_op, sequencer_turn}
 use Rattle.scj_model.specs.Plan.{Plan}
 use Rattle.scj_model.specs.Choice.{by_priority}
 use Rattle.scj_model.specs.Run.{acts, turn_acts, turn_taken}
@@ -90,11 +90,11 @@ module _ (plan : Plan) (s : State) (r : Replay) (h : Sequences plan s r) where
   unfolding frame_op
   seq_frame code rows activity = go activity.frames
     where
-      act : (f : Frame) (below : List Frame) (ops : List Op) → SeqIf plan s r (elim ops [ [] ↦ None | op ∷ rest ↦ applied code s TheSequencer activity below (place_of_op code op) (effect_at code rows s f op rest) ])
+      act : (f : Frame) (below : List Frame) (ops : List Op) → SeqIf plan s r (elim ops [ [] ↦ None | op ∷ rest ↦ applied code s TheSequencer activity below (position_of_op code op) (effect_at code rows s f op rest) ])
       act f below [] = nothing
-      act f below (op ∷ rest) = seq_applied code activity below (place_of_op code op) (effect_at code rows s f op rest)
+      act f below (op ∷ rest) = seq_applied code activity below (position_of_op code op) (effect_at code rows s f op rest)
 
-      go : (fs : List Frame) → SeqIf plan s r (elim fs [ [] ↦ None | f ∷ below ↦ elim f.rest [ [] ↦ None | op ∷ rest ↦ applied code s TheSequencer activity below (place_of_op code op) (effect_at code rows s f op rest) ] ])
+      go : (fs : List Frame) → SeqIf plan s r (elim fs [ [] ↦ None | f ∷ below ↦ elim f.rest [ [] ↦ None | op ∷ rest ↦ applied code s TheSequencer activity below (position_of_op code op) (effect_at code rows s f op rest) ] ])
       go [] = nothing
       go (f ∷ below) = act f below f.rest
 
@@ -128,10 +128,10 @@ module _ (plan : Plan) (s : State) (r : Replay) (h : Sequences plan s r) where
   unfolding sequencer_op
   seq_op code OpenImmortal =
       bind (safelet_class code.program) _ (λ class. bind (size_of code.program class) _ (λ bytes.
-      some _ (seq_area (class_place code.program class) immortal_scope bytes)))
+      some _ (seq_area (class_position code.program class) immortal_scope bytes)))
   seq_op code AllocSafelet =
       bind (safelet_class code.program) _ (λ class. bind (innermost s.activity.areas) _ (λ area.
-      some _ (seq_safelet code (class_place code.program class) class area)))
+      some _ (seq_safelet code (class_position code.program class) class area)))
   seq_op code (ConstructSafelet object) =
       bind (object_at s object) _ (λ o. bind (constructor_body code.program o.class) _ (λ body. seq_body code object body))
   seq_op code (InitializeApplication object) = seq_method code object (codes "initializeApplication")
@@ -140,7 +140,7 @@ module _ (plan : Plan) (s : State) (r : Replay) (h : Sequences plan s r) where
   seq_op code (OpenMission object) =
       bind (object_at s object) _ (λ o. bind (defined_by_chain code.program o.class) _ (λ scope.
       bind (size_of code.program o.class) _
-      (λ bytes. some _ (seq_area (class_place code.program o.class) scope bytes))))
+      (λ bytes. some _ (seq_area (class_position code.program o.class) scope bytes))))
   seq_op code (Initialize object) = seq_method code object (codes "initialize")
   seq_op code (CleanUp object) = seq_method code object (codes "cleanUp")
   seq_op code Execute = nothing

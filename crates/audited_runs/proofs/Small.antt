@@ -14,7 +14,7 @@ use Rattle.trace_audit.specs.declared.choices.Choice.{Choice}
 use Rattle.trace_audit.specs.declared.choices.Choice.TheVariants.{Idle as Nobody, Chosen}
 use Rattle.trace_audit.specs.declared.releases.Release.{Release}
 use Rattle.trace_audit.specs.declared.releases.Standing.{Standing}
-use Rattle.trace_audit.specs.Replay.{HandlerSeen, Releases, arrived, choice_at, handler_at, is_named, is_same_choice, is_waiting, one_more, picked, picked_place, place_of, registered, release_named, restanding}
+use Rattle.trace_audit.specs.Replay.{HandlerSeen, Releases, arrived, choice_at, handler_at, is_named, is_same_choice, is_waiting, one_more, picked, picked_index, index_of, registered, release_named, restanding}
 use Rattle.audited_runs.proofs.Changes.{AtChanged, at_changed, is_changed, is_kept, length_changed}
 use Rattle.audited_runs.proofs.Named.{AtMore, at_more, fresh, new, old}
 
@@ -80,7 +80,7 @@ restood_small most all last change (Some index) h =
 pub restanding_small : (most : ℕ) (all : Releases) (last : Option Choice) (change : Standing → Standing)
     (handler number : ℕ) → Small most all last → Small most (restanding change handler number all) last
 restanding_small most all last change handler number h =
-    restood_small most all last change (place_of all.releases handler number) h
+    restood_small most all last change (index_of all.releases handler number) h
 
 pub registered_small : (most : ℕ) (all : Releases) (last : Option Choice) (priority : ℕ) → Small most all last →
     length all.handlers + 1 ≤ 64 → Small most (registered priority all) last
@@ -174,7 +174,7 @@ range_as most handler number k n e r =
 -- the picked release
 pub picked_range : (most : ℕ) (all : Releases) (last : Option Choice) (handler number : ℕ) → Small most all last →
     is_same_choice (Chosen handler number) (picked all) ≡ true → InRange most handler number
-picked_range most all last handler number h e = go (picked_place all) refl e
+picked_range most all last handler number h e = go (picked_index all) refl e
   where
     at : (p : ℕ) (o : Option Release) → slice_get all.releases p ≡ o →
         is_same_choice (Chosen handler number)
@@ -185,8 +185,8 @@ picked_range most all last handler number h e = go (picked_place all) refl e
         range_as most handler number x.handler x.number (same_choices handler number x.handler x.number g)
         (h.releases p x f)
 
-    go : (o : Option ℕ) → picked_place all ≡ o →
-        is_same_choice (Chosen handler number) (choice_at all.releases (picked_place all)) ≡ true →
+    go : (o : Option ℕ) → picked_index all ≡ o →
+        is_same_choice (Chosen handler number) (choice_at all.releases (picked_index all)) ≡ true →
         InRange most handler number
     go None f g = absurd (cc (g, ap (λ o. is_same_choice (Chosen handler number) (choice_at all.releases o)) f))
     go (Some p) f g =
@@ -204,7 +204,7 @@ last_range most all (Some (Chosen k n)) handler number h e =
 -- a release of this name
 pub named_range : (most : ℕ) (all : Releases) (last : Option Choice) (handler number : ℕ) → Small most all last →
     holds (release_named all.releases handler number) is_waiting ≡ true → InRange most handler number
-named_range most all last handler number h e = go (place_of all.releases handler number) refl e
+named_range most all last handler number h e = go (index_of all.releases handler number) refl e
   where
     at : (p : ℕ) → position (is_named handler number) all.releases ≡ Some p → (o : Option Release) →
         slice_get all.releases p ≡ o → holds o is_waiting ≡ true → InRange most handler number
@@ -218,8 +218,8 @@ named_range most all last handler number h e = go (place_of all.releases handler
         range_as most handler number x.handler x.number
         (sym (same_number x.handler handler parts.0), sym (same_number x.number number parts.1)) (h.releases p x f)
 
-    go : (o : Option ℕ) → place_of all.releases handler number ≡ o →
-        holds (elim (place_of all.releases handler number) as (λ _. Option Release) [
+    go : (o : Option ℕ) → index_of all.releases handler number ≡ o →
+        holds (elim (index_of all.releases handler number) as (λ _. Option Release) [
           | None ↦ None
           | Some index ↦ slice_get all.releases index
         ]) is_waiting ≡ true → InRange most handler number

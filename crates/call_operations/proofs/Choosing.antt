@@ -5,7 +5,7 @@ use Rattle.scj_model.specs.declared.operations.Op.TheVariants.{Push as PUSH, Thi
 use Rattle.scj_rules.specs.declared.views.Declared.{Declared}
 use Rattle.scj_rules.specs.Words.{◌>>=◌}
 use Rattle.scj_rules.specs.Views.{variable_at}
-use Rattle.scj_rules.specs.Layout.{element_kind, kind_of_type, literal_written, static_place}
+use Rattle.scj_rules.specs.Layout.{element_kind, kind_of_type, literal_written, static_index}
 use Rattle.scj_rules.specs.Bodies.{body_of, constructor_body}
 use Rattle.scj_model.specs.Code.{Code, binding, code_of, part}
 use Rattle.scj_model.specs.Memory.{literal_value}
@@ -65,8 +65,8 @@ chosen_is code (GET id) other h =
     nothing code (GET id) other (asked (bound_field (binding code id)) instruction.Get) id
     (never id (bound_field (binding code id)) instruction.Get (λ a. refl)) h
 chosen_is code (GETSTATIC id) other h =
-    nothing code (GETSTATIC id) other (asked (bound_static (binding code id) >>= static_place code.program) instruction.GetStatic) id
-    (never id (bound_static (binding code id) >>= static_place code.program) instruction.GetStatic (λ a. refl)) h
+    nothing code (GETSTATIC id) other (asked (bound_static (binding code id) >>= static_index code.program) instruction.GetStatic) id
+    (never id (bound_static (binding code id) >>= static_index code.program) instruction.GetStatic (λ a. refl)) h
 chosen_is code (LENGTH id) other h = absurd (cc (h))
 chosen_is code (ELEM id) other h = absurd (cc (h))
 chosen_is code (UNARY id) other h =
@@ -125,8 +125,8 @@ chosen_is code (PUT id) other h =
     nothing code (PUT id) other (asked (assigned code id >>= bound_field) instruction.Put) id
     (never id (assigned code id >>= bound_field) instruction.Put (λ a. refl)) h
 chosen_is code (PUTSTATIC id) other h =
-    nothing code (PUTSTATIC id) other (asked (assigned code id >>= bound_static >>= static_place code.program) instruction.PutStatic) id
-    (never id (assigned code id >>= bound_static >>= static_place code.program) instruction.PutStatic (λ a. refl)) h
+    nothing code (PUTSTATIC id) other (asked (assigned code id >>= bound_static >>= static_index code.program) instruction.PutStatic) id
+    (never id (assigned code id >>= bound_static >>= static_index code.program) instruction.PutStatic (λ a. refl)) h
 chosen_is code (PUTELEM id) other h = absurd (cc (h))
 chosen_is code (IF id) other h =
     some_of code (IF id) other instruction.If id (part code if_parts id)

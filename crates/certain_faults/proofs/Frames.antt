@@ -16,7 +16,7 @@ use Rattle.scj_rules.specs.Words.{◌>>=◌}
 use Rattle.scj_rules.specs.Views.{variable_at}
 use Rattle.scj_rules.specs.Classes.{is_sub}
 use Rattle.scj_rules.specs.ScopeRules.{defined_by_chain}
-use Rattle.scj_rules.specs.Layout.{slot_of, static_place, element_kind, literal_written, kind_of_type}
+use Rattle.scj_rules.specs.Layout.{slot_of, static_index, element_kind, literal_written, kind_of_type}
 use Rattle.scj_rules.specs.Bodies.{body_named, body_of, constructor_body}
 use Rattle.scj_model.specs.declared.operations.Op.{Op}
 use Rattle.scj_model.specs.declared.operations.Op.TheVariants.{Push as PUSH, This as THIS, Load as LOAD, Get as GET, GetStatic as GETSTATIC, Length as LENGTH, Elem as ELEM, Unary as UNARY, Bin as BIN, And as AND, Or as OR, Alloc as ALLOC, Construct as CONSTRUCT, AllocArray as ALLOCARRAY, Call as CALL, CallStatic as CALLSTATIC, Cast as CAST, Enter as ENTER, ExecuteIn as EXECUTEIN, Same as SAME, SetCeiling as SETCEILING, Print as PRINT, Read as READ, Register as REGISTER, Release as RELEASE, Terminate as TERMINATE, Zero as ZERO, Store as STORE, Put as PUT, PutStatic as PUTSTATIC, PutElem as PUTELEM, If as IF, Loop as LOOP, LeaveWith as LEAVEWITH, Leave as LEAVE, Drop as DROP, Init as INIT, Super as SUPER, Params as PARAMS}
@@ -776,7 +776,7 @@ module _ (code : Code) (G : Body → Bool → Type 0) (P : List Op → Stack →
             on_given Fine stuck faults (slice_get o.slots slot) _ (λ v h. pushed Unknown (taken s) k v y tt p)))))
         operation_fine (GETSTATIC id) p c n =
             on_given Fine stuck faults (bound_static (binding code id)) _ (λ field e.
-            on_given Fine stuck faults (static_place code.program field) _ (λ place h.
+            on_given Fine stuck faults (static_index code.program field) _ (λ place h.
             on_given Fine stuck faults (slice_get world.statics place) _ (λ v k. pushed Unknown s f v x tt p)))
         operation_fine (LENGTH id) p c n =
             on_pop s f _ x (λ array k holds y. on_object Fine stuck faults array _ (λ r.
@@ -872,7 +872,7 @@ module _ (code : Code) (G : Body → Bool → Type 0) (P : List Op → Stack →
             on_field r field _ (λ o slot. stores l r slot v z.same p)))))
         operation_fine (PUTSTATIC id) p c n =
             on_given Fine stuck faults (assigned code id >>= bound_static) _ (λ field e.
-            on_given Fine stuck faults (static_place code.program field) _ (λ place t.
+            on_given Fine stuck faults (static_index code.program field) _ (λ place t.
             on_pop s f _ x (λ v k h y. stores_static k place v y.same p)))
         operation_fine (PUTELEM id) p c n =
             on_pop s f _ x (λ v k h y. on_pop (taken s) k _ y (λ index l i z.

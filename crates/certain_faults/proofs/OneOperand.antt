@@ -202,10 +202,10 @@ module _ (code : Code) (facts : Facts code) (b c : ℕ) (sig : Signature) (body 
     node_leaves (Binary position operator l x) k there (inr r) =
         one_of_two (left_below code id l) (left_below code id x) (operator_known operator) (child l _ r.left_is)
         (child x _ r.right_is)
-    node_leaves (New position name_place name xs) k there r = new_leaves xs r.class r.kinds r.is r.arguments_are
+    node_leaves (New position name_position name xs) k there r = new_leaves xs r.class r.kinds r.is r.arguments_are
     node_leaves (NewArray position element count) k there r =
         one_again (left_below code id count) (λ a. Object) (child count _ r.count_is)
-    node_leaves (Cast position name_place name operand) k there r =
+    node_leaves (Cast position name_position name operand) k there r =
         one_again (left_below code id operand) (λ a. Unknown) (child operand _ r.operand_is)
     node_leaves (Call position name object xs) k there r = call_leaves object xs k r
     node_leaves _ k there r = absurd r

@@ -13,9 +13,9 @@ use Rattle.scj_rules.specs.Words.{◌>>=◌}
 use Rattle.scj_rules.specs.Views.{nowhere}
 use Rattle.scj_model.specs.declared.operations.Op.{Op}
 use Rattle.scj_model.specs.declared.operations.Op.TheVariants.{Bin as BIN, AllocArray as ALLOCARRAY, Enter as ENTER, SetCeiling as SETCEILING, Read as READ, Params as PARAMS}
-use Rattle.scj_model.specs.Code.{Code, binding, place_of_node}
+use Rattle.scj_model.specs.Code.{Code, binding, position_of_node}
 use Rattle.scj_model.specs.Ops.{node_of}
-use Rattle.scj_model.specs.Run.{place_of_op}
+use Rattle.scj_model.specs.Run.{position_of_op}
 use Rattle.certain_faults.specs.Known.{left_by}
 use Rattle.certain_faults.specs.Faults.{port_fault, size_fault, ceiling_fault, call_fault, fault_at_node, certain_fault, call_operation, operation_of, FaultsFor}
 
@@ -49,9 +49,9 @@ module _ (code : Code) (op : Op) where
   own_node id (SuperCall position arguments) e = some_node id (PARAMS id) refl e
   own_node id node e = absurd (cc (e))
 
-  pub own_place : (fault : RunFault) (x : FaultsFor code op fault) → place_of_op code op ≡ place_of_node code x.id
-  own_place fault x =
-      ap (λ (o : Option ℕ). elim o as (λ z. Pos) [ None ↦ nowhere | Some node ↦ place_of_node code node ])
+  pub own_position : (fault : RunFault) (x : FaultsFor code op fault) → position_of_op code op ≡ position_of_node code x.id
+  own_position fault x =
+      ap (λ (o : Option ℕ). elim o as (λ z. Pos) [ None ↦ nowhere | Some node ↦ position_of_node code node ])
       (own_node x.id x.node x.is_operation)
 
 module _ (code : Code) (id : ℕ) (fault : RunFault) where

@@ -12,7 +12,7 @@ use Rattle.scj_tree.specs.Recursion.{lookup, below, bottom_up, by_smaller, joine
 use Rattle.scj_tree.proofs.RecursionLemmas.{bottom_up-at, lookup-behind, length-bottom_up, by_smaller-is, from_joined, to_joined}
 use Rattle.scj_rules.specs.declared.typing.Binding.{Binding}
 use Rattle.scj_rules.specs.Words.{◌>>=◌}
-use Rattle.scj_model.specs.Code.{Code, place_of_node}
+use Rattle.scj_model.specs.Code.{Code, position_of_node}
 use Rattle.certain_faults.specs.declared.found.CertainFault.{CertainFault}
 use Rattle.certain_faults.specs.declared.known.Left.{Left}
 use Rattle.certain_faults.specs.declared.known.Left.TheVariants.{Forgets}
@@ -84,22 +84,22 @@ unfolding found_at
 certain_at code id one h = go (certain_fault code id) refl h
   where
     alone : (fault : RunFault) → certain_fault code id ≡ Some fault →
-        Contains [] one ⊎ (record { pos = place_of_node code id; fault = fault } ≡ one) → IsCertain code one
+        Contains [] one ⊎ (record { pos = position_of_node code id; fault = fault } ≡ one) → IsCertain code one
     alone fault e (inl k) = absurd (none_there one k)
     alone fault e (inr same) =
         record {
           id = id;
-          is_place = ap (λ (c : CertainFault). c.pos) same;
+          is_position = ap (λ (c : CertainFault). c.pos) same;
           is_fault = e ∙ ap (λ (c : CertainFault). Some c.fault) same;
         }
 
     go : (o : Option RunFault) → certain_fault code id ≡ o →
         Contains (elim o as (λ z. List CertainFault) [
           | None ↦ []
-          | Some fault ↦ record { pos = place_of_node code id; fault = fault } ∷ []
+          | Some fault ↦ record { pos = position_of_node code id; fault = fault } ∷ []
         ]) one → IsCertain code one
     go None e k = absurd (none_there one k)
-    go (Some fault) e k = alone fault e (Contains-push_cases [] (record { pos = place_of_node code id; fault = fault }) one k)
+    go (Some fault) e k = alone fault e (Contains-push_cases [] (record { pos = position_of_node code id; fault = fault }) one k)
 
 pub from_nodes : (code : Code) (n : ℕ) (one : CertainFault) → Contains (joined_below (found_at code) n) one →
     IsCertain code one
@@ -112,9 +112,9 @@ to_node code one c =
     (sym
     (ap (λ (o : Option RunFault). elim o as (λ z. List CertainFault) [
       | None ↦ []
-      | Some fault ↦ record { pos = place_of_node code c.id; fault = fault } ∷ []
+      | Some fault ↦ record { pos = position_of_node code c.id; fault = fault } ∷ []
     ]) c.is_fault
-    ∙ ap (λ (p : Pos). record { pos = p; fault = one.fault } ∷ []) c.is_place))
+    ∙ ap (λ (p : Pos). record { pos = p; fault = one.fault } ∷ []) c.is_position))
     (Contains-push [] one)
 
 is_node : (code : Code) (id : ℕ) (fault : RunFault) → certain_fault code id ≡ Some fault →

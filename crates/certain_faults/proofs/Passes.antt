@@ -164,7 +164,7 @@ mark_less (Some m) s t h k = of (h.is m.0)
 
 -- the arguments of a `new`
 unfoldable pub made_with : Node → Option (List ℕ)
-made_with (New position name_place name arguments) = Some arguments
+made_with (New position name_position name arguments) = Some arguments
 made_with _ = None
 
 -- a `new` stands before its arguments and the call of its constructor

@@ -9,7 +9,7 @@ use Rattle.scj_base.specs.declared.values.Value.TheVariants.{Null, At}
 use Rattle.scj_rules.specs.declared.views.Body.{Body}
 use Rattle.scj_rules.specs.Words.{◌>>=◌}
 use Rattle.scj_rules.specs.ScopeRules.{immortal_scope, defined_by_chain}
-use Rattle.scj_rules.specs.Bodies.{body_named, constructor_body, size_of, safelet_class, class_place}
+use Rattle.scj_rules.specs.Bodies.{body_named, constructor_body, size_of, safelet_class, class_position}
 use Rattle.accepted_laws.proofs.Tools.{some_inj}
 use Rattle.scj_model.specs.declared.events.Event.{Event}
 use Rattle.scj_model.specs.declared.events.Event.TheVariants.{Miss}
@@ -26,7 +26,7 @@ use Rattle.scj_model.specs.Registry.{handler_row}
 use Rattle.scj_model.specs.Steps.{Step, silently, telling, allocating, opening, fault_in, for_each}
 use Rattle.scj_model.specs.Effects.{new_frame}
 use Rattle.scj_model.specs.Apply.{release_taken}
-use Rattle.scj_model.specs.Sequencer.{innermost, done, area_opened, safelet_made, body_called, method_called, sequencer_op, SeqEffect, Continues, TakesSafelet, TakesSequencer, TakesMission, LacksSequencer, LacksMission, BeginsMission, BeginsExecution, SkipsExecution, EndsExecution, ClosesMission, Transition, gone_to, mission_closed, seq_applied, transition_done, after_operation, after_execution, has_started, goes_to, phase_after, place_of_object}
+use Rattle.scj_model.specs.Sequencer.{innermost, done, area_opened, safelet_made, body_called, method_called, sequencer_op, SeqEffect, Continues, TakesSafelet, TakesSequencer, TakesMission, LacksSequencer, LacksMission, BeginsMission, BeginsExecution, SkipsExecution, EndsExecution, ClosesMission, Transition, gone_to, mission_closed, seq_applied, transition_done, after_operation, after_execution, has_started, goes_to, phase_after, position_of_object}
 use Rattle.scj_model.specs.Arrivals.{arrivals, executes_since, fired, fired_at, fired_handler, due_handlers, fires_due}
 use Rattle.scj_model.specs.Run.{no_activity, started_with, start_op, empty_state}
 use Rattle.reference_sound.proofs.Closing.{one_closes}
@@ -91,11 +91,11 @@ module _ (code : Code) (J : List Frame → Type 0)
     sequencer_jobs OpenImmortal =
         any_leads J (safelet_class code.program) _ (λ class e.
         any_leads J (size_of code.program class) _ (λ bytes k.
-        leads J _ (opened_jobs (class_place code.program class) immortal_scope bytes)))
+        leads J _ (opened_jobs (class_position code.program class) immortal_scope bytes)))
     sequencer_jobs AllocSafelet =
         any_leads J (safelet_class code.program) _ (λ class e.
         any_leads J (innermost s.activity.areas) _ (λ area k.
-        leads J _ (made_jobs (class_place code.program class) class area)))
+        leads J _ (made_jobs (class_position code.program class) class area)))
     sequencer_jobs (ConstructSafelet r) =
         any_leads J (object_at s r) _ (λ o e.
         any_leads J (constructor_body code.program o.class) _ (λ body k. called_jobs r body))
@@ -106,7 +106,7 @@ module _ (code : Code) (J : List Frame → Type 0)
         any_leads J (object_at s r) _ (λ o e.
         any_leads J (defined_by_chain code.program o.class) _ (λ scope k.
         any_leads J (size_of code.program o.class) _ (λ bytes l.
-        leads J _ (opened_jobs (class_place code.program o.class) scope bytes))))
+        leads J _ (opened_jobs (class_position code.program o.class) scope bytes))))
     sequencer_jobs (Initialize r) = method_jobs r (codes "initialize")
     sequencer_jobs (CleanUp r) = method_jobs r (codes "cleanUp")
     sequencer_jobs Execute = none_leads J
@@ -132,12 +132,12 @@ module _ (code : Code) (J : List Frame → Type 0)
         go : (b : Bool) → Jobs J (if b
             then silently
             (with_activity (with_area s scope (innermost s.activity.areas) row.bytes) (ReleaseAt place) begun)
-            else fault_in s (ReleaseAt place) no_activity (class_place code.program row.class) StoreFull).state
+            else fault_in s (ReleaseAt place) no_activity (class_position code.program row.class) StoreFull).state
         go true =
             jobs_on J (with_area s scope (innermost s.activity.areas) row.bytes) (ReleaseAt place) begun
             (fresh body None (Some row.at) (length s.areas) (Some (length s.areas)))
             (jobs_still J s (with_area s scope (innermost s.activity.areas) row.bytes) refl refl held)
-        go false = jobs_faulted J s (ReleaseAt place) no_activity (class_place code.program row.class) StoreFull held
+        go false = jobs_faulted J s (ReleaseAt place) no_activity (class_position code.program row.class) StoreFull held
 
     pub start_jobs : (place : ℕ) (r : Release) → Lead J (start_op code s place r)
     unfolding start_op
@@ -159,7 +159,7 @@ module _ (code : Code) (J : List Frame → Type 0)
         jobs_still J s (record s { mission = Some r; is_end_asked = false; earlier_releases = length s.releases }) refl
         refl held
     effect_jobs (LacksSequencer safelet) =
-        jobs_faulted J s TheSequencer s.activity (place_of_object code s safelet) NullPointer held
+        jobs_faulted J s TheSequencer s.activity (position_of_object code s safelet) NullPointer held
     effect_jobs LacksMission = held
     effect_jobs (BeginsMission r) = held
     effect_jobs BeginsExecution =

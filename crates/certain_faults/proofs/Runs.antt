@@ -26,7 +26,7 @@ use Rattle.scj_model.specs.Effects.{Effect, Goes, Prints, Makes, Stores, StoresS
 use Rattle.scj_model.specs.Apply.{applied}
 use Rattle.scj_model.specs.Sequencer.{sequencer_op}
 use Rattle.scj_model.specs.Choice.{Policy, by_list}
-use Rattle.scj_model.specs.Run.{environment, place_of_op, effect_at, frame_op, start_op, release_op_of, ref_op, sequencer_turn, with_turn, turn_taken, turn_acts, acts, next_unit}
+use Rattle.scj_model.specs.Run.{environment, position_of_op, effect_at, frame_op, start_op, release_op_of, ref_op, sequencer_turn, with_turn, turn_taken, turn_acts, acts, next_unit}
 use Rattle.scj_model.specs.Reached.{Moment, Between, Arrived, Operated, Reached, at_first, on_arrival, on_operation, on_phase}
 use Rattle.scj_model.proofs.Reaching.{reached_keeps}
 use Rattle.scope_flow.specs.Facts.{Facts}
@@ -118,7 +118,7 @@ module _ (code : Code) (facts : Facts code) (bare : ClassesAskNothing code) (row
         | [] ↦ None
         | f ∷ below ↦ elim f.rest [
           | [] ↦ None
-          | op ∷ rest ↦ applied code s job activity below (place_of_op code op) (effect_at code rows s f op rest)
+          | op ∷ rest ↦ applied code s job activity below (position_of_op code op) (effect_at code rows s f op rest)
         ]
       ])
   next_jobs [] e fine = none_leads (All code)
@@ -135,7 +135,7 @@ module _ (code : Code) (facts : Facts code) (bare : ClassesAskNothing code) (row
 
       next : (ops : List Op) → f.rest ≡ ops → Lead (All code) (elim ops as (λ z. Option Step) [
         | [] ↦ None
-        | op ∷ rest ↦ applied code s job activity below (place_of_op code op) (effect_at code rows s f op rest)
+        | op ∷ rest ↦ applied code s job activity below (position_of_op code op) (effect_at code rows s f op rest)
       ])
       next [] r = none_leads (All code)
       next (op ∷ rest) r =
@@ -146,7 +146,7 @@ module _ (code : Code) (facts : Facts code) (bare : ClassesAskNothing code) (row
           (record f { rest = ops }) None) r ready in
           let passes : Passes code (op ∷ rest) mine.0.stack =
           subst (λ (ops : List Op). Passes code ops mine.0.stack) r mine.0.passes in
-          effect_kept code (GivesSo code) s held job activity f.body below mine.1 (place_of_op code op)
+          effect_kept code (GivesSo code) s held job activity f.body below mine.1 (position_of_op code op)
           (effect_at code rows s f op rest)
           (keeps_body code (world_of s) (list_of base (f ∷ below)) f rest fine.0.class fine.0.sig ready.runs
           (effect_at code rows s f op rest)

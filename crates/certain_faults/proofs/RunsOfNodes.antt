@@ -696,17 +696,17 @@ module _ (code : Code) (bare : ClassesAskNothing code) (id : ℕ) where
     node_runs (Binary position operator l r) there s =
         binary_runs operator l r (read_part (Binary position operator l r) there operator_of)
         (read_part (Binary position operator l r) there right_operand) s
-    node_runs (New position name_place name arguments) there s =
-        new_runs arguments (binding code id) (read_part (New position name_place name arguments) there argument_count)
-        (read_part (New position name_place name arguments) there made_with) s
+    node_runs (New position name_position name arguments) there s =
+        new_runs arguments (binding code id) (read_part (New position name_position name arguments) there argument_count)
+        (read_part (New position name_position name arguments) there made_with) s
     node_runs (NewArray position element size) there s =
         new_array_runs size (read_part (NewArray position element size) there array_length) s
     node_runs (Call position name object arguments) there s =
         call_runs object arguments (read_part (Call position name object arguments) there arguments_of)
         (read_part (Call position name object arguments) there argument_count) (binding code id) refl s
-    node_runs (Cast position name_place name operand) there s = cast_runs operand s
+    node_runs (Cast position name_position name operand) there s = cast_runs operand s
     node_runs (LocalNode position name flags declared_type) there s = (any_op code (ZERO id) refl (λ r. tt)).is s
-    node_runs (LocalWithValue position name_place name flags declared_type value) there s =
+    node_runs (LocalWithValue position name_position name flags declared_type value) there s =
         (any_behind (ops value) (STORE id) (any_part value) refl (λ r. tt)).is s
     node_runs (Assign position target value) there s =
         (any_assignment target value (slice_get code.program.nodes target)).is s

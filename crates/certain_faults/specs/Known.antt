@@ -141,9 +141,9 @@ left_by_node code left id (Element position array index) =
 left_by_node code left id (Parenthesized position inner) = left inner
 left_by_node code left id (Unary position operator operand) = in_place_of (left operand) (unary_known operator)
 left_by_node code left id (Binary position operator l r) = in_place_of_two (left l) (left r) (operator_known operator)
-left_by_node code left id (New position name_place name arguments) = left_by_new left arguments (binding code id)
+left_by_node code left id (New position name_position name arguments) = left_by_new left arguments (binding code id)
 left_by_node code left id (NewArray position element length) = in_place_of (left length) (λ a. Object)
-left_by_node code left id (Cast position name_place name operand) = in_place_of (left operand) (λ a. Unknown)
+left_by_node code left id (Cast position name_position name operand) = in_place_of (left operand) (λ a. Unknown)
 left_by_node code left id (Call position name object arguments) =
     left_by_call left object arguments (binding code id)
 left_by_node code left id _ = Forgets

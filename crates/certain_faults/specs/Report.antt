@@ -6,7 +6,7 @@ use Rattle.std.specs.List.{Contains}
 use Rattle.std.specs.List.Sorted.{IsStrictlySortedBy}
 use Rattle.scj_base.specs.declared.faults.RunFault.{RunFault}
 use Rattle.scj_base.specs.declared.faults.RunFault.TheVariants.{NullPointer, ArrayIndex, NegativeSize, DivideByZero, ClassCast, MemoryFull, StoreFull, ScopedCycle, CeilingViolation, BadPriority, BadPeriod, BadPort, NotInitializing, TooManyHandlers, DepthFull}
-use Rattle.scj_model.specs.Code.{Code, place_of_node}
+use Rattle.scj_model.specs.Code.{Code, position_of_node}
 use Rattle.certain_faults.specs.declared.found.CertainFault.{CertainFault}
 use Rattle.certain_faults.specs.Faults.{certain_fault}
 
@@ -44,7 +44,7 @@ is_same_fault =
 -- some node that stands at the place is certain to end with the fault
 pub record IsCertain (code : Code) (found : CertainFault) : Type 0 where
   pub id : ℕ
-  pub is_place : place_of_node code id ≡ found.pos
+  pub is_position : position_of_node code id ≡ found.pos
   pub is_fault : certain_fault code id ≡ Some found.fault
 
 -- the list has exactly the places and faults that are certain, sorted and without repetition

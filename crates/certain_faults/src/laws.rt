@@ -3,12 +3,12 @@
 ghost use Rattle.std.specs.Prelude.{◌≡◌, ℕ, List, Some};
 ghost use Rattle.scj_base.specs.declared.faults.RunFault.{RunFault as Fault};
 ghost use Rattle.scj_model.specs.declared.operations.Op.{Op};
-ghost use Rattle.scj_model.specs.Code.{Code, code_of, place_of_node};
+ghost use Rattle.scj_model.specs.Code.{Code, code_of, position_of_node};
 ghost use Rattle.scj_model.specs.Plan.{Plan};
 ghost use Rattle.scj_model.specs.State.{Job, State};
 ghost use Rattle.scj_model.specs.Effects.{Faults};
 ghost use Rattle.scj_model.specs.Choice.{by_list, by_priority};
-ghost use Rattle.scj_model.specs.Run.{effect_at, place_of_op};
+ghost use Rattle.scj_model.specs.Run.{effect_at, position_of_op};
 ghost use Rattle.scj_model.specs.Reached.{Moment, Reached};
 ghost use Rattle.certain_faults.specs.Faults.{FaultsFor, certain_fault};
 ghost use Rattle.certain_faults.specs.Next.{IsNext};
@@ -34,7 +34,7 @@ pub fn certain_faults_come(checked: &Checked)
 /// A node with a certain fault has the operation of which it is said, and the run tells the fault where the node stands.
 pub fn certain_faults_have_operations()
     ensures place { (code : Code) (op : Op) (fault : Fault) (x : FaultsFor code op fault) →
-        place_of_op code op ≡ place_of_node code x.id }
+        position_of_op code op ≡ position_of_node code x.id }
     ensures operation { (code : Code) (id : ℕ) (fault : Fault) → certain_fault code id ≡ Some fault →
         (op : Op) × ((x : FaultsFor code op fault) × (x.id ≡ id)) }
 {}

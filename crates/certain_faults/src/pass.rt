@@ -13,7 +13,7 @@ use crate::faults::fault_at;
 use crate::found::CertainFault;
 use crate::known::Left;
 use crate::nodes::next_left;
-use node_views::place_at;
+use node_views::position_at;
 use scj_base::{Memory, NodeId};
 use scj_rules::Checked;
 use std::alloc::Global;
@@ -44,7 +44,7 @@ fn note(
     ensures { OnOk result (found.new.items ≡ found.old.items ++ found_at (code_of checked.now.program) id) }
 {
     if let Some(fault) = fault_at(checked, rows, id) {
-        let pos = place_at(checked.program(), id);
+        let pos = position_at(checked.program(), id);
         found.push(CertainFault { pos, fault })?;
     }
     Ok(())

@@ -180,7 +180,7 @@ fn add_names(
 
 /// The first place of each node in a list, where the places begin with this number.
 #[tactic(auto, using(crate::proofs::MemberLemmas::places_all))]
-pub fn places_of(alloc: Global, ids: &[NodeId], first: u32) -> Result<HashMap<usize, u32>, Memory>
+pub fn indices_of(alloc: Global, ids: &[NodeId], first: u32) -> Result<HashMap<usize, u32>, Memory>
     requires { first ≤ 100 }
     ensures { IfOk result (λ map. (id : ℕ) → get ◌==◌ map id ≡ option_map (λ index. first + index)
         (position (λ other. id == other) ids.now)) }
@@ -257,7 +257,7 @@ pub fn members_of(alloc: Global, classes: &Headers<'_>, kind: MemberKind) -> Res
     let nodes = nodes_of(alloc, classes, kind)?;
     let firsts = firsts_of(alloc, classes.program(), kind, &nodes)?;
     let named = named_of(alloc, classes, kind, &firsts)?;
-    let numbers = places_of(alloc, &nodes, first_number(kind))?;
+    let numbers = indices_of(alloc, &nodes, first_number(kind))?;
     Ok(Members {
         nodes,
         firsts,

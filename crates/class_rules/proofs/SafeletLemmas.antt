@@ -9,7 +9,7 @@ use Rattle.scj_tree.specs.Forest.{Forest}
 use Rattle.scj_rules.specs.Words.{broken, ◌>>=◌}
 use Rattle.scj_rules.specs.Views.{WrittenClass}
 use Rattle.scj_rules.specs.Classes.{ClassRow}
-use Rattle.scj_rules.specs.ClassRules.{safelets_from, c8_of, c8, first_place}
+use Rattle.scj_rules.specs.ClassRules.{safelets_from, c8_of, c8, first_position}
 use Rattle.scj_rules.specs.Contexts.{Declarations, declarations_of}
 use Rattle.class_rows.specs.Tables.{class_written}
 use Rattle.class_rows.proofs.RowLemmas.{class_length}
@@ -54,7 +54,7 @@ module _ (forest : Forest) (class : ℕ) where
       let e = left_next (Some (written_class forest.nodes c)) l h in grind (arith, common_steps, a, e)
 
   pub all_noted : (is_seen : Bool) → length p.classes ≤ class →
-      left_from p class is_seen ≡ broken (not is_seen) C8 first_place
+      left_from p class is_seen ≡ broken (not is_seen) C8 first_position
   unfolding left_from left_over safelets_from c8_of
   all_noted is_seen l =
       let none = drop_all class p.written (omega (arith, l, class_length forest)) in

@@ -349,11 +349,11 @@ pub fn super_argument_name_step(
         gives result nodes.new.all stack.new awaited ≡ awaited }
     ensures kept { nodes.new.kept ≡ nodes.old.kept }
 {
-    let View::Name(argument, argument_place) = view else {
+    let View::Name(argument, argument_position) = view else {
         return Ok(None);
     };
     let argument = nodes.put(Node::TypeArgument {
-        position: *argument_place,
+        position: *argument_position,
         name: argument.share()?,
     })?;
     Ok(Some(Mode::SuperArgumentEnd {

@@ -29,7 +29,7 @@ pub fn member_named_step(
         (seen view.now) in gives result nodes.new.all stack.new awaited ≡ awaited }
     ensures kept { nodes.new.kept ≡ nodes.old.kept }
 {
-    let View::Sign(sign, sign_place) = view else {
+    let View::Sign(sign, sign_position) = view else {
         return Ok(None);
     };
     if *sign == SEMICOLON {
@@ -49,7 +49,7 @@ pub fn member_named_step(
             declared_type,
             position,
             name: name.share()?,
-            equals: *sign_place,
+            equals: *sign_position,
         })?;
         return Ok(Some(Mode::LiteralStart));
     }
@@ -60,7 +60,7 @@ pub fn member_named_step(
             position,
             name: name.share()?,
         })?;
-        return Ok(Some(Mode::ParametersFirst { position: *sign_place }));
+        return Ok(Some(Mode::ParametersFirst { position: *sign_position }));
     }
     Ok(None)
 }
@@ -236,7 +236,7 @@ pub fn method_named_step(
         (seen view.now) in gives result nodes.new.all stack.new awaited ≡ awaited }
     ensures kept { nodes.new.kept ≡ nodes.old.kept }
 {
-    let View::Sign(sign, sign_place) = view else {
+    let View::Sign(sign, sign_position) = view else {
         return Ok(None);
     };
     if *sign != LEFT_PARENTHESIS {
@@ -248,5 +248,5 @@ pub fn method_named_step(
         position,
         name: name.share()?,
     })?;
-    Ok(Some(Mode::ParametersFirst { position: *sign_place }))
+    Ok(Some(Mode::ParametersFirst { position: *sign_position }))
 }

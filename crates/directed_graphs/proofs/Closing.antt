@@ -94,17 +94,17 @@ module _ (graph : Graph) (marks : List Mark) (low high edges : List ℕ) (gs : L
         sym (ap (at (low ++ high)) back) ∙ high_at (i - length low) in
         subst (Contains high) (sym e) (at_place high (i - length low) 0 k)
 
-    place_in : Mark → ℕ
-    place_in (OnPath k) = k
-    place_in Unseen = 0
-    place_in Done = 0
+    index_in : Mark → ℕ
+    index_in (OnPath k) = k
+    index_in Unseen = 0
+    index_in Done = 0
 
     -- each vertex stands at one place
     one_place : (i j : ℕ) → i < length (low ++ high) → j < length (low ++ high) →
         at (low ++ high) i ≡ at (low ++ high) j → i ≡ j
-    unfolding place_in
+    unfolding index_in
     one_place i j p q e =
-        ap place_in (sym (walk.marks.has_mark i p) ∙ (ap (mark_of before) e ∙ walk.marks.has_mark j q))
+        ap index_in (sym (walk.marks.has_mark i p) ∙ (ap (mark_of before) e ∙ walk.marks.has_mark j q))
 
     low_not_high : (i : ℕ) → i < length low → Contains high (at low i) → ⊥
     low_not_high i l c =
@@ -430,15 +430,15 @@ module _ (graph : Graph) (marks : List Mark) (low high edges : List ℕ) (gs : L
         old : (a : ℕ) (g : Group) → slice_get gs a ≡ Some g → slice_get (gs ++ t ∷ []) a ≡ Some g
         old a g e = get_left_of gs (t ∷ []) a g e
 
-        low_place : (i group : ℕ) → group_of before i ≡ group → group ≤ length gs → i < length low
-        low_place i group e l = is_low i (omega (arith, e, l))
+        low_index : (i group : ℕ) → group_of before i ≡ group → group ≤ length gs → i < length low
+        low_index i group e l = is_low i (omega (arith, e, l))
 
         loop : (a : ℕ) (g : Group) → slice_get gs a ≡ Some g → g.loops ≡ true → HasEdgeInside graph after (a + 1)
         loop a g p q =
             let h = walk.told.loop a g (old a g p) q in
             let few_here : a + 1 ≤ length gs = (let l = get_is_within gs a g p in omega (arith, l)) in
-            let i : h.from < length low = low_place h.from (a + 1) h.from_group few_here in
-            let j : h.to < length low = low_place h.to (a + 1) h.to_group few_here in
+            let i : h.from < length low = low_index h.from (a + 1) h.from_group few_here in
+            let j : h.to < length low = low_index h.to (a + 1) h.to_group few_here in
             record {
               from = h.from;
               to = h.to;

@@ -142,16 +142,16 @@ module _ (graph : Graph) (m : Walk) (w : ℕ) (walk : IsWalkBut graph m (Follows
       kept v x other e (inl same) = absurd (other (sym e ∙ (ap (mark_of m) same ∙ unseen)))
       kept v x other e (inr n) = old_mark v n ∙ e
 
-      place_in : Mark → ℕ
-      place_in (OnPath k) = k
-      place_in Unseen = 0
-      place_in Done = 0
+      index_in : Mark → ℕ
+      index_in (OnPath k) = k
+      index_in Unseen = 0
+      index_in Done = 0
 
       on_path : (v k : ℕ) → slice_index_or (slice_set m.marks w (OnPath (length m.path))) v Unseen ≡ OnPath k →
           (v ≡ w) ⊎ (v ≡ w → ⊥) → (k < length (m.path ++ w ∷ [])) × (at (m.path ++ w ∷ []) k ≡ v)
       on_path v k e (inl same) =
           let q : length m.path ≡ k =
-          ap place_in (sym new_mark
+          ap index_in (sym new_mark
           ∙ (sym (ap (λ u. slice_index_or (slice_set m.marks w (OnPath (length m.path))) u Unseen) same) ∙ e)) in
           subst (λ j. (j < length (m.path ++ w ∷ [])) × (at (m.path ++ w ∷ []) j ≡ v)) q
           (omega (arith, longer), at_new ∙ sym same)
@@ -341,16 +341,16 @@ module _ (graph : Graph) (m : Walk) (w : ℕ) (walk : IsWalkBut graph m (Follows
       loop a g (inl x) t = inside_still (a + 1) (walk.told.loop a g x.0 t)
       loop a g (inr x) t = absurd (let e = ap (λ (z : Group). z.loops) x.1 in cc (e, t))
 
-      new_place : (i : ℕ) → i < length (m.path ++ w ∷ []) → group_of (entered graph m w) i ≡ length m.groups + 1 →
+      new_index : (i : ℕ) → i < length (m.path ++ w ∷ []) → group_of (entered graph m w) i ≡ length m.groups + 1 →
           i ≡ length m.path
-      new_place i l e =
+      new_index i l e =
           ⊎_elim (λ h. absurd (let a = of_old i h in let b = few i in omega (arith, a, b, e))) (λ b. b) (place i l)
 
       new_alone : IsAlone graph (entered graph m w) (λ group x. ⊥) (length m.groups + 1)
       new_alone = record {
-        one = λ i j p q a b. new_place i p a ∙ sym (new_place j q b);
+        one = λ i j p q a b. new_index i p a ∙ sym (new_index j q b);
         no_edge = λ i p a c.
-            (let same = ap (at (m.path ++ w ∷ [])) (new_place i p a) ∙ at_new in
+            (let same = ap (at (m.path ++ w ∷ [])) (new_index i p a) ∙ at_new in
             inl (left_new (at (m.path ++ w ∷ []) i)
             (subst (λ u. Contains (successors graph u) (at (m.path ++ w ∷ []) i)) same c)));
       }

@@ -22,19 +22,19 @@ pub fn new_word(
     stack: &mut Stack,
     word: u8,
     position: Pos,
-    word_place: Pos,
+    word_position: Pos,
 ) -> Result<Option<Mode>, Memory>
-    ensures step { let awaited = new_step position nodes.old.all stack.old (a_word word word_place) in
+    ensures step { let awaited = new_step position nodes.old.all stack.old (a_word word word_position) in
         gives result nodes.new.all stack.new awaited ≡ awaited }
     ensures kept { nodes.new.kept ≡ nodes.old.kept }
 {
     let node = match word {
         INT => Node::IntType {
-            position: word_place,
+            position: word_position,
             is_array: false,
         },
         BOOLEAN => Node::BooleanType {
-            position: word_place,
+            position: word_position,
             is_array: false,
         },
         _ => return Ok(None),
@@ -56,12 +56,12 @@ pub fn new_step(
     ensures kept { nodes.new.kept ≡ nodes.old.kept }
 {
     match view {
-        View::Name(name, name_place) => Ok(Some(Mode::NewName {
+        View::Name(name, name_position) => Ok(Some(Mode::NewName {
             position,
-            name_place: *name_place,
+            name_position: *name_position,
             name: name.share()?,
         })),
-        View::Word(word, word_place) => new_word(nodes, stack, *word, position, *word_place),
+        View::Word(word, word_position) => new_word(nodes, stack, *word, position, *word_position),
         _ => Ok(None),
     }
 }
@@ -73,10 +73,10 @@ pub fn new_name_step(
     stack: &mut Stack,
     view: &View,
     position: Pos,
-    name_place: Pos,
+    name_position: Pos,
     name: &SharedName,
 ) -> Result<Option<Mode>, Memory>
-    ensures step { let awaited = new_name_step position name_place name.now nodes.old.all stack.old (seen view.now) in
+    ensures step { let awaited = new_name_step position name_position name.now nodes.old.all stack.old (seen view.now) in
         gives result nodes.new.all stack.new awaited ≡ awaited }
     ensures kept { nodes.new.kept ≡ nodes.old.kept }
 {
@@ -86,7 +86,7 @@ pub fn new_name_step(
     if *sign == LEFT_PARENTHESIS {
         stack.push(Entry::NewOpen {
             position,
-            name_place,
+            name_position,
             name: name.share()?,
         })?;
         stack.push(Entry::ArgumentsOpen {
@@ -96,7 +96,7 @@ pub fn new_name_step(
     }
     if *sign == LEFT_BRACKET {
         let element = nodes.put(Node::ClassType {
-            position: name_place,
+            position: name_position,
             name: name.share()?,
             argument: None,
             is_array: false,

@@ -104,12 +104,12 @@ pub fn arguments_ended(
         }
         Entry::NewOpen {
             position,
-            name_place,
+            name_position,
             name,
         } => {
             let id = nodes.put(Node::New {
                 position,
-                name_place,
+                name_position,
                 name,
                 arguments: list,
             })?;
@@ -119,11 +119,11 @@ pub fn arguments_ended(
                 id,
             }))
         }
-        Entry::SuperCallOpen { block_place, position } => super_call_ended(
+        Entry::SuperCallOpen { block_position, position } => super_call_ended(
             nodes,
             stack,
             list,
-            block_place,
+            block_position,
             position,
         ),
         _other => Ok(None),
@@ -136,10 +136,10 @@ pub fn super_call_ended(
     nodes: &mut Nodes,
     stack: &mut Stack,
     list: NodeList,
-    block_place: Pos,
+    block_position: Pos,
     position: Pos,
 ) -> Result<Option<Mode>, Memory>
-    ensures step { let awaited = arguments_ended list nodes.old.all (SuperCallOpen block_place position ∷ stack.old) in
+    ensures step { let awaited = arguments_ended list nodes.old.all (SuperCallOpen block_position position ∷ stack.old) in
         gives result nodes.new.all stack.new awaited ≡ awaited }
     ensures kept { nodes.new.kept ≡ nodes.old.kept }
 {
@@ -149,7 +149,7 @@ pub fn super_call_ended(
     match entry {
         Entry::ConstructorBody {
             flags,
-            position: body_place,
+            position: body_position,
             name,
             parameters,
             super_call: _,
@@ -160,12 +160,12 @@ pub fn super_call_ended(
             })?;
             stack.push(Entry::ConstructorBody {
                 flags,
-                position: body_place,
+                position: body_position,
                 name,
                 parameters,
                 super_call: Some(id),
             })?;
-            Ok(Some(Mode::SuperEnd { block_place }))
+            Ok(Some(Mode::SuperEnd { block_position }))
         }
         _other => Ok(None),
     }
@@ -266,11 +266,11 @@ pub fn target_ended(
         gives result nodes.new.all stack.new awaited ≡ awaited }
     ensures kept { nodes.new.kept ≡ nodes.old.kept }
 {
-    let View::Sign(sign, sign_place) = view else {
+    let View::Sign(sign, sign_position) = view else {
         return Ok(None);
     };
     if *sign == ASSIGN {
-        return target_assigned(nodes, stack, kind, id, *sign_place);
+        return target_assigned(nodes, stack, kind, id, *sign_position);
     }
     if *sign == SEMICOLON {
         return target_alone(nodes, stack, kind, position, id);
@@ -535,19 +535,19 @@ pub fn local_value_ended(
     stack: &mut Stack,
     view: &View,
     position: Pos,
-    name_place: Pos,
+    name_position: Pos,
     name: SharedName,
     flags: Option<NodeId>,
     declared_type: NodeId,
     id: NodeId,
 ) -> Result<Option<Mode>, Memory>
-    ensures step { let awaited = ended (LocalValue position name_place name flags declared_type) id nodes.old.all stack.old
+    ensures step { let awaited = ended (LocalValue position name_position name flags declared_type) id nodes.old.all stack.old
         (seen view.now) in gives result nodes.new.all stack.new awaited ≡ awaited }
     ensures kept { nodes.new.kept ≡ nodes.old.kept }
 {
     let id = nodes.put(Node::LocalWithValue {
         position,
-        name_place,
+        name_position,
         name,
         flags,
         declared_type,
@@ -585,7 +585,7 @@ pub fn ended(
         } => compound_ended(nodes, stack, view, position, operator, target, left, id),
         Entry::LocalValue {
             position,
-            name_place,
+            name_position,
             name,
             flags,
             declared_type,
@@ -594,7 +594,7 @@ pub fn ended(
             stack,
             view,
             position,
-            name_place,
+            name_position,
             name,
             flags,
             declared_type,

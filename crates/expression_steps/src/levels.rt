@@ -120,11 +120,11 @@ pub fn operation(entry: &Entry, id: NodeId) -> Result<Option<Node>, Memory>
         })),
         Entry::CastOpen {
             position,
-            name_place,
+            name_position,
             name,
         } => Ok(Some(Node::Cast {
             position: *position,
-            name_place: *name_place,
+            name_position: *name_position,
             name: name.share()?,
             operand: id,
         })),

@@ -52,13 +52,13 @@ pub fn post_step(
         gives result nodes.new.all stack.new awaited ≡ awaited }
     ensures kept { nodes.new.kept ≡ nodes.old.kept }
 {
-    if let View::Sign(sign, sign_place) = view {
+    if let View::Sign(sign, sign_position) = view {
         if *sign == DOT {
             return Ok(Some(Mode::Dot { object: id }));
         }
         if *sign == LEFT_BRACKET && indexable(kind) {
             stack.push(Entry::IndexOpen {
-                position: *sign_place,
+                position: *sign_position,
                 array: id,
             })?;
             return Ok(Some(Mode::Operand));
@@ -130,10 +130,10 @@ pub fn compound_step(
     stack: &mut Stack,
     position: Pos,
     name: &SharedName,
-    sign_place: Pos,
+    sign_position: Pos,
     operator: u8,
 ) -> Result<Option<Mode>, Memory>
-    ensures step { let awaited = compound_step position name.now sign_place operator nodes.old.all stack.old in
+    ensures step { let awaited = compound_step position name.now sign_position operator nodes.old.all stack.old in
         gives result nodes.new.all stack.new awaited ≡ awaited }
     ensures kept { nodes.new.kept ≡ nodes.old.kept }
 {
@@ -146,7 +146,7 @@ pub fn compound_step(
         name: name.share()?,
     })?;
     stack.push(Entry::CompoundValue {
-        position: sign_place,
+        position: sign_position,
         operator,
         target,
         left,
@@ -161,10 +161,10 @@ pub fn stepping_step(
     stack: &mut Stack,
     position: Pos,
     name: &SharedName,
-    sign_place: Pos,
+    sign_position: Pos,
     operator: u8,
 ) -> Result<Option<Mode>, Memory>
-    ensures step { let awaited = stepping_step position name.now sign_place operator nodes.old.all stack.old in
+    ensures step { let awaited = stepping_step position name.now sign_position operator nodes.old.all stack.old in
         gives result nodes.new.all stack.new awaited ≡ awaited }
     ensures kept { nodes.new.kept ≡ nodes.old.kept }
 {
@@ -177,18 +177,18 @@ pub fn stepping_step(
         name: name.share()?,
     })?;
     let right = nodes.put(Node::Number {
-        position: sign_place,
+        position: sign_position,
         value: 1,
         is_negative: false,
     })?;
     let value = nodes.put(Node::Binary {
-        position: sign_place,
+        position: sign_position,
         operator,
         left,
         right,
     })?;
     let id = nodes.put(Node::Assign {
-        position: sign_place,
+        position: sign_position,
         target,
         value,
     })?;
@@ -203,24 +203,24 @@ pub fn target_name_step(
     position: Pos,
     name: &SharedName,
     sign: u8,
-    sign_place: Pos,
+    sign_position: Pos,
 ) -> Result<Option<Mode>, Memory>
-    ensures step { let awaited = target_name_step position name.now nodes.old.all stack.old sign sign_place in
+    ensures step { let awaited = target_name_step position name.now nodes.old.all stack.old sign sign_position in
         gives result nodes.new.all stack.new awaited ≡ awaited }
     ensures kept { nodes.new.kept ≡ nodes.old.kept }
 {
     if let Some(operator) = compound(sign) {
-        return compound_step(nodes, stack, position, name, sign_place, operator);
+        return compound_step(nodes, stack, position, name, sign_position, operator);
     }
     if let Some(operator) = stepping(sign) {
-        return stepping_step(nodes, stack, position, name, sign_place, operator);
+        return stepping_step(nodes, stack, position, name, sign_position, operator);
     }
     stack.push(Entry::Target)?;
     let id = nodes.put(Node::SimpleName {
         position,
         name: name.share()?,
     })?;
-    let view = View::Sign(sign, sign_place);
+    let view = View::Sign(sign, sign_position);
     post_step(nodes, stack, &view, PostKind::Variable, position, id)
 }
 
@@ -232,20 +232,20 @@ pub fn name_sign_step(
     position: Pos,
     name: &SharedName,
     sign: u8,
-    sign_place: Pos,
+    sign_position: Pos,
 ) -> Result<Option<Mode>, Memory>
-    ensures step { let awaited = name_sign_step position name.now nodes.old.all stack.old sign sign_place in
+    ensures step { let awaited = name_sign_step position name.now nodes.old.all stack.old sign sign_position in
         gives result nodes.new.all stack.new awaited ≡ awaited }
     ensures kept { nodes.new.kept ≡ nodes.old.kept }
 {
     if stack.pop_target() {
-        return target_name_step(nodes, stack, position, name, sign, sign_place);
+        return target_name_step(nodes, stack, position, name, sign, sign_position);
     }
     let id = nodes.put(Node::SimpleName {
         position,
         name: name.share()?,
     })?;
-    let view = View::Sign(sign, sign_place);
+    let view = View::Sign(sign, sign_position);
     post_step(nodes, stack, &view, PostKind::Variable, position, id)
 }
 
@@ -262,7 +262,7 @@ pub fn name_step(
         gives result nodes.new.all stack.new awaited ≡ awaited }
     ensures kept { nodes.new.kept ≡ nodes.old.kept }
 {
-    if let View::Sign(sign, sign_place) = view {
+    if let View::Sign(sign, sign_position) = view {
         if *sign == LEFT_PARENTHESIS {
             stack.push(Entry::CallOpen {
                 position,
@@ -274,7 +274,7 @@ pub fn name_step(
             })?;
             return Ok(Some(Mode::ArgumentFirst));
         }
-        return name_sign_step(nodes, stack, position, name, *sign, *sign_place);
+        return name_sign_step(nodes, stack, position, name, *sign, *sign_position);
     }
     let id = nodes.put(Node::SimpleName {
         position,
@@ -421,10 +421,10 @@ pub fn opened_step(
         gives result nodes.new.all stack.new awaited ≡ awaited }
     ensures kept { nodes.new.kept ≡ nodes.old.kept }
 {
-    if let View::Name(name, name_place) = view {
+    if let View::Name(name, name_position) = view {
         return Ok(Some(Mode::OpenedName {
             position,
-            name_place: *name_place,
+            name_position: *name_position,
             name: name.share()?,
         }));
     }
@@ -439,22 +439,22 @@ pub fn opened_name_step(
     stack: &mut Stack,
     view: &View,
     position: Pos,
-    name_place: Pos,
+    name_position: Pos,
     name: &SharedName,
 ) -> Result<Option<Mode>, Memory>
-    ensures step { let awaited = opened_name_step position name_place name.now nodes.old.all stack.old (seen view.now) in
+    ensures step { let awaited = opened_name_step position name_position name.now nodes.old.all stack.old (seen view.now) in
         gives result nodes.new.all stack.new awaited ≡ awaited }
     ensures kept { nodes.new.kept ≡ nodes.old.kept }
 {
     if let View::Sign(RIGHT_PARENTHESIS, _) = view {
         return Ok(Some(Mode::ClosedName {
             position,
-            name_place,
+            name_position,
             name: name.share()?,
         }));
     }
     stack.push(Entry::GroupOpen { position })?;
-    name_step(nodes, stack, view, name_place, name)
+    name_step(nodes, stack, view, name_position, name)
 }
 
 /// Behind a name between parentheses: they are a cast where the lexeme begins its operand.
@@ -464,23 +464,23 @@ pub fn closed_name_step(
     stack: &mut Stack,
     view: &View,
     position: Pos,
-    name_place: Pos,
+    name_position: Pos,
     name: &SharedName,
 ) -> Result<Option<Mode>, Memory>
-    ensures step { let awaited = closed_name_step position name_place name.now nodes.old.all stack.old (seen view.now) in
+    ensures step { let awaited = closed_name_step position name_position name.now nodes.old.all stack.old (seen view.now) in
         gives result nodes.new.all stack.new awaited ≡ awaited }
     ensures kept { nodes.new.kept ≡ nodes.old.kept }
 {
     if is_unary1_start(view) && !stack.is_target() {
         stack.push(Entry::CastOpen {
             position,
-            name_place,
+            name_position,
             name: name.share()?,
         })?;
         return operand_start(nodes, stack, view);
     }
     let inner = nodes.put(Node::SimpleName {
-        position: name_place,
+        position: name_position,
         name: name.share()?,
     })?;
     let id = nodes.put(Node::Parenthesized { position, inner })?;

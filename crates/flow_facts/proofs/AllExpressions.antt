@@ -137,12 +137,12 @@ module _ (forest : Forest) (accepted : IsAccepted forest) (whole : IsForest fore
       unary_fact forest accepted whole sorted is_read b c id operator operand position o there inside j
   by_node b c sig id (Binary position operator left operand) o body inside there j =
       binary_fact forest accepted whole sorted is_read b c id operator left operand position o there inside j
-  by_node b c sig id (New position name_place name arguments) o body inside there j =
-      new_fact forest accepted whole sorted is_read b c sig id position name_place name arguments o body there inside j
+  by_node b c sig id (New position name_position name arguments) o body inside there j =
+      new_fact forest accepted whole sorted is_read b c sig id position name_position name arguments o body there inside j
   by_node b c sig id (NewArray position element size) o body inside there j =
       new_array_fact forest accepted whole sorted b c sig id element size position o body there inside j
-  by_node b c sig id (Cast position name_place name operand) o body inside there j =
-      cast_fact forest accepted whole sorted b c id operand position name_place name o there inside j
+  by_node b c sig id (Cast position name_position name operand) o body inside there j =
+      cast_fact forest accepted whole sorted b c id operand position name_position name o there inside j
   by_node b c sig id (Call position name object arguments) o body inside there j =
       calls b c sig id position name object arguments o body there inside j
   by_node b c sig id _ o body inside there j = not_judged id _ o refl there j

@@ -220,13 +220,13 @@ module _ (forest : Forest) (accepted : IsAccepted forest) (whole : IsForest fore
         null_any (type_at_node p x) (scope_at_node p x) s
         (subst (λ t. kind_of (type_at_node p x) (scope_at_node p x) ≡ Some (reference t s)) e j)
 
-    pub cast_fact : (b c id operand : ℕ) (position name_place : Pos) (name : List ℕ) (o : Option Kind) →
-        slice_get forest.nodes id ≡ Some (Cast position name_place name operand) → Inside p b c id → Judged p id o →
+    pub cast_fact : (b c id operand : ℕ) (position name_position : Pos) (name : List ℕ) (o : Option Kind) →
+        slice_get forest.nodes id ≡ Some (Cast position name_position name operand) → Inside p b c id → Judged p id o →
         CastFact code b c id operand o
     unfolding code_of gives_value
-    cast_fact b c id operand position name_place name o there inside j =
-        let v = valued forest accepted whole sorted id (Cast position name_place name operand) o there refl j in
-        let f = cast_facts forest accepted whole sorted b c id operand position name_place name v.0 there inside v.2 in
+    cast_fact b c id operand position name_position name o there inside j =
+        let v = valued forest accepted whole sorted id (Cast position name_position name operand) o there refl j in
+        let f = cast_facts forest accepted whole sorted b c id operand position name_position name v.0 there inside v.2 in
         let given = f.operand_is in
         let lies : (f.scope ≡ Any) ⊎ (scope_at_node p operand ≡ Some f.scope) =
         elim f.is_null_or_there as (λ z. (f.scope ≡ Any) ⊎ (scope_at_node p operand ≡ Some f.scope))

@@ -27,7 +27,7 @@ expression_no_variable : (nodes : List Node) (x : ℕ) (node : Node) → is_expr
 unfolding is_expression variable_of
 expression_no_variable nodes x (Parameter position name flags declared_type) e = absurd (true≢false (sym e))
 expression_no_variable nodes x (Local position name flags declared_type) e = absurd (true≢false (sym e))
-expression_no_variable nodes x (LocalWithValue position name_place name flags declared_type value) e =
+expression_no_variable nodes x (LocalWithValue position name_position name flags declared_type value) e =
     absurd (true≢false (sym e))
 expression_no_variable nodes x _ e = refl
 
@@ -36,14 +36,14 @@ assignment_no_variable : (nodes : List Node) (x : ℕ) (node : Node) → is_assi
 unfolding is_assignment variable_of
 assignment_no_variable nodes x (Parameter position name flags declared_type) e = absurd (true≢false (sym e))
 assignment_no_variable nodes x (Local position name flags declared_type) e = absurd (true≢false (sym e))
-assignment_no_variable nodes x (LocalWithValue position name_place name flags declared_type value) e =
+assignment_no_variable nodes x (LocalWithValue position name_position name flags declared_type value) e =
     absurd (true≢false (sym e))
 assignment_no_variable nodes x _ e = refl
 
 start_is_statement : (node : Node) → is_for_start node ≡ true → is_statement node ≡ true
 unfolding is_for_start is_statement
 start_is_statement (Assign position target value) e = refl
-start_is_statement (LocalWithValue position name_place name flags declared_type value) e = refl
+start_is_statement (LocalWithValue position name_position name flags declared_type value) e = refl
 start_is_statement _ e = absurd (true≢false (sym e))
 
 module _ (forest : Forest) (accepted : IsAccepted forest) (whole : IsForest forest) (sorted : IsWellSorted forest.nodes)

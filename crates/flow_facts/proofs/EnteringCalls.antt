@@ -303,22 +303,22 @@ module _ (forest : Forest) (accepted : IsAccepted forest) (whole : IsForest fore
       let taken : assigns p.classes h.t (ClassTy object_class) ≡ true =
       sym (ap (λ w. holds (type_written p.names w) (assigns p.classes h.t)) any
       ∙ ap (λ (o : Option Ty). holds o (assigns p.classes h.t)) object_type) ∙ h.first_taken in
-      let place_at =
+      let position_at =
       reference_argument forest accepted whole sorted b c id name object arguments x h.first h.t among h.first_typed
       (class_taken p.classes h.t object_class taken) in
-      let a = place_at.scoped in
+      let a = position_at.scoped in
       let area = x2.area a.0 a.1 in
       let there_is =
-      area_of b c id h.first name object arguments x among place_at.type place_at.scope a.0 area.0
-      place_at.judgement a.1 area.1 in
+      area_of b c id h.first name object arguments x among position_at.type position_at.scope a.0 area.0
+      position_at.judgement a.1 area.1 in
       record {
         is_method = refl;
         place = h.first;
         object = h.second;
         are = h.are;
-        type = place_at.type;
+        type = position_at.type;
         area = area.0;
-        place_is = subst (λ s. HasValue p b c id h.first (Some (reference place_at.type s))) there_is place_at.is;
+        place_is = subst (λ s. HasValue p b c id h.first (Some (reference position_at.type s))) there_is position_at.is;
         class = x2.class;
         is_on = entered_on x.r f arguments h.first h.second x2.class x2.scope h.u h.are h.second_typed given.judged memory;
         scope = x2.scope;

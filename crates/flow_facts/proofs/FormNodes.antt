@@ -15,7 +15,7 @@ use Rattle.accepted_laws.proofs.Tools.{some_inj}
 use Rattle.accepted_nodes.proofs.FormParts.{bound, held, if_some, form_of}
 
 unfoldable pub is_new_node : Node → Bool
-is_new_node (New position name_place name arguments) = true
+is_new_node (New position name_position name arguments) = true
 is_new_node _ = false
 
 module _ (p : Declarations) where
@@ -25,8 +25,8 @@ module _ (p : Declarations) where
   of_node : (class count x : ℕ) (node : Node) (arguments : List ℕ) → slice_get p.nodes x ≡ Some node →
       new_of p class count node ≡ Some arguments → IsNew x
   unfolding new_of is_new_node
-  of_node class count x (New position name_place name list) arguments there e =
-      (New position name_place name list, there, refl)
+  of_node class count x (New position name_position name list) arguments there e =
+      (New position name_position name list, there, refl)
   of_node class count x _ arguments there e = absurd (cc (e))
 
   of_read : (class count x : ℕ) (arguments : List ℕ) → read p.nodes (new_of p class count) x ≡ Some arguments → IsNew x

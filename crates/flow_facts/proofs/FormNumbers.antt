@@ -84,12 +84,12 @@ module _ (forest : Forest) (accepted : IsAccepted forest) (whole : IsForest fore
           child-less forest whole call x node s.is_there among,
         )
 
-    at_below : (b c call x e : ℕ) (position name_place : Pos) (name list : List ℕ) →
-        slice_get nodes x ≡ Some (New position name_place name list) → Below b c call x → is_among e list ≡ true →
+    at_below : (b c call x e : ℕ) (position name_position : Pos) (name list : List ℕ) →
+        slice_get nodes x ≡ Some (New position name_position name list) → Below b c call x → is_among e list ≡ true →
         Below b c call e × (e < x)
     unfolding child_context children declared_before is_super_call HasRightChildren is_inner
-    at_below b c call x e position name_place name list there h among =
-        let node : Node = New position name_place name list in
+    at_below b c call x e position name_position name list there h among =
+        let node : Node = New position name_position name list in
         let o = among_of nodes is_argument e list (sorted.each x node there) among in (
           record {
             in_super = ap (λ (c : Context). c.in_super_call) (child_context_is forest whole x e node there among)
@@ -119,11 +119,11 @@ module _ (forest : Forest) (accepted : IsAccepted forest) (whole : IsForest fore
         ∙ (and_true (context p x).in_super_call
         (holds (context p x).class (λ class. holds (form_in p class) (is_among x))) e).1
 
-    new_is_no_call : (x call : ℕ) (position name_place place2 : Pos) (name list arguments : List ℕ) → x ≡ call →
-        slice_get nodes x ≡ Some (New position name_place name list) →
-        slice_get nodes call ≡ Some (SuperCall place2 arguments) → ⊥
-    new_is_no_call x call position name_place place2 name list arguments same there other =
-        (let z : New position name_place name list ≡ SuperCall place2 arguments = some_inj _ _
+    new_is_no_call : (x call : ℕ) (position name_position position2 : Pos) (name list arguments : List ℕ) → x ≡ call →
+        slice_get nodes x ≡ Some (New position name_position name list) →
+        slice_get nodes call ≡ Some (SuperCall position2 arguments) → ⊥
+    new_is_no_call x call position name_position position2 name list arguments same there other =
+        (let z : New position name_position name list ≡ SuperCall position2 arguments = some_inj _ _
         (sym there ∙ ap (slice_get nodes) same ∙ other) in cc (z))
 
     -- an argument of a part that isn't the release parameters is no part itself
@@ -135,17 +135,17 @@ module _ (forest : Forest) (accepted : IsAccepted forest) (whole : IsForest fore
       where
         parent : (k : ℕ) (node : Node) → slice_get nodes k ≡ Some node → is_among e (children node) ≡ true → x ≡ k
         parent k node there a =
-            some_inj x k (sym (parent-of forest whole x e (New n.position n.name_place n.name n.list) n.is_there among)
+            some_inj x k (sym (parent-of forest whole x e (New n.position n.name_position n.name n.list) n.is_there among)
             ∙ parent-of forest whole k e node there a)
 
         contradiction : (is_among e arguments ≡ true) ⊎ ((r : ℕ) × (m : NewPart p periodic_parameters 2 r) ×
             (is_among e m.list ≡ true)) → ⊥
-        contradiction (inl a) = new_is_no_call x call n.position n.name_place s.position n.name n.list arguments
+        contradiction (inl a) = new_is_no_call x call n.position n.name_position s.position n.name n.list arguments
             (parent call (SuperCall s.position arguments) s.is_there a) n.is_there s.is_there
         contradiction (inr q) =
             let m = q.1 in
-            let same = parent q.0 (New m.position m.name_place m.name m.list) m.is_there q.2 in
-            let node : New n.position n.name_place n.name n.list ≡ New m.position m.name_place m.name m.list =
+            let same = parent q.0 (New m.position m.name_position m.name m.list) m.is_there q.2 in
+            let node : New n.position n.name_position n.name n.list ≡ New m.position m.name_position m.name m.list =
             some_inj _ _ (sym n.is_there ∙ ap (slice_get nodes) same ∙ m.is_there) in
             let name : n.name ≡ m.name = cc (node) in
             let classes : class ≡ periodic_parameters =
@@ -160,7 +160,7 @@ module _ (forest : Forest) (accepted : IsAccepted forest) (whole : IsForest fore
         binding_at_node p x ≡ Plain
     unfolding binding_of declarations_of
     part_bound x class count n part =
-        binding_is forest accepted whole sorted x (New n.position n.name_place n.name n.list) n.is_there
+        binding_is forest accepted whole sorted x (New n.position n.name_position n.name n.list) n.is_there
         ∙ ap (λ t. if t then Plain else class_binding (class_number p.names n.name)) part
 
     -- ---- its arguments are ints
@@ -169,7 +169,7 @@ module _ (forest : Forest) (accepted : IsAccepted forest) (whole : IsForest fore
         is_among e n.list ≡ true → is_form_part p e ≡ false → HasType (types e)
     unfolding children child_context object_of HasRightChildren declarations_of
     argument_value b c call x e class count n h among plain =
-        let node : Node = New n.position n.name_place n.name n.list in
+        let node : Node = New n.position n.name_position n.name n.list in
         let o = among_of nodes is_argument e n.list (sorted.each x node n.is_there) among in
         value_has_type forest accepted whole sorted b c e o.node o.is_there h.inside
         (record {
@@ -186,8 +186,8 @@ module _ (forest : Forest) (accepted : IsAccepted forest) (whole : IsForest fore
     fits_part x class count n part =
         sym (ap (λ t. if t then misfits_form_part p types n.list else holds (class_number p.names n.name)
         (misfits_constructor p types n.list)) part)
-        ∙ (right_new p types x n.position n.name_place n.name n.list
-        (unbroken forest accepted whole sorted x (New n.position n.name_place n.name n.list) n.is_there)).arguments_fit
+        ∙ (right_new p types x n.position n.name_position n.name n.list
+        (unbroken forest accepted whole sorted x (New n.position n.name_position n.name n.list) n.is_there)).arguments_fit
 
     abbrev IsInt : ℕ → Type 0
     IsInt e = types e ≡ Some Int
@@ -238,7 +238,7 @@ module _ (forest : Forest) (accepted : IsAccepted forest) (whole : IsForest fore
     leaf b c call x class count arguments parts s stands n other h among =
         let part = is_part b c call x arguments parts s h among in
         let below : (e : ℕ) → is_among e n.list ≡ true → Below b c call e × (e < x) =
-        λ e a. at_below b c call x e n.position n.name_place n.name n.list n.is_there h a in
+        λ e a. at_below b c call x e n.position n.name_position n.name n.list n.is_there h a in
         let plain : (e : ℕ) → is_among e n.list ≡ true → is_form_part p e ≡ false =
         λ e a. no_part_below b c call x e class count arguments parts s stands n other (below e a).0 a in
         let ints =
@@ -259,7 +259,7 @@ module _ (forest : Forest) (accepted : IsAccepted forest) (whole : IsForest fore
     unfolding declarations_of
     periodic b c call r start period arguments parts s stands n e x y h among first second =
         let below : (e : ℕ) → is_among e n.list ≡ true → Below b c call e × (e < r) =
-        λ e a. at_below b c call r e n.position n.name_place n.name n.list n.is_there h a in
+        λ e a. at_below b c call r e n.position n.name_position n.name n.list n.is_there h a in
         let at_start = below start (ap (is_among start) e ∙ same_first forest accepted whole sorted start (period ∷ []))
         in
         let at_period = below period (ap (is_among period) e ∙ same_second forest accepted whole sorted start period [])

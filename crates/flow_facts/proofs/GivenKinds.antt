@@ -109,10 +109,10 @@ gives_value (ThisNode position) = true
 gives_value (SimpleName position name) = true
 gives_value (Binary position operator left right) = true
 gives_value (Unary position operator operand) = true
-gives_value (Cast position name_place name operand) = true
+gives_value (Cast position name_position name operand) = true
 gives_value (FieldAccess position name object) = true
 gives_value (Element position array index) = true
-gives_value (New position name_place name arguments) = true
+gives_value (New position name_position name arguments) = true
 gives_value (NewArray position element length) = true
 gives_value _ = false
 
@@ -184,7 +184,7 @@ module _ (forest : Forest) (accepted : IsAccepted forest) (whole : IsForest fore
         binary_no_void p.classes operator a.0 b.0 b.2
     value_no_void id (Unary position operator operand) k e =
         (let a = of_option (types operand) (unary_type operator) Void e in unary_no_void operator a.0 a.2)
-    value_no_void id (Cast position name_place name operand) k e =
+    value_no_void id (Cast position name_position name operand) k e =
         (let a = of_option (types operand) (λ t. option_map (λ class. ClassTy class) (class_number p.names name)) Void e
         in class_named_no_void (class_number p.names name) a.2)
     value_no_void id (FieldAccess position name object) k e =
@@ -192,7 +192,7 @@ module _ (forest : Forest) (accepted : IsAccepted forest) (whole : IsForest fore
     value_no_void id (Element position array index) k e =
         let a = of_option (types array) (λ a. option_and_then (λ i. element_type a) (types index)) Void e in
         let b = of_option (types index) (λ i. element_type a.0) Void a.2 in element_no_void a.0 b.2
-    value_no_void id (New position name_place name arguments) k e =
+    value_no_void id (New position name_position name arguments) k e =
         if_no_void _ None (option_and_then (λ ts. option_map (λ class. ClassTy class) (class_number p.names name))
         (all_types types arguments)) none_no_void
         (λ e.

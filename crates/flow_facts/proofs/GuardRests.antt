@@ -160,21 +160,21 @@ module _ (forest : Forest) (accepted : IsAccepted forest) (whole : IsForest fore
         value_adds = other assign there refl value (later value target (value ∷ []) (here value [])) refl
 
         by_target : (n : Node) → slice_get forest.nodes target ≡ Some n → (o : Binding) → A (assign_ops sub x value o n)
-        by_target (SimpleName place2 name) named (LocalVariable k) = behind (sub value) (STORE x) value_adds tt refl
-        by_target (SimpleName place2 name) named (InstanceField k) =
-            own_put forest accepted whole sorted is_read b c x sub position place2 name target value there named v.1 v.2 value_adds
-        by_target (SimpleName place2 name) named (Static k) = behind (sub value) (PUTSTATIC x) value_adds tt tt
-        by_target (SimpleName place2 name) named _ = none
-        by_target (FieldAccess place2 name object) named (InstanceField k) =
+        by_target (SimpleName position2 name) named (LocalVariable k) = behind (sub value) (STORE x) value_adds tt refl
+        by_target (SimpleName position2 name) named (InstanceField k) =
+            own_put forest accepted whole sorted is_read b c x sub position position2 name target value there named v.1 v.2 value_adds
+        by_target (SimpleName position2 name) named (Static k) = behind (sub value) (PUTSTATIC x) value_adds tt tt
+        by_target (SimpleName position2 name) named _ = none
+        by_target (FieldAccess position2 name object) named (InstanceField k) =
             let o =
-            below_target position target value object (FieldAccess place2 name object) there named refl (here object []) refl
+            below_target position target value object (FieldAccess position2 name object) there named refl (here object []) refl
             in
-            field_put forest accepted whole sorted is_read b c x sub position place2 name target value object there named v.1 v.2 o.within o.same o.adds value_adds
-        by_target (FieldAccess place2 name object) named (Static k) = behind (sub value) (PUTSTATIC x) value_adds tt tt
-        by_target (FieldAccess place2 name object) named _ = none
-        by_target (Element place2 array index) named (Static k) = behind (sub value) (PUTSTATIC x) value_adds tt tt
-        by_target (Element place2 array index) named _ =
-            let n : Node = Element place2 array index in
+            field_put forest accepted whole sorted is_read b c x sub position position2 name target value object there named v.1 v.2 o.within o.same o.adds value_adds
+        by_target (FieldAccess position2 name object) named (Static k) = behind (sub value) (PUTSTATIC x) value_adds tt tt
+        by_target (FieldAccess position2 name object) named _ = none
+        by_target (Element position2 array index) named (Static k) = behind (sub value) (PUTSTATIC x) value_adds tt tt
+        by_target (Element position2 array index) named _ =
+            let n : Node = Element position2 array index in
             let a = below_target position target value array n there named refl (here array (index ∷ [])) refl in
             let i =
             below_target position target value index n there named refl (later index array (index ∷ []) (here index [])) refl
@@ -247,8 +247,8 @@ module _ (forest : Forest) (accepted : IsAccepted forest) (whole : IsForest fore
         let k = other (Binary position operator left right) there refl in
         binary_adds code (Written b) (around x) sub x operator left right refl (k left (here left (right ∷ [])) refl)
         (k right (later right left (right ∷ []) (here right [])) refl)
-    node_adds (New position name_place name arguments) there e =
-        new_adds code (Written b) (around x) sub x arguments (binding code x) (λ y a. other (New position name_place name arguments) there refl y a refl)
+    node_adds (New position name_position name arguments) there e =
+        new_adds code (Written b) (around x) sub x arguments (binding code x) (λ y a. other (New position name_position name arguments) there refl y a refl)
     node_adds (NewArray position element count) there e =
         behind (sub count) (ALLOCARRAY x)
         (other (NewArray position element count) there refl count (later count element (count ∷ []) (here count [])) refl) tt
@@ -256,13 +256,13 @@ module _ (forest : Forest) (accepted : IsAccepted forest) (whole : IsForest fore
     node_adds (CallNode position name object arguments) there e =
         call_adds code (Written b) (around x) sub x object arguments (binding code x)
         (λ y a. other (CallNode position name object arguments) there refl y a refl)
-    node_adds (Cast position name_place name operand) there e =
+    node_adds (Cast position name_position name operand) there e =
         behind (sub operand) (CAST x)
-        (other (Cast position name_place name operand) there refl operand (here operand []) refl) tt tt
+        (other (Cast position name_position name operand) there refl operand (here operand []) refl) tt tt
     node_adds (LocalNode position name flags declared_type) there e = op (ZERO x) tt refl
-    node_adds (LocalWithValue position name_place name flags declared_type value) there e =
+    node_adds (LocalWithValue position name_position name flags declared_type value) there e =
         behind (sub value) (STORE x)
-        (other (LocalWithValue position name_place name flags declared_type value) there refl value
+        (other (LocalWithValue position name_position name flags declared_type value) there refl value
         (among-behind value (optional flags) (declared_type ∷ value ∷ [])
         (later value declared_type (value ∷ []) (here value []))) refl) tt refl
     node_adds (Assign position target value) there e = assign_adds position target value there

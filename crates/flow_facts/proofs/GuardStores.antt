@@ -74,12 +74,12 @@ module _ (forest : Forest) (accepted : IsAccepted forest) (whole : IsForest fore
       (record { holder = holder; stored = stored; object_is = pushes; value_is = v.pushes; is_guarded = guarded }) refl
       r))
 
-  pub own_put : (position place2 : Pos) (name : List ℕ) (target value : ℕ) →
+  pub own_put : (position position2 : Pos) (name : List ℕ) (target value : ℕ) →
       slice_get forest.nodes x ≡ Some (Assign position target value) →
-      slice_get forest.nodes target ≡ Some (SimpleName place2 name) → Inside p b c value → sub value ≡ ops_of code value →
+      slice_get forest.nodes target ≡ Some (SimpleName position2 name) → Inside p b c value → sub value ≡ ops_of code value →
       A (sub value) → A (THIS x ∷ sub value ++ PUT x ∷ [])
   unfolding stored_field field_of_this IsPlain StandsIn
-  own_put position place2 name target value there named inside_value same v =
+  own_put position position2 name target value there named inside_value same v =
       by_guard (is_guarded_store p (type_at_node p) x target value) refl
     where
       holder_is : (m : Meaning) (s : Subject) (f : FoundField) → field_of_this m ≡ Some (Some s, f) → this_object ≡ s
@@ -93,19 +93,19 @@ module _ (forest : Forest) (accepted : IsAccepted forest) (whole : IsForest fore
       by_guard false e = plain_put position target value there e (THIS x ∷ [])
           (adds_op code (Written b) (around x) (THIS x) tt tt) v
       by_guard true e =
-          let g = guarded_subjects forest accepted whole sorted x target value (SimpleName place2 name) named e in
+          let g = guarded_subjects forest accepted whole sorted x target value (SimpleName position2 name) named e in
           guarded_put (THIS x ∷ []) value this_object g.stored (THIS x) (pushes_this x) refl
           (subject_pushed forest accepted whole sorted is_read b c value g.stored inside_value g.is_stored) same
           (ap (λ s. is_guarded p (type_at_node p) x s g.stored) (holder_is (meaning p target name) g.holder g.field g.is)
           ∙ g.guarded)
 
-  pub field_put : (position place2 : Pos) (name : List ℕ) (target value object : ℕ) →
+  pub field_put : (position position2 : Pos) (name : List ℕ) (target value object : ℕ) →
       slice_get forest.nodes x ≡ Some (Assign position target value) →
-      slice_get forest.nodes target ≡ Some (FieldAccess place2 name object) → Inside p b c value →
+      slice_get forest.nodes target ≡ Some (FieldAccess position2 name object) → Inside p b c value →
       sub value ≡ ops_of code value → Inside p b c object → sub object ≡ ops_of code object → A (sub object) →
       A (sub value) → A (sub object ++ (sub value ++ PUT x ∷ []))
   unfolding stored_field
-  field_put position place2 name target value object there named inside_value same inside_object same_object o v =
+  field_put position position2 name target value object there named inside_value same inside_object same_object o v =
       by_guard (is_guarded_store p (type_at_node p) x target value) refl
     where
       of_field : (m : Option FoundField) (s : Subject) (f : FoundField) →
@@ -125,7 +125,7 @@ module _ (forest : Forest) (accepted : IsAccepted forest) (whole : IsForest fore
           A (sub object ++ (sub value ++ PUT x ∷ []))
       by_guard false e = plain_put position target value there e (sub object) o v
       by_guard true e =
-          let g = guarded_subjects forest accepted whole sorted x target value (FieldAccess place2 name object) named e in
+          let g = guarded_subjects forest accepted whole sorted x target value (FieldAccess position2 name object) named e in
           let q =
           subject_pushed forest accepted whole sorted is_read b c object g.holder inside_object
           (holder_is (receiver p (type_at_node p) object) g.holder g.field g.is) in

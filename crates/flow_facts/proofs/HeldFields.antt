@@ -14,7 +14,7 @@ use Rattle.scj_rules.specs.declared.views.SlotKind.TheVariants.{Number as Number
 use Rattle.scj_rules.specs.Views.{field_at}
 use Rattle.scj_rules.specs.Classes.{ClassRow, is_sub, instance_fields, hidden_fields}
 use Rattle.scj_rules.specs.Contexts.{Declarations, declarations_of, in_class}
-use Rattle.scj_rules.specs.Layout.{slots, element_kind, first_array_class, declared_fields, static_fields, static_place, place_among}
+use Rattle.scj_rules.specs.Layout.{slots, element_kind, first_array_class, declared_fields, static_fields, static_index, index_among}
 use Rattle.scj_rules.specs.ScopeRules.{immortal_scope, is_outer}
 use Rattle.scj_rules.specs.StaticScopes.{are_same_scope, class_scope, is_outer_of, suits_field, field_scope}
 use Rattle.scj_rules.specs.TypeRules.{declared_type_of}
@@ -246,7 +246,7 @@ module _ (forest : Forest) (accepted : IsAccepted forest) (whole : IsForest fore
 
     pub has_static : (class n : ℕ) (name : List ℕ) (k : Kind) → StaticFieldOf p class name n k → (h : HasStatic p n) ×
         (h.kind ≡ k)
-    unfolding static_place kind_of_static static_fields
+    unfolding static_index kind_of_static static_fields
     has_static class n name k f =
         let d : Declared = f.field.field in
         let q = field_has_number forest accepted whole sorted class name f.field f.named in
@@ -268,8 +268,8 @@ module _ (forest : Forest) (accepted : IsAccepted forest) (whole : IsForest fore
         ∙ (field_found forest accepted whole sorted class name f.field f.named).is_there) in (
           record {
             index = j.0;
-            is = ap (λ m. option_and_then (place_among statics) (slice_get (declared_fields p) m)) (sym same)
-                ∙ ap (option_and_then (place_among statics)) q.numbers ∙ j.1;
+            is = ap (λ m. option_and_then (index_among statics) (slice_get (declared_fields p) m)) (sym same)
+                ∙ ap (option_and_then (index_among statics)) q.numbers ∙ j.1;
             kind = k;
             holds = ap (option_and_then (kind_of_field p)) (y.1 ∙ ap (λ d. Some d) one) ∙ f.kind;
             is_immortal = immortal_kind k f.lies;

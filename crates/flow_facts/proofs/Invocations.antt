@@ -43,13 +43,13 @@ use Rattle.accepted_laws.proofs.Contexts.{known_same}
 invocation_is_argument : (n : Node) → is_invocation n ≡ true → is_argument n ≡ true
 unfolding is_invocation is_argument is_expression
 invocation_is_argument (Call position name object arguments) e = refl
-invocation_is_argument (New position name_place name arguments) e = refl
+invocation_is_argument (New position name_position name arguments) e = refl
 invocation_is_argument _ e = absurd (true≢false (sym e))
 
 invocation_is_expression : (n : Node) → is_invocation n ≡ true → is_expression n ≡ true
 unfolding is_invocation is_expression
 invocation_is_expression (Call position name object arguments) e = refl
-invocation_is_expression (New position name_place name arguments) e = refl
+invocation_is_expression (New position name_position name arguments) e = refl
 invocation_is_expression _ e = absurd (true≢false (sym e))
 
 class_no_void : (o : Option ℕ) → option_map (λ class. ClassTy class) o ≡ Some Void → ⊥
@@ -152,21 +152,21 @@ module _ (forest : Forest) (accepted : IsAccepted forest) (whole : IsForest fore
           typed = f.2;
         }
 
-    new_leaves : (x : ℕ) (position name_place : Pos) (name arguments : List ℕ) →
-        slice_get forest.nodes x ≡ Some (New position name_place name arguments) → is_form_part p x ≡ false →
+    new_leaves : (x : ℕ) (position name_position : Pos) (name arguments : List ℕ) →
+        slice_get forest.nodes x ≡ Some (New position name_position name arguments) → is_form_part p x ≡ false →
         leaves_value (binding_at_node p x) ≡ true
     unfolding binding_of leaves_value
-    new_leaves x position name_place name arguments there part =
-        let n = new_names_class forest accepted sorted x position name_place name arguments
-        (at_p forest accepted whole sorted x (New position name_place name arguments) there) in
-        ap leaves_value (binding_is forest accepted whole sorted x (New position name_place name arguments) there
+    new_leaves x position name_position name arguments there part =
+        let n = new_names_class forest accepted sorted x position name_position name arguments
+        (at_p forest accepted whole sorted x (New position name_position name arguments) there) in
+        ap leaves_value (binding_is forest accepted whole sorted x (New position name_position name arguments) there
         ∙ ap (λ t. if t then Plain else class_binding (class_number p.names name)) part ∙ ap class_binding n.1)
 
-    new_no_void : (x : ℕ) (position name_place : Pos) (name arguments : List ℕ) →
-        slice_get forest.nodes x ≡ Some (New position name_place name arguments) → types x ≡ Some Void → ⊥
+    new_no_void : (x : ℕ) (position name_position : Pos) (name arguments : List ℕ) →
+        slice_get forest.nodes x ≡ Some (New position name_position name arguments) → types x ≡ Some Void → ⊥
     unfolding type_of
-    new_no_void x position name_place name arguments there e =
-        go (is_form_part p x) (sym (type_is forest accepted whole sorted x (New position name_place name arguments) there)
+    new_no_void x position name_position name arguments there e =
+        go (is_form_part p x) (sym (type_is forest accepted whole sorted x (New position name_position name arguments) there)
         ∙ e)
       where
         go : (t : Bool) →
@@ -208,10 +208,10 @@ module _ (forest : Forest) (accepted : IsAccepted forest) (whole : IsForest fore
     unfolding is_invocation
     leaves x (Call position name object arguments) gives there k v j =
         call_value x position name object arguments gives there j
-    leaves x (New position name_place name arguments) None there k v j =
-        absurd (new_no_void x position name_place name arguments there (void_of x j))
-    leaves x (New position name_place name arguments) (Some k2) there k v j =
-        new_leaves x position name_place name arguments there v.no_form_part
+    leaves x (New position name_position name arguments) None there k v j =
+        absurd (new_no_void x position name_position name arguments there (void_of x j))
+    leaves x (New position name_position name arguments) (Some k2) there k v j =
+        new_leaves x position name_position name arguments there v.no_form_part
     leaves x _ gives there k v j = absurd (true≢false (sym k))
 
     pub invocation_fact : (b c id expression : ℕ) (position : Pos) →

@@ -165,15 +165,15 @@ module _ (forest : Forest) (accepted : IsAccepted forest) (whole : IsForest fore
         (record { declared = _; is_declared = e; is_bound = binding_is forest accepted whole sorted id node there })
         spares k.0 k.1).0
 
-    pub initial_value_fact : (b c id value declared_type : ℕ) (place name_place : Pos) (name : List ℕ)
+    pub initial_value_fact : (b c id value declared_type : ℕ) (place name_position : Pos) (name : List ℕ)
         (flags : Option ℕ) →
-        slice_get forest.nodes id ≡ Some (LocalWithValue place name_place name flags declared_type value) →
+        slice_get forest.nodes id ≡ Some (LocalWithValue place name_position name flags declared_type value) →
         Inside p b c id → SparesGuards code id id → InitialValueFact code b c id value
     unfolding variable_of binding_of declarations_of
-    initial_value_fact b c id value declared_type place name_place name flags there inside spares =
-        let node : Node = LocalWithValue place name_place name flags declared_type value in
+    initial_value_fact b c id value declared_type place name_position name flags there inside spares =
+        let node : Node = LocalWithValue place name_position name flags declared_type value in
         let e = ap (λ (o : Option Node). option_and_then (variable_of p.nodes id) o) there in
-        let f = initial_value_facts forest accepted whole sorted b c id value declared_type place name_place name flags
+        let f = initial_value_facts forest accepted whole sorted b c id value declared_type place name_position name flags
         there inside in
         let d =
         declared_at b c id node there inside

@@ -143,18 +143,18 @@ module _ (forest : Forest) (accepted : IsAccepted forest) (whole : IsForest fore
       [ None ↦ [] | Some c ↦ c.parameters ]) r.2.constructs_nothing
 
   -- Object is made without arguments
-  none_passed : (b c id : ℕ) (position name_place : Pos) (name arguments : List ℕ) (class : ℕ) →
-      slice_get forest.nodes id ≡ Some (New position name_place name arguments) → Inside p b c id →
+  none_passed : (b c id : ℕ) (position name_position : Pos) (name arguments : List ℕ) (class : ℕ) →
+      slice_get forest.nodes id ≡ Some (New position name_position name arguments) → Inside p b c id →
       is_form_part p id ≡ false → class_number p.names name ≡ Some class → class ≡ object → arguments ≡ []
   unfolding children is_argument is_expression object_of takes_parts HasRightChildren declared_before misfits_new
-  none_passed b c id position name_place name arguments class there inside part n e =
-      let node : Node = New position name_place name arguments in
+  none_passed b c id position name_position name arguments class there inside part n e =
+      let node : Node = New position name_position name arguments in
       let s = sorted.each id node there in
       let values : (x : ℕ) → is_among x arguments ≡ true → ValueAt forest accepted whole sorted b c id x =
       λ x among. child_at forest accepted whole sorted b c id node there inside refl x among
       (all_of forest accepted whole sorted x arguments s among) refl part in
       let ts = arguments_typed forest accepted whole sorted b c id arguments values in
-      let w = right_new p types id position name_place name arguments (unbroken forest accepted whole sorted id node there)
+      let w = right_new p types id position name_position name arguments (unbroken forest accepted whole sorted id node there)
       in
       let fit : accepts_arguments p (constructor_parameters p.classes class) ts.0 ≡ true =
       not_false _
@@ -182,14 +182,14 @@ module _ (forest : Forest) (accepted : IsAccepted forest) (whole : IsForest fore
   -- ---- `new`
 
   -- what has a type is no part of a form
-  no_part : (id : ℕ) (position name_place : Pos) (name arguments : List ℕ) (k : Kind) →
-      slice_get forest.nodes id ≡ Some (New position name_place name arguments) → Judged p id (Some k) →
+  no_part : (id : ℕ) (position name_position : Pos) (name arguments : List ℕ) (k : Kind) →
+      slice_get forest.nodes id ≡ Some (New position name_position name arguments) → Judged p id (Some k) →
       is_form_part p id ≡ false
   unfolding Judged type_of
-  no_part id position name_place name arguments k there j =
+  no_part id position name_position name arguments k there j =
       let t = typed_of (types id) _ k j in
       go (is_form_part p id) t.0
-      (sym (type_is forest accepted whole sorted id (New position name_place name arguments) there) ∙ t.1)
+      (sym (type_is forest accepted whole sorted id (New position name_position name arguments) there) ∙ t.1)
     where
       go : (x : Bool) (t : Ty) →
           (if x then None else option_and_then (λ ts. class_type_named p name) (all_types types arguments)) ≡ Some t →
@@ -228,14 +228,14 @@ module _ (forest : Forest) (accepted : IsAccepted forest) (whole : IsForest fore
         constructor = object_constructor class now e;
       }
 
-  pub new_fact : (b c : ℕ) (sig : Signature) (id : ℕ) (position name_place : Pos) (name arguments : List ℕ)
-      (o : Option Kind) → IsBody p b c sig → slice_get forest.nodes id ≡ Some (New position name_place name arguments) →
+  pub new_fact : (b c : ℕ) (sig : Signature) (id : ℕ) (position name_position : Pos) (name arguments : List ℕ)
+      (o : Option Kind) → IsBody p b c sig → slice_get forest.nodes id ≡ Some (New position name_position name arguments) →
       Inside p b c id → Judged p id o → NewFact code b c sig id arguments o
   unfolding code_of gives_value
-  new_fact b c sig id position name_place name arguments o body there inside j =
-      let v = valued forest accepted whole sorted id (New position name_place name arguments) o there refl j in
-      let part = no_part id position name_place name arguments v.0 there v.2 in
-      let f = new_facts forest accepted whole sorted b c id position name_place name arguments v.0 there inside part v.2 in
+  new_fact b c sig id position name_position name arguments o body there inside j =
+      let v = valued forest accepted whole sorted id (New position name_position name arguments) o there refl j in
+      let part = no_part id position name_position name arguments v.0 there v.2 in
+      let f = new_facts forest accepted whole sorted b c id position name_position name arguments v.0 there inside part v.2 in
       let now : f.now ≡ sig.runs_in = is_current forest accepted whole sorted b c sig f.now body f.is_now in
       let k : Constructed b c id f.class arguments f.now =
       elim (concrete_is forest accepted whole sorted f.class f.concrete) as
@@ -243,7 +243,7 @@ module _ (forest : Forest) (accepted : IsAccepted forest) (whole : IsForest fore
         | inl w ↦ (let user = w.is_users in of_user b c id arguments f.class f.now w user (f.passes user)
             (names_now p b c f.now f.is_now))
         | inr e ↦ of_object b c id arguments f.class f.now
-            (none_passed b c id position name_place name arguments f.class there inside part f.named e) e
+            (none_passed b c id position name_position name arguments f.class there inside part f.named e) e
       ] in
       record {
         class = f.class;

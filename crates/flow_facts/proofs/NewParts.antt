@@ -41,10 +41,10 @@ second_false false b e h = e
 -- `new` of a form's class, with so many arguments
 pub record NewPart (p : Declarations) (class count x : ℕ) : Type 0 where
   pub position : Pos
-  pub name_place : Pos
+  pub name_position : Pos
   pub name : List ℕ
   pub list : List ℕ
-  pub is_there : slice_get p.nodes x ≡ Some (New position name_place name list)
+  pub is_there : slice_get p.nodes x ≡ Some (New position name_position name list)
   pub names : class_number p.names name ≡ Some class
   pub counted : length list ≡ count
 
@@ -52,14 +52,14 @@ module _ (p : Declarations) where
   part_of_node : (class count x : ℕ) (node : Node) (list : List ℕ) → slice_get p.nodes x ≡ Some node →
       new_of p class count node ≡ Some list → (n : NewPart p class count x) × (n.list ≡ list)
   unfolding new_of
-  part_of_node class count x (New position name_place name own) list there e =
+  part_of_node class count x (New position name_position name own) list there e =
       let a = if_some (holds (class_number p.names name) (λ c. c == class) && (length own == count)) (Some own) list e
       in
       let b = and_true (holds (class_number p.names name) (λ c. c == class)) (length own == count) a.0 in
       let c = held (class_number p.names name) (λ c. c == class) b.0 in (
         record {
           position = position;
-          name_place = name_place;
+          name_position = name_position;
           name = name;
           list = own;
           is_there = there;

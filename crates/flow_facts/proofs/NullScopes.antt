@@ -172,7 +172,7 @@ module _ (forest : Forest) (accepted : IsAccepted forest) (whole : IsForest fore
         binary_not p.classes operator a.0 b.0 b.2
     expression_not id (Unary position operator operand) k n e =
         (let a = of_option (types operand) (unary_type operator) NullTy e in unary_not operator a.0 a.2)
-    expression_not id (Cast position name_place name operand) k n e =
+    expression_not id (Cast position name_position name operand) k n e =
         (let a = of_option (types operand) (λ t. option_map (λ class. ClassTy class) (class_number p.names name)) NullTy e
         in class_named_not (class_number p.names name) a.2)
     expression_not id (FieldAccess position name object) k n e =
@@ -185,7 +185,7 @@ module _ (forest : Forest) (accepted : IsAccepted forest) (whole : IsForest fore
     expression_not id (Element position array index) k n e =
         let a = of_option (types array) (λ a. option_and_then (λ i. element_type a) (types index)) NullTy e in
         let b = of_option (types index) (λ i. element_type a.0) NullTy a.2 in element_not a.0 b.2
-    expression_not id (New position name_place name arguments) k n e =
+    expression_not id (New position name_position name arguments) k n e =
         if_not _ None (option_and_then (λ ts. option_map (λ class. ClassTy class) (class_number p.names name))
         (all_types types arguments)) none_not
         (λ e.

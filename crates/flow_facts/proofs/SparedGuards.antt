@@ -95,18 +95,18 @@ module _ (forest : Forest) (accepted : IsAccepted forest) (whole : IsForest fore
         by_meaning (a_class class) e = absurd (cc (e))
         by_meaning nothing e = absurd (cc (e))
 
-    pub assignment_spares : (b c id target value n v : ℕ) (place place2 : Pos) (name : List ℕ) →
+    pub assignment_spares : (b c id target value n v : ℕ) (place position2 : Pos) (name : List ℕ) →
         slice_get p.nodes id ≡ Some (Assign place target value) →
-        slice_get forest.nodes target ≡ Some (SimpleName place2 name) → Inside p b c target →
+        slice_get forest.nodes target ≡ Some (SimpleName position2 name) → Inside p b c target →
         binding_at_node p target ≡ LocalVariable n → slice_get (variables_of p b) n ≡ Some v → SparesGuards code id v
     unfolding guard_at assigned_by declarations_of
-    assignment_spares b c id target value n v place place2 name there named inside bound stands number guard among is =
+    assignment_spares b c id target value n v place position2 name there named inside bound stands number guard among is =
         by_asked (asked_at p (type_at_node p) number) is
       where
         assigned : assigned_at p id ≡ Some (the_variable v)
         assigned =
             ap (option_and_then (assigned_by p)) there
-            ∙ subject_bound b c target n v place2 name named inside bound stands
+            ∙ subject_bound b c target n v position2 name named inside bound stands
 
         numbered : Element id (numbers_from 0 p.nodes)
         numbered =

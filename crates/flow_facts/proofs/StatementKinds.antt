@@ -42,8 +42,8 @@ module _ (forest : Forest) (accepted : IsAccepted forest) (whole : IsForest fore
   by_kind b c sig id (EmptyStatement position) body inside there e = tt
   by_kind b c sig id (LocalNode position name flags declared_type) body inside there e =
       local_fact forest accepted whole sorted b c id declared_type position name flags there inside (spares id)
-  by_kind b c sig id (LocalWithValue position name_place name flags declared_type value) body inside there e =
-      initial_value_fact forest accepted whole sorted b c id value declared_type position name_place name flags there
+  by_kind b c sig id (LocalWithValue position name_position name flags declared_type value) body inside there e =
+      initial_value_fact forest accepted whole sorted b c id value declared_type position name_position name flags there
       inside (spares id)
   by_kind b c sig id (Assign position target value) body inside there e =
       assign_fact forest accepted whole sorted b c id target value position there inside

@@ -16,7 +16,7 @@ use Rattle.scj_rules.specs.declared.typing.Ty.TheVariants.{Void}
 use Rattle.scj_rules.specs.declared.views.Declared.{Declared}
 use Rattle.scj_rules.specs.declared.views.WrittenType.TheVariants.{Void as void_type}
 use Rattle.scj_rules.specs.Words.{broken, found_at}
-use Rattle.scj_rules.specs.Views.{place_at}
+use Rattle.scj_rules.specs.Views.{position_at}
 use Rattle.scj_rules.specs.CheckedProgram.{IsReadFromTexts}
 use Rattle.scj_rules.specs.Classes.{FoundMethod, method_named, method_number}
 use Rattle.scj_rules.specs.ClassRules.{is_same_type}
@@ -74,8 +74,8 @@ unfolding misfit_arguments
 misfits_same p scopes s r e [] xs = refl
 misfits_same p scopes s r e (d ∷ ds) [] = refl
 misfits_same p scopes s r e (d ∷ ds) (x ∷ xs) =
-    ap (λ o. broken (misfit_scope (scopes x) o) E3 (place_at p.nodes x) ++ misfit_arguments p scopes s ds xs) (e d)
-    ∙ ap (λ found. broken (misfit_scope (scopes x) (r d)) E3 (place_at p.nodes x) ++ found)
+    ap (λ o. broken (misfit_scope (scopes x) o) E3 (position_at p.nodes x) ++ misfit_arguments p scopes s ds xs) (e d)
+    ∙ ap (λ found. broken (misfit_scope (scopes x) (r d)) E3 (position_at p.nodes x) ++ found)
     (misfits_same p scopes s r e ds xs)
 
 void_none : (home now : Scope) (s : Option Scope) → seen_option home now (kind_of (Some Void) s) ≡ None

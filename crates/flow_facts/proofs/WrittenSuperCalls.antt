@@ -62,21 +62,21 @@ module _ (forest : Forest) (accepted : IsAccepted forest) (whole : IsForest fore
   call_node call _ there e = absurd (true≢false (sym e))
 
   -- the constructor of the class, with its super call
-  written_constructor : (b c call : ℕ) (position place2 : Pos) (name arguments : List ℕ) (flags parameters : Option ℕ)
+  written_constructor : (b c call : ℕ) (position position2 : Pos) (name arguments : List ℕ) (flags parameters : Option ℕ)
       (body : ℕ) → slice_get nodes b ≡ Some (Constructor position name flags parameters (Some call) body) →
-      slice_get nodes call ≡ Some (SuperCall place2 arguments) → Member b c → (context p b).class ≡ Some c
+      slice_get nodes call ≡ Some (SuperCall position2 arguments) → Member b c → (context p b).class ≡ Some c
       → (con : DeclaredConstructor) × (constructor_in p.classes c ≡ Some con) × (con.super_call ≡ Some arguments)
   unfolding constructor_of super_arguments declarations_of
-  written_constructor b c call position place2 name arguments flags parameters body there at m class = (
+  written_constructor b c call position position2 name arguments flags parameters body there at m class = (
     _,
     one_constructor forest accepted whole sorted b c _ (ap (option_and_then (constructor_of nodes b)) there) m
         class,
     ap (option_and_then super_arguments) at,
   )
 
-  module _ (b c call : ℕ) (sig : Signature) (position place2 : Pos) (name arguments : List ℕ) (flags parameters : Option ℕ)
+  module _ (b c call : ℕ) (sig : Signature) (position position2 : Pos) (name arguments : List ℕ) (flags parameters : Option ℕ)
       (body : ℕ) (there : slice_get nodes b ≡ Some (Constructor position name flags parameters (Some call) body))
-      (at : slice_get nodes call ≡ Some (SuperCall place2 arguments))
+      (at : slice_get nodes call ≡ Some (SuperCall position2 arguments))
       (m : Member b c) (class : (context p b).class ≡ Some c) (home : this_in p c ≡ Some sig.runs_in) where
     abbrev node : Node
     node = Constructor position name flags parameters (Some call) body
@@ -93,7 +93,7 @@ module _ (forest : Forest) (accepted : IsAccepted forest) (whole : IsForest fore
         let e = child_context_is forest whole b call node there among in
         let none = no_class_number forest whole b node there (member_no_class node refl) in
         record {
-          here = (SuperCall place2 arguments, at);
+          here = (SuperCall position2 arguments, at);
           class = ap (λ (c : Context). c.class) e ∙ ap (λ (o : Option ℕ). or_else o (context p b).class) none ∙ class;
           member = ap (λ (c : Context). c.member) e;
         }
@@ -102,7 +102,7 @@ module _ (forest : Forest) (accepted : IsAccepted forest) (whole : IsForest fore
     s = has_super forest accepted whole sorted is_read c m.k m.at
 
     facts : SuperCallFacts p b c call s.superclass arguments
-    facts = super_call_facts forest accepted whole sorted b c call s.superclass place2 arguments at inside
+    facts = super_call_facts forest accepted whole sorted b c call s.superclass position2 arguments at inside
         (ap (option_and_then (superclass_in p.classes)) inside.class ∙ s.up)
 
     user_part : is_user_class s.superclass ≡ true → SuperCallFact code b c sig call arguments s.superclass
@@ -128,14 +128,14 @@ module _ (forest : Forest) (accepted : IsAccepted forest) (whole : IsForest fore
     form_part_of form =
         let parts = form_there forest accepted whole sorted is_read c m.k s.superclass m.at s.up form in
         let f = form_of forest whole accepted c parts.0 parts.1 in
-        let con = written_constructor b c call position place2 name arguments flags parameters body there at m class in
+        let con = written_constructor b c call position position2 name arguments flags parameters body there at m class in
         let one : f.constructor ≡ con.0 = some_inj f.constructor con.0 (sym f.is_constructor ∙ con.1) in
         let same : f.arguments ≡ arguments =
         some_inj f.arguments arguments (sym f.are_arguments ∙ ap (λ (c : DeclaredConstructor). c.super_call) one
         ∙ con.2) in
         let up : f.superclass ≡ s.superclass = some_inj f.superclass s.superclass (sym f.is_superclass ∙ s.up) in
         form_fact forest accepted whole sorted b c call s.superclass arguments parts.0 s.within s.up form
-        (record { position = place2; is_there = at; inside = inside; form = parts.1 })
+        (record { position = position2; is_there = at; inside = inside; form = parts.1 })
         (ap (λ n. form_parts p n arguments) (sym up) ∙ ap (form_parts p f.superclass) (sym same) ∙ f.parts_are)
 
     pub written_super_fact : WrittenSuperFact code b c sig call
@@ -143,12 +143,12 @@ module _ (forest : Forest) (accepted : IsAccepted forest) (whole : IsForest fore
     written_super_fact =
         record {
           smaller = child-less forest whole b call node there among;
-          position = place2;
+          position = position2;
           arguments = arguments;
           is_there = at;
           are_smaller =
               smaller forest accepted whole sorted call arguments
-              (λ e a. child-less forest whole call e (SuperCall place2 arguments) at a);
+              (λ e a. child-less forest whole call e (SuperCall position2 arguments) at a);
           known = member_child_known forest accepted whole sorted b call node there refl among refl;
           super_fact =
               record {

@@ -90,18 +90,18 @@ module _ (code : Code) (facts : Facts code) (limits : Limits code) (b c : ℕ) (
   same_below id [] l = refl
   same_below id (x ∷ xs) l = cc (below_lt [] id (ops_of code) x l.0, same_below id xs l.1)
 
-  form_ops : (x : ℕ) (position name_place : Pos) (name xs : List ℕ) →
-      slice_get code.program.nodes x ≡ Some (New position name_place name xs) → binding code x ≡ Plain → AreSmaller x xs →
+  form_ops : (x : ℕ) (position name_position : Pos) (name xs : List ℕ) →
+      slice_get code.program.nodes x ≡ Some (New position name_position name xs) → binding code x ≡ Plain → AreSmaller x xs →
       ops_of code x ≡ flat_map (ops_of code) xs
   unfolding node_ops new_ops
-  form_ops x position name_place name xs there plain l =
+  form_ops x position name_position name xs there plain l =
       ops_at code x _ there
       ∙ ap (λ (y : Binding). new_ops (below [] x (ops_of code)) x xs y) plain ∙ same_below x xs l
 
-  form_low : (x : ℕ) (position name_place : Pos) (name xs : List ℕ) →
-      slice_get code.program.nodes x ≡ Some (New position name_place name xs) → H x ≤ 64 → AllLow xs
+  form_low : (x : ℕ) (position name_position : Pos) (name xs : List ℕ) →
+      slice_get code.program.nodes x ≡ Some (New position name_position name xs) → H x ≤ 64 → AllLow xs
   unfolding weight children
-  form_low x position name_place name xs there l =
+  form_low x position name_position name xs there l =
       all_low xs (let e = height_at code.program limits.behind x _ there in omega (arith, e, l))
 
   module _ (known : List ℕ) where
@@ -110,9 +110,9 @@ module _ (code : Code) (facts : Facts code) (limits : Limits code) (b c : ℕ) (
           B (ops_of code x) d (more n d)
       numbers_bring x _ (one_number inside judged set) l d m =
           value_brings code b c sig body facts limits x (Some number) inside judged d (omega (arith, l, m))
-      numbers_bring _ _ (form_part {x} {n} {position} {name_place} {name} {xs} there plain less all) l d m =
-          subst (λ ys. Brings code ys d (more n d)) (sym (form_ops x position name_place name xs there plain less))
-          (all_numbers_bring xs n all (form_low x position name_place name xs there l) d m)
+      numbers_bring _ _ (form_part {x} {n} {position} {name_position} {name} {xs} there plain less all) l d m =
+          subst (λ ys. Brings code ys d (more n d)) (sym (form_ops x position name_position name xs there plain less))
+          (all_numbers_bring xs n all (form_low x position name_position name xs there l) d m)
 
       all_numbers_bring : (xs : List ℕ) (n : ℕ) → AllNumbers code b c known xs n → AllLow xs → (d : ℕ) →
           d + n ≤ 64 → B (flat_map (ops_of code) xs) d (more n d)

@@ -93,18 +93,18 @@ module _ (code : Code) (at : Place code) (o : Option Kind) where
       (binary_brings code at o position operator left right _ _ there
       (all_roomy code at (left ∷ right ∷ []) (roomy code at _ (height_at code.program at.limits.behind id _ there)))
       f.left_is f.right_is)
-  node_brings (New position name_place name xs) there i j f =
+  node_brings (New position name_position name xs) there i j f =
       let r = roomy code at (highest H xs) (height_at code.program at.limits.behind id _ there) in
       let same = as_many code.program b c id xs f.kinds f.arguments_are in
       let fit = as_many_fit code.program sig.runs_in sig.runs_in f.kinds f.constructor.sig.takes f.constructor.fit in
       let few = at.limits.takes f.constructor.body f.class f.constructor.sig f.constructor.runs in
       done code at _ o _ f.is_given
-      (new_brings code at o position name_place name xs f.class f.kinds there (all_roomy code at xs r)
+      (new_brings code at o position name_position name xs f.class f.kinds there (all_roomy code at xs r)
       (less_roomy code at 0 (highest H xs) (omega arith) r) f.is f.arguments_are (omega (arith, same, fit, few)))
   node_brings (NewArray position element count) there i j f =
       let r = all_roomy code at (element ∷ count ∷ []) (roomy code at _ (height_at code.program at.limits.behind id _ there)) in
       done code at _ o _ f.is_given (one_brings code at o count _ (ALLOCARRAY id) r.1.0 f.count_is tt)
-  node_brings (Cast position name_place name operand) there i j f =
+  node_brings (Cast position name_position name operand) there i j f =
       done code at _ o _ f.is_given
       (one_brings code at o operand _ (CAST id) (one_roomy code at operand (height_at code.program at.limits.behind id _ there))
       f.operand_is tt)

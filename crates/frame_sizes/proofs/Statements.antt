@@ -145,7 +145,7 @@ module _ (code : Code) (at : Place code) where
   statement_brings (EmptyStatement position) there f = brings_none code d
   statement_brings (LocalNode position name flags declared_type) there f =
       brings_op code (ZERO id) d (let l = at.room in omega (arith, l)) tt
-  statement_brings (LocalWithValue position name_place name flags declared_type x) there f =
+  statement_brings (LocalWithValue position name_position name flags declared_type x) there f =
       taken_bring x _ (STORE id)
       (local_roomy flags (height_at code.program at.limits.behind id _ there)) f.fits.value_is tt refl
     where

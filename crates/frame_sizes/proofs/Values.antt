@@ -124,15 +124,15 @@ module _ (code : Code) (at : Place code) (o : Option Kind) where
       go false true = one_brings left j (OR id) r.0 h asks
       go false false = two_brings left right j k (BIN id) r h i tt
 
-  pub new_brings : (position name_place : Pos) (name xs : List ℕ) (class : ℕ) (ks : List Kind) →
-      slice_get code.program.nodes id ≡ Some (New position name_place name xs) → AllRoomy code at xs → Roomy code at 0 →
+  pub new_brings : (position name_position : Pos) (name xs : List ℕ) (class : ℕ) (ks : List Kind) →
+      slice_get code.program.nodes id ≡ Some (New position name_position name xs) → AllRoomy code at xs → Roomy code at 0 →
       binding code id ≡ ClassNamed class → HaveValues code.program b c id xs ks → length xs ≤ 8 →
       B (new_ops sub id xs (binding code id)) d (suc d)
   unfolding new_ops after argument_count
-  new_brings position name_place name xs class ks there r z is h few =
+  new_brings position name_position name xs class ks there r z is h few =
       subst (λ (y : Binding). Brings code (new_ops sub id xs y) d (suc d)) (sym is)
       (subst (λ e. Brings code ((ALLOC id ∷ flat_map sub xs) ++ CONSTRUCT id ∷ []) d e)
-      (ap (λ n. dropped n (more (length xs) (suc d))) (counted code at (New position name_place name xs) (length xs) there refl)
+      (ap (λ n. dropped n (more (length xs) (suc d))) (counted code at (New position name_position name xs) (length xs) there refl)
       ∙ dropped_more (length xs) (suc d))
       (behind code (ALLOC id ∷ flat_map sub xs) (CONSTRUCT id) d (more (length xs) (suc d))
       (brings_then code (ALLOC id ∷ []) (flat_map sub xs) d (suc d) (more (length xs) (suc d))

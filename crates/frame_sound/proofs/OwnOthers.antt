@@ -11,7 +11,7 @@ use Rattle.scj_model.specs.Code.{Code}
 use Rattle.scj_model.specs.State.{Frame, Job, Object, State}
 use Rattle.scj_model.specs.Steps.{Step}
 use Rattle.scj_model.specs.Effects.{Effect, Goes, Prints, Makes, Stores, StoresStatic, SetsHidden, SetsCeiling, Calls, Opens, Leaves, AsksRegistration, AsksRelease, AsksTermination, Faults, Stuck}
-use Rattle.scj_model.specs.Run.{effect_at, frame_op, place_of_op}
+use Rattle.scj_model.specs.Run.{effect_at, frame_op, position_of_op}
 use Rattle.scope_flow.specs.Facts.{Facts}
 use Rattle.scope_flow.specs.Signatures.{Signature}
 use Rattle.scope_flow.specs.Slots.{array_type}
@@ -74,7 +74,7 @@ others_kept code facts rows s job base stands f below has step e =
     has_next code facts rows s job base stands f below has in
     let effect = effect_at code rows s f n.op n.rest in
     let waits = waits code facts rows s job base stands f below has in
-    let k = applied_keeps code s job stands.activity below (place_of_op code n.op) effect
+    let k = applied_keeps code s job stands.activity below (position_of_op code n.op) effect
     (stays_within code s (list_of base (f ∷ below)) waits.class waits.sig (record f { rest = n.rest }) below
     stands.activity.frames (ap opened_by has) (here code facts rows s job base stands f below has).heap effect
     (effect_is_fine code facts rows s job base stands f below has n.op n.rest n.is)) in

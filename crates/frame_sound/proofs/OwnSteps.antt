@@ -13,7 +13,7 @@ use Rattle.scj_model.specs.State.{Activity, Frame, Job, State, activity_of}
 use Rattle.scj_model.specs.Steps.{Step}
 use Rattle.scj_model.specs.Effects.{Effect, Goes, Prints, Makes, Stores, StoresStatic, SetsHidden, SetsCeiling, Calls, Opens, Leaves, AsksRegistration, AsksRelease, AsksTermination, Faults, Stuck}
 use Rattle.scj_model.specs.Apply.{applied}
-use Rattle.scj_model.specs.Run.{effect_at, environment, frame_op, place_of_op}
+use Rattle.scj_model.specs.Run.{effect_at, environment, frame_op, position_of_op}
 use Rattle.scope_flow.specs.Facts.{Facts}
 use Rattle.scope_flow.specs.Ways.{Course}
 use Rattle.scope_flow.specs.Needs.{pushed}
@@ -130,19 +130,19 @@ module _ (code : Code) (facts : Facts code) (rows : List ReadingRow) (s : State)
         go (op ∷ rest) e flow = record { op = op; rest = rest; is = e }
 
     pub op_is : (op : Op) (rest : List Op) → f.rest ≡ op ∷ rest → frame_op code rows s job activity
-        ≡ applied code s job activity below (place_of_op code op) (effect_at code rows s f op rest)
+        ≡ applied code s job activity below (position_of_op code op) (effect_at code rows s f op rest)
     unfolding frame_op
     op_is op rest e =
         ap (λ (fs : List Frame). elim fs as (λ z. Option Step) [
           | [] ↦ None
           | g ∷ gs ↦ elim g.rest as (λ z. Option Step) [
             | [] ↦ None
-            | op ∷ rest ↦ applied code s job activity gs (place_of_op code op) (effect_at code rows s g op rest)
+            | op ∷ rest ↦ applied code s job activity gs (position_of_op code op) (effect_at code rows s g op rest)
           ]
         ]) has
         ∙ ap (λ (ops : List Op). elim ops as (λ z. Option Step) [
           | [] ↦ None
-          | op ∷ rest ↦ applied code s job activity below (place_of_op code op) (effect_at code rows s f op rest)
+          | op ∷ rest ↦ applied code s job activity below (position_of_op code op) (effect_at code rows s f op rest)
         ]) e
 
     pub effect_is_fine : (op : Op) (rest : List Op) → f.rest ≡ op ∷ rest →
@@ -182,7 +182,7 @@ module _ (code : Code) (facts : Facts code) (rows : List ReadingRow) (s : State)
         g = record f { rest = n.rest }
 
         k : KeepsItsJob code s job activity base g below
-            (applied code s job activity below (place_of_op code n.op) (effect_at code rows s f n.op n.rest))
+            (applied code s job activity below (position_of_op code n.op) (effect_at code rows s f n.op n.rest))
         k =
             applied_kept code facts s job activity stands.is base g below
             (stands.is_list ∙ ap (list_of base) has) waits.class waits.sig ready.runs
@@ -194,7 +194,7 @@ module _ (code : Code) (facts : Facts code) (rows : List ReadingRow) (s : State)
               home = ready.home;
               under = here.frames_fine.2;
               on = here.frames_fine.3;
-            }) (place_of_op code n.op) (effect_at code rows s f n.op n.rest) (effect_is_fine n.op n.rest n.is)
+            }) (position_of_op code n.op) (effect_at code rows s f n.op n.rest) (effect_is_fine n.op n.rest n.is)
 
         either : JobGoesOn code s job base g below k.step.state
             ⊎ (((below ≡ []) × HasLeft code s job base g k.step.state) ⊎ HasFaulted code s job activity k.step) →

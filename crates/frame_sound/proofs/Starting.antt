@@ -5,7 +5,7 @@ use Rattle.std.proofs.lemmas.Bool.Decides.{nat_tests}
 use Rattle.scj_base.specs.declared.faults.RunFault.TheVariants.{StoreFull}
 use Rattle.scj_base.specs.declared.places.Pos.{Pos}
 use Rattle.scj_rules.specs.declared.views.Body.{Body}
-use Rattle.scj_rules.specs.Bodies.{body_named, class_place}
+use Rattle.scj_rules.specs.Bodies.{body_named, class_position}
 use Rattle.scj_rules.specs.ScopeRules.{defined_by_chain}
 use Rattle.scj_rules.specs.Words.{is_among, ◌>>=◌}
 use Rattle.scj_rules.specs.Classes.{is_sub}
@@ -141,7 +141,7 @@ module _ (code : Code) (facts : Facts code) (s : State) (index : ℕ) (r : Relea
       }
 
   abbrev at : Pos
-  at = class_place code.program row.class
+  at = class_position code.program row.class
 
   starts_with : Starts code s index row h (Some (started_with code s index row h.scope h.handled.body))
   unfolding started_with opening
@@ -199,14 +199,14 @@ start_keeps code s index r step e = by_row (handler_row s.registry r.handler) e
     by_room : (row : HandlerRow) (scope : ℕ) (a : Activity) (t : Bool) →
         KeepsOthers s (ReleaseAt index) [] (if t
         then silently (with_activity (with_area s scope (innermost s.activity.areas) row.bytes) (ReleaseAt index) a)
-        else fault_in s (ReleaseAt index) no_activity (class_place code.program row.class) StoreFull).state
+        else fault_in s (ReleaseAt index) no_activity (class_position code.program row.class) StoreFull).state
     by_room row scope a true =
         keeps_then s (ReleaseAt index) [] (with_area s scope (innermost s.activity.areas) row.bytes) _ (λ p e. e)
         (memory_keeps s (ReleaseAt index) [] _ s.objects s.statics
         (λ b x there. inl (get_left s.areas _ b x there)) (object_is s))
         (activity_keeps _ (ReleaseAt index) [] a)
     by_room row scope a false =
-        fault_keeps s (ReleaseAt index) no_activity (class_place code.program row.class) StoreFull
+        fault_keeps s (ReleaseAt index) no_activity (class_position code.program row.class) StoreFull
 
     by_body : (row : HandlerRow) (scope : ℕ) (o : Option Body) →
         o >>= (λ body. Some (started_with code s index row scope body)) ≡ Some step →

@@ -7,7 +7,7 @@ use Rattle.scj_rules.specs.declared.typing.Ty.{Ty}
 use Rattle.scj_rules.specs.declared.views.Declared.{Declared}
 use Rattle.scj_rules.specs.Classes.{hidden_fields, instance_fields}
 use Rattle.scj_rules.specs.Contexts.{Declarations}
-use Rattle.scj_rules.specs.Layout.{field_numbered, place_among, slot_of}
+use Rattle.scj_rules.specs.Layout.{field_numbered, index_among, slot_of}
 use Rattle.scj_rules.specs.Words.{◌>>=◌}
 use Rattle.scj_base.specs.declared.values.Value.{Value}
 use Rattle.scj_base.specs.declared.values.Value.TheVariants.{At}
@@ -51,7 +51,7 @@ slot_is_behind p class field slot e = go (field_numbered p field) e
 
     go : (o : Option Declared) →
         o >>= (λ (f : Declared). option_map (λ k. hidden_fields p.classes class + k)
-        (place_among (instance_fields p.classes class) f)) ≡ Some slot →
+        (index_among (instance_fields p.classes class) f)) ≡ Some slot →
         hidden_fields p.classes class ≤ slot
     go None g = absurd (cc (g))
-    go (Some f) g = counted (place_among (instance_fields p.classes class) f) g
+    go (Some f) g = counted (index_among (instance_fields p.classes class) f) g

@@ -2,7 +2,7 @@
 use Rattle.std.proofs.Common.{ℕ}
 use Rattle.std.proofs.lemmas.List.Elements.{All-set}
 use Rattle.scj_base.specs.declared.faults.RunFault.TheVariants.{ArrayIndex}
-use Rattle.scj_rules.specs.Layout.{kind_of_type, slot_of, static_place}
+use Rattle.scj_rules.specs.Layout.{kind_of_type, slot_of, static_index}
 use Rattle.scj_rules.specs.Views.{variable_at}
 use Rattle.scj_rules.specs.Words.{◌>>=◌}
 use Rattle.scj_model.specs.declared.operations.Op.{Op}
@@ -50,7 +50,7 @@ module _ (code : Code) (world : Environment) (f : Frame) (fits : FrameFits f) wh
   unfolding effect_of
   put_static_fits id =
       any_given (assigned code id >>= bound_static) _ (λ field e.
-      any_given (static_place code.program field) _ (λ place g.
+      any_given (static_index code.program field) _ (λ place g.
       any_pop f.operands _ fits.operands (λ v below hv hb. record { is = (frame_fits _ fits.locals hb, hv) })))
 
   pub put_elem_fits : (id : ℕ) → Does (PUTELEM id)

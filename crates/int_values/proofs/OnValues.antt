@@ -7,7 +7,7 @@ use Rattle.scj_base.specs.declared.faults.RunFault.TheVariants.{ArrayIndex, Nega
 use Rattle.scj_base.specs.declared.values.Value.{Value}
 use Rattle.scj_base.specs.declared.values.Value.TheVariants.{Int, Bool as Truth, Null, At}
 use Rattle.scj_rules.specs.Classes.{is_sub}
-use Rattle.scj_rules.specs.Layout.{slot_of, static_place, element_kind, literal_written}
+use Rattle.scj_rules.specs.Layout.{slot_of, static_index, element_kind, literal_written}
 use Rattle.scj_rules.specs.Words.{◌>>=◌}
 use Rattle.scj_model.specs.declared.operations.Op.{Op}
 use Rattle.scj_model.specs.declared.operations.Op.TheVariants.{Push as PUSH, This as THIS, Load as LOAD, Get as GET, GetStatic as GETSTATIC, Length as LENGTH, Elem as ELEM, Unary as UNARY, Bin as BIN, And as AND, Or as OR, Alloc as ALLOC, AllocArray as ALLOCARRAY, Cast as CAST, Init as INIT}
@@ -69,7 +69,7 @@ module _ (code : Code) (world : Environment) (known : Known code world) (f : Fra
   unfolding effect_of
   get_static_fits id =
       any_given (bound_static (binding code id)) _ (λ field e.
-      any_given (static_place code.program field) _ (λ index g.
+      any_given (static_index code.program field) _ (λ index g.
       any_given (slice_get world.statics index) _ (λ value there.
       goes_with _ fits.locals
       (more value f.operands (all_at FitsInt world.statics index value known.statics there) fits.operands))))

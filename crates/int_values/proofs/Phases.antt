@@ -17,7 +17,7 @@ use Rattle.scj_model.specs.Memory.{closed}
 use Rattle.scj_model.specs.Steps.{Step, for_each, silently, telling}
 use Rattle.scj_model.specs.Apply.{class_name_at, release_taken}
 use Rattle.scj_model.specs.Arrivals.{arrivals, due_handlers, executes_since, fired, fired_at, fired_handler, fires_due}
-use Rattle.scj_model.specs.Sequencer.{BeginsExecution, BeginsMission, ClosesMission, Continues, EndsExecution, LacksMission, LacksSequencer, SeqEffect, SkipsExecution, TakesMission, TakesSafelet, TakesSequencer, Transition, after_operation, goes_to, gone_to, has_started, innermost, phase_after, place_of_object, seq_applied, transition_done}
+use Rattle.scj_model.specs.Sequencer.{BeginsExecution, BeginsMission, ClosesMission, Continues, EndsExecution, LacksMission, LacksSequencer, SeqEffect, SkipsExecution, TakesMission, TakesSafelet, TakesSequencer, Transition, after_operation, goes_to, gone_to, has_started, innermost, phase_after, position_of_object, seq_applied, transition_done}
 use Rattle.int_values.specs.Ints.{PrintsInt, StateFits, StepFits}
 use Rattle.int_values.proofs.Applied.{fault_fits, taken_fits}
 use Rattle.int_values.proofs.Changes.{alike, closed_fits}
@@ -83,7 +83,7 @@ module _ (p : Declarations) where
     effect_fits s (TakesSafelet q) h = goes_on s _ _ h refl refl refl refl refl refl (All-nil PrintsInt)
     effect_fits s (TakesSequencer q) h = goes_on s _ _ h refl refl refl refl refl refl (All-nil PrintsInt)
     effect_fits s (TakesMission q) h = goes_on s _ _ h refl refl refl refl refl refl (All-nil PrintsInt)
-    effect_fits s (LacksSequencer q) h = fault_fits p s TheSequencer s.activity (place_of_object code s q) _ h
+    effect_fits s (LacksSequencer q) h = fault_fits p s TheSequencer s.activity (position_of_object code s q) _ h
     effect_fits s LacksMission h = record { state = h; events = one_event p (event.Done s.unit) tt }
     effect_fits s (BeginsMission q) h =
         record { state = h; events = one_event p (event.Mission s.unit (class_name_at code s q)) tt }

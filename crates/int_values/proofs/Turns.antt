@@ -4,7 +4,7 @@ use Rattle.std.specs.Prelude.{codes, slice_get}
 use Rattle.std.proofs.lemmas.List.Elements.{All-cons, All-head, All-nil, All-tail}
 use Rattle.scj_base.specs.declared.places.Pos.{Pos}
 use Rattle.scj_rules.specs.declared.views.Body.{Body}
-use Rattle.scj_rules.specs.Bodies.{body_named, class_place, constructor_body, safelet_class, size_of}
+use Rattle.scj_rules.specs.Bodies.{body_named, class_position, constructor_body, safelet_class, size_of}
 use Rattle.scj_rules.specs.ScopeRules.{defined_by_chain, immortal_scope}
 use Rattle.scj_rules.specs.Words.{holds, ◌>>=◌}
 use Rattle.scj_model.specs.declared.events.Event.TheVariants as event
@@ -21,7 +21,7 @@ use Rattle.scj_model.specs.Effects.{new_frame}
 use Rattle.scj_model.specs.Apply.{applied}
 use Rattle.scj_model.specs.Sequencer.{area_opened, body_called, innermost, method_called, safelet_made, sequencer_op}
 use Rattle.scj_model.specs.Choice.{Policy}
-use Rattle.scj_model.specs.Run.{acts, effect_at, environment, frame_op, is_same_turn, no_activity, place_of_op, ref_op, release_op_of, sequencer_turn, start_op, started_with, tell_turn, turn_acts, turn_taken, with_turn}
+use Rattle.scj_model.specs.Run.{acts, effect_at, environment, frame_op, is_same_turn, no_activity, position_of_op, ref_op, release_op_of, sequencer_turn, start_op, started_with, tell_turn, turn_acts, turn_taken, with_turn}
 use Rattle.int_values.specs.Ints.{FrameFits, PrintsInt, ReleaseFits, StateFits, StepFits}
 use Rattle.int_values.proofs.Applied.{SetsItsHidden, applied_fits, making_fits, opening_fits}
 use Rattle.int_values.proofs.Begins.{frame_begins, slots_fit}
@@ -52,11 +52,11 @@ module _ (code : Code) (rows : List ReadingRow) where
             GoodIf (StepFits code.program)
             (elim ops [
               | [] ↦ None
-              | op ∷ rest ↦ applied code s job a below (place_of_op code op) (effect_at code rows s f op rest)
+              | op ∷ rest ↦ applied code s job a below (position_of_op code op) (effect_at code rows s f op rest)
             ])
         acting f below frames one under [] k = nothing_good (StepFits code.program)
         acting f below frames one under (op ∷ rest) k =
-            applied_fits code.program code s h job a below under (place_of_op code op) (effect_at code rows s f op rest)
+            applied_fits code.program code s h job a below under (position_of_op code op) (effect_at code rows s f op rest)
             (operation_fits code (environment rows s) known (record f { rest = rest })
             (record { locals = one.locals; operands = one.operands }) op
             (promised.takes job a f below op rest is frames k)).is
@@ -69,7 +69,7 @@ module _ (code : Code) (rows : List ReadingRow) where
               | f
                   ∷ below ↦ elim f.rest [
                     | [] ↦ None
-                    | op ∷ rest ↦ applied code s job a below (place_of_op code op)
+                    | op ∷ rest ↦ applied code s job a below (position_of_op code op)
                         (effect_at code rows s f op rest)
                   ]
             ])
@@ -86,7 +86,7 @@ module _ (code : Code) (rows : List ReadingRow) where
         bind_good (StepFits code.program) (defined_by_chain code.program row.class) _ (λ scope g.
         bind_good (StepFits code.program) (body_named code.program row.class (codes "handleAsyncEvent")) _ (λ body k.
         some_good (StepFits code.program) _
-        (opening_fits code.program s (ReleaseAt n) no_activity (class_place code.program row.class) scope
+        (opening_fits code.program s (ReleaseAt n) no_activity (class_position code.program row.class) scope
         (innermost s.activity.areas) row.bytes _ h
         (λ t. silent_fits code.program _
         (active_fits code.program (with_area s scope (innermost s.activity.areas) row.bytes) (ReleaseAt n) _ t
@@ -167,11 +167,11 @@ module _ (code : Code) (rows : List ReadingRow) where
     op_fits OpenImmortal =
         bind_good (StepFits code.program) (safelet_class code.program) _ (λ class e.
         bind_good (StepFits code.program) (size_of code.program class) _ (λ bytes g.
-        some_good (StepFits code.program) _ (area_fits (class_place code.program class) immortal_scope bytes)))
+        some_good (StepFits code.program) _ (area_fits (class_position code.program class) immortal_scope bytes)))
     op_fits AllocSafelet =
         bind_good (StepFits code.program) (safelet_class code.program) _ (λ class e.
         bind_good (StepFits code.program) (innermost s.activity.areas) _ (λ area g.
-        some_good (StepFits code.program) _ (safelet_fits (class_place code.program class) class area)))
+        some_good (StepFits code.program) _ (safelet_fits (class_position code.program class) class area)))
     op_fits (ConstructSafelet r) =
         bind_good (StepFits code.program) (object_at s r) _ (λ o e.
         bind_good (StepFits code.program) (constructor_body code.program o.class) _ (λ body g. body_fits r body))
@@ -182,7 +182,7 @@ module _ (code : Code) (rows : List ReadingRow) where
         bind_good (StepFits code.program) (object_at s r) _ (λ o e.
         bind_good (StepFits code.program) (defined_by_chain code.program o.class) _ (λ scope g.
         bind_good (StepFits code.program) (size_of code.program o.class) _ (λ bytes k.
-        some_good (StepFits code.program) _ (area_fits (class_place code.program o.class) scope bytes))))
+        some_good (StepFits code.program) _ (area_fits (class_position code.program o.class) scope bytes))))
     op_fits (Initialize r) = method_fits r _
     op_fits (CleanUp r) = method_fits r _
     op_fits Execute = nothing_good (StepFits code.program)

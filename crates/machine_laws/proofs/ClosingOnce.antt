@@ -3,7 +3,7 @@ use Rattle.std.proofs.Common.{ap, append_assoc, subst, sym, ◌∙◌}
 use Rattle.std.specs.Prelude.{List, [], ◌++◌, ◌∷◌, ◌≡◌, ℕ}
 use Rattle.scj_base.specs.declared.places.Pos.{Pos}
 use Rattle.scj_tree.specs.Grammar.{BeginsFile, RefusedAt, Tree}
-use Rattle.scj_tree.specs.Lexemes.{Lexeme, place_of_lexeme}
+use Rattle.scj_tree.specs.Lexemes.{Lexeme, position_of_lexeme}
 use Rattle.scj_tree.specs.declared.nodes.Node.{Node}
 
 -- what begins a file begins with what begins one
@@ -62,4 +62,4 @@ pub one_place : (N : List Node) (i : List Lexeme) (p q : Pos) → RefusedAt N i 
 one_place N i p q r s =
     let e = agreed N r.before r.refused s.before s.refused r.begins s.begins r.ends s.ends
     (parted r.before r.refused r.behind s.before s.refused s.behind (sym r.whole ∙ s.whole)) in
-    sym r.place ∙ (ap place_of_lexeme e ∙ s.place)
+    sym r.place ∙ (ap position_of_lexeme e ∙ s.place)

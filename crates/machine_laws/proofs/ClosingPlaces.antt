@@ -10,7 +10,7 @@ use Rattle.machine_laws.proofs.Whole.{no_file_behind}
 use Rattle.parser_machine.specs.Machine.{answer, run, start, step}
 use Rattle.parser_machine.specs.States.{State}
 use Rattle.scj_tree.specs.Grammar.{BeginsFile, RefusedAt}
-use Rattle.scj_tree.specs.Lexemes.{Lexeme, place_of_lexeme}
+use Rattle.scj_tree.specs.Lexemes.{Lexeme, position_of_lexeme}
 use Rattle.scj_tree.specs.declared.nodes.Node.{Node}
 
 -- an answer and a run go over a run
@@ -58,7 +58,7 @@ unfolding run running_on
 stops i t first last e f = run_over i first (t ∷ []) ∙ (ap (λ r. running_on r (t ∷ [])) e ∙ ap (λ r. running_on r []) f)
 
 pub refused_at : (N : List Node) (before behind : List Lexeme) (t : Lexeme) (st : State) →
-    run (start N) before ≡ Some st → step st t ≡ None → RefusedAt N (before ++ t ∷ behind) (place_of_lexeme t)
+    run (start N) before ≡ Some st → step st t ≡ None → RefusedAt N (before ++ t ∷ behind) (position_of_lexeme t)
 refused_at N before behind t st e f = record {
   before = before;
   refused = t;

@@ -2,7 +2,7 @@
 
 ghost use Rattle.std.specs.Prelude.{◌≡◌, ◌++◌, ◌∷◌, [], ℕ, List, Some, None};
 ghost use Rattle.scj_tree.specs.declared.nodes.Node.{Node};
-ghost use Rattle.scj_tree.specs.Lexemes.{Lexeme, the_end, place_of_lexeme};
+ghost use Rattle.scj_tree.specs.Lexemes.{Lexeme, the_end, position_of_lexeme};
 ghost use Rattle.scj_tree.specs.Grammar.{Tree, BeginsFile, RefusedAt};
 ghost use Rattle.machine_laws.specs.ClosingEnds.{ReadWhole};
 ghost use Rattle.scj_base.specs.declared.places.Pos.{Pos};
@@ -19,7 +19,7 @@ pub fn each_run_begins_a_file()
 pub fn each_refusal_is_exact()
     ensures { (before : List Node) (taken behind : List Lexeme) (refused : Lexeme) (last : State) →
         run (start before) taken ≡ Some last → step last refused ≡ None →
-        RefusedAt before (taken ++ refused ∷ behind) (place_of_lexeme refused) }
+        RefusedAt before (taken ++ refused ∷ behind) (position_of_lexeme refused) }
 {}
 
 /// Where the machine takes a row with the end behind it, the row is a file, and nothing but its classes is put aside.

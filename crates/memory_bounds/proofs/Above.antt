@@ -19,7 +19,7 @@ use Rattle.scj_rules.specs.Words.{is_among, ◌>>=◌}
 use Rattle.scj_rules.specs.Views.{variable_at}
 use Rattle.scj_rules.specs.Classes.{is_sub, superclasses, instance_fields}
 use Rattle.scj_rules.specs.ScopeRules.{defined_by_chain}
-use Rattle.scj_rules.specs.Layout.{kind_of_type, literal_written, slot_of, static_place, element_kind}
+use Rattle.scj_rules.specs.Layout.{kind_of_type, literal_written, slot_of, static_index, element_kind}
 use Rattle.scj_rules.specs.Bodies.{body_named, body_of, constructor_body}
 use Rattle.scj_model.specs.declared.operations.Op.{Op}
 use Rattle.scj_model.specs.declared.operations.Op.TheVariants.{Push as PUSH, This as THIS, Load as LOAD, Get as GET, GetStatic as GETSTATIC, Length as LENGTH, Elem as ELEM, Unary as UNARY, Bin as BIN, And as AND, Or as OR, Alloc as ALLOC, Construct as CONSTRUCT, AllocArray as ALLOCARRAY, Call as CALL, CallStatic as CALLSTATIC, Cast as CAST, Enter as ENTER, ExecuteIn as EXECUTEIN, Same as SAME, SetCeiling as SETCEILING, Print as PRINT, Read as READ, Register as REGISTER, Release as RELEASE, Terminate as TERMINATE, Zero as ZERO, Store as STORE, Put as PUT, PutStatic as PUTSTATIC, PutElem as PUTELEM, If as IF, Loop as LOOP, LeaveWith as LEAVEWITH, Leave as LEAVE, Drop as DROP, Init as INIT, Super as SUPER, Params as PARAMS}
@@ -446,7 +446,7 @@ module _ (u : ℕ) (under : List Value) (this : Option ℕ) where
       get_static_lacks : Kept u under this 0 top → Spares u under this (get_static_op code world top id)
       get_static_lacks self =
           with_given (bound_static (binding code id)) _ (λ field e.
-          with_given (static_place code.program field) _ (λ place q.
+          with_given (static_index code.program field) _ (λ place q.
           with_given (slice_get world.statics place) _ (λ v t.
           pushing top v self (got u world.statics place v statics t))))
 
@@ -641,7 +641,7 @@ module _ (u : ℕ) (under : List Value) (this : Option ℕ) where
       put_static_lacks : Kept u under this 1 top → Spares u under this (put_static_op code top id)
       put_static_lacks self =
           with_given (assigned code id >>= bound_static) _ (λ field e.
-          with_given (static_place code.program field) _ (λ place q.
+          with_given (static_index code.program field) _ (λ place q.
           with_pop 0 top _ self (λ v n f l. static_stored f place v l n)))
 
       put_elem_lacks : Kept u under this 3 top → Spares u under this (put_elem_op world top)

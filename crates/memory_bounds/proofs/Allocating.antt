@@ -76,11 +76,11 @@ module _ (code : Code) (facts : Facts code) (bare : ClassesAskNothing code) (Inn
     abbrev Result : Type 0
     Result = (this : Option ℕ) → (this ≡ Some u → ⊥) → Pending code Inner OnWay u this rest (put (Exactly (At u)) s)
 
-    of_fact : (position name_place : _) (name xs : List ℕ) →
-        slice_get code.program.nodes id ≡ Some (New position name_place name xs) → begins.arguments ≡ xs →
+    of_fact : (position name_position : _) (name xs : List ℕ) →
+        slice_get code.program.nodes id ≡ Some (New position name_position name xs) → begins.arguments ≡ xs →
         NewFact code b c sig id xs (Some kind) → Result
     unfolding argument_count
-    of_fact position name_place name xs there are r this other = record {
+    of_fact position name_position name xs there are r this other = record {
       front = flat_map (ops_of code) xs;
       last = CONSTRUCT id;
       more = begins.more;
@@ -109,8 +109,8 @@ module _ (code : Code) (facts : Facts code) (bare : ClassesAskNothing code) (Inn
     of_node : (node : Node) → slice_get code.program.nodes id ≡ Some node → made_with node ≡ Some begins.arguments →
         ExpressionFact code b c sig id node (Some kind) → Result
     unfolding made_with ExpressionFact
-    of_node (New position name_place name xs) there e r =
-        of_fact position name_place name xs there (let same : begins.arguments ≡ xs = cc (e) in same) r
+    of_node (New position name_position name xs) there e r =
+        of_fact position name_position name xs there (let same : begins.arguments ≡ xs = cc (e) in same) r
     of_node _ there e r = absurd (cc (e))
 
     pub pending_begins : Result

@@ -10,7 +10,7 @@ use Rattle.scj_rules.specs.declared.views.Body.{Body}
 use Rattle.scj_rules.specs.Words.{◌>>=◌}
 use Rattle.scj_rules.specs.Classes.{is_sub}
 use Rattle.scj_rules.specs.ScopeRules.{immortal_scope, defined_by_chain, is_handler, parent_scope}
-use Rattle.scj_rules.specs.Bodies.{body_named, constructor_body, size_of, safelet_class, class_place}
+use Rattle.scj_rules.specs.Bodies.{body_named, constructor_body, size_of, safelet_class, class_position}
 use Rattle.accepted_laws.proofs.Tools.{some_inj}
 use Rattle.scj_model.specs.declared.events.Event.{Event}
 use Rattle.scj_model.specs.declared.events.Event.TheVariants.{Miss}
@@ -29,10 +29,10 @@ use Rattle.scj_model.specs.Registry.{handler_row}
 use Rattle.scj_model.specs.Steps.{Step, silently, telling, allocating, opening, fault_in, for_each, then_try}
 use Rattle.scj_model.specs.Effects.{new_frame}
 use Rattle.scj_model.specs.Apply.{applied, release_taken}
-use Rattle.scj_model.specs.Sequencer.{innermost, done, area_opened, safelet_made, body_called, method_called, sequencer_op, SeqEffect, Continues, TakesSafelet, TakesSequencer, TakesMission, LacksSequencer, LacksMission, BeginsMission, BeginsExecution, SkipsExecution, EndsExecution, ClosesMission, Transition, gone_to, mission_closed, seq_applied, transition_done, after_operation, after_execution, has_started, goes_to, phase_after, place_of_object}
+use Rattle.scj_model.specs.Sequencer.{innermost, done, area_opened, safelet_made, body_called, method_called, sequencer_op, SeqEffect, Continues, TakesSafelet, TakesSequencer, TakesMission, LacksSequencer, LacksMission, BeginsMission, BeginsExecution, SkipsExecution, EndsExecution, ClosesMission, Transition, gone_to, mission_closed, seq_applied, transition_done, after_operation, after_execution, has_started, goes_to, phase_after, position_of_object}
 use Rattle.scj_model.specs.Arrivals.{arrivals, executes_since, fired, fired_at, fired_handler, due_handlers, fires_due}
 use Rattle.scj_model.specs.Choice.{Policy, by_list}
-use Rattle.scj_model.specs.Run.{acts, effect_at, empty_state, environment, frame_op, next_unit, no_activity, place_of_op, ref_op, release_op_of, sequencer_turn, start_op, started_with, turn_acts, turn_taken, with_turn}
+use Rattle.scj_model.specs.Run.{acts, effect_at, empty_state, environment, frame_op, next_unit, no_activity, position_of_op, ref_op, release_op_of, sequencer_turn, start_op, started_with, turn_acts, turn_taken, with_turn}
 use Rattle.scj_model.specs.Reached.{Moment, Arrived, Reached, at_first, on_arrival, on_operation, on_phase}
 use Rattle.scj_model.proofs.Reaching.{reached_keeps}
 use Rattle.scope_flow.specs.Signatures.{IsConcrete, IsEntered}
@@ -147,11 +147,11 @@ module _ (code : Code) (Q : ℕ → ℕ → Type 0) (with_all : OpenedWith code 
     sequencer_leads OpenImmortal is =
         any_leads (safelet_class code.program) _ (λ class e.
         any_leads (size_of code.program class) _ (λ bytes k.
-        leads _ (opened (class_place code.program class) immortal_scope bytes (with_all.immortal class bytes e k))))
+        leads _ (opened (class_position code.program class) immortal_scope bytes (with_all.immortal class bytes e k))))
     sequencer_leads AllocSafelet is =
         any_leads (safelet_class code.program) _ (λ class e.
         any_leads (innermost s.activity.areas) _ (λ area k.
-        leads _ (made (class_place code.program class) class area)))
+        leads _ (made (class_position code.program class) class area)))
     sequencer_leads (ConstructSafelet r) is =
         any_leads (object_at s r) _ (λ o e.
         any_leads (constructor_body code.program o.class) _ (λ body k. called_body r body))
@@ -162,7 +162,7 @@ module _ (code : Code) (Q : ℕ → ℕ → Type 0) (with_all : OpenedWith code 
         any_leads (object_at s r) _ (λ o e.
         any_leads (defined_by_chain code.program o.class) _ (λ scope k.
         any_leads (size_of code.program o.class) _ (λ bytes l.
-        leads _ (opened (class_place code.program o.class) scope bytes (mission_opened r is o e scope bytes k l)))))
+        leads _ (opened (class_position code.program o.class) scope bytes (mission_opened r is o e scope bytes k l)))))
     sequencer_leads (Initialize r) is = called_method r (codes "initialize")
     sequencer_leads (CleanUp r) is = called_method r (codes "cleanUp")
     sequencer_leads Execute is = none_leads
@@ -183,11 +183,11 @@ module _ (code : Code) (Q : ℕ → ℕ → Type 0) (with_all : OpenedWith code 
 
         go : (b : Bool) → Has Q store (if b
             then silently (with_activity (with_area s scope (innermost s.activity.areas) row.bytes) (ReleaseAt place) a)
-            else fault_in s (ReleaseAt place) no_activity (class_place code.program row.class) StoreFull).state
+            else fault_in s (ReleaseAt place) no_activity (class_position code.program row.class) StoreFull).state
         go true =
             acts_on Q store (with_area s scope (innermost s.activity.areas) row.bytes) (ReleaseAt place) a
             (opened_more Q store s scope (innermost s.activity.areas) row.bytes q held)
-        go false = faulted Q store s (ReleaseAt place) no_activity (class_place code.program row.class) StoreFull held
+        go false = faulted Q store s (ReleaseAt place) no_activity (class_position code.program row.class) StoreFull held
 
     handler_opens : (h : ℕ) (row : HandlerRow) → handler_row s.registry h ≡ Some row → (scope : ℕ) →
         defined_by_chain code.program row.class ≡ Some scope → Q scope row.bytes
@@ -221,7 +221,7 @@ module _ (code : Code) (Q : ℕ → ℕ → Type 0) (with_all : OpenedWith code 
         still Q store s (record s { mission = Some r; is_end_asked = false; earlier_releases = length s.releases }) refl
         refl held
     effect_leads (LacksSequencer safelet) =
-        faulted Q store s TheSequencer s.activity (place_of_object code s safelet) NullPointer held
+        faulted Q store s TheSequencer s.activity (position_of_object code s safelet) NullPointer held
     effect_leads LacksMission = held
     effect_leads (BeginsMission r) = held
     effect_leads BeginsExecution =
@@ -307,7 +307,7 @@ module _ (code : Code) (Q : ℕ → ℕ → Type 0) (with_all : OpenedWith code 
             | [] ↦ None
             | f ∷ below ↦ elim f.rest [
               | [] ↦ None
-              | op ∷ rest ↦ applied code s job activity below (place_of_op code op) (effect_at code rows s f op rest)
+              | op ∷ rest ↦ applied code s job activity below (position_of_op code op) (effect_at code rows s f op rest)
             ]
           ])
       next_leads [] e fine = none_leads
@@ -321,11 +321,11 @@ module _ (code : Code) (Q : ℕ → ℕ → Type 0) (with_all : OpenedWith code 
 
           next : (ops : List Op) → f.rest ≡ ops → Lead (elim ops as (λ z. Option Step) [
             | [] ↦ None
-            | op ∷ rest ↦ applied code s job activity below (place_of_op code op) (effect_at code rows s f op rest)
+            | op ∷ rest ↦ applied code s job activity below (position_of_op code op) (effect_at code rows s f op rest)
           ])
           next [] r = none_leads
           next (op ∷ rest) r = record {
-            is = effect_has Q store code s job activity (place_of_op code op) below held (effect_at code rows s f op rest)
+            is = effect_has Q store code s job activity (position_of_op code op) below held (effect_at code rows s f op rest)
                 (λ h g scope bytes q.
                 (let x = (subst (EffectIsFine code (world_of s) (list_of (areas_of i.base) (f ∷ below)) fine.0.class
                 fine.0.sig (record f { rest = rest })) q

@@ -5,7 +5,7 @@ use Rattle.std.proofs.lemmas.Bool.Decides.{nat_tests}
 use Rattle.std.proofs.lemmas.Option.{slice_get_within}
 use Rattle.scj_base.specs.declared.faults.RunFault.TheVariants.{StoreFull}
 use Rattle.scj_rules.specs.Words.{◌>>=◌}
-use Rattle.scj_rules.specs.Bodies.{class_place}
+use Rattle.scj_rules.specs.Bodies.{class_position}
 use Rattle.scj_rules.specs.Layout.{size_with_slots}
 use Rattle.scj_rules.specs.declared.views.Body.{Body}
 use Rattle.accepted_laws.proofs.Lists.{get_left, get_last}
@@ -92,6 +92,6 @@ module _ (code : Code) (table : Table) (bound : IsBound code table) (s : State) 
 
       stored : (c : Bool) → BoundedAfter code table index
           (if c then silently (with_activity t (ReleaseAt index) a)
-          else fault_in s (ReleaseAt index) no_activity (class_place code.program row.class) StoreFull)
+          else fault_in s (ReleaseAt index) no_activity (class_position code.program row.class) StoreFull)
       stored true = next
-      stored false = faults_with code table index s no_activity (class_place code.program row.class) StoreFull
+      stored false = faults_with code table index s no_activity (class_position code.program row.class) StoreFull

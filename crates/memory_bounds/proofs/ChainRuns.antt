@@ -3,7 +3,7 @@ use Rattle.std.specs.Prelude.{Option, Some, None, codes, slice_get, if◌then◌
 use Rattle.std.proofs.Common.{◌≡◌, ℕ, ◌==◌, List, [], ◌∷◌, ◌++◌, length, Bool, true, false, refl, sym, ◌∙◌, ap, subst, arith}
 use Rattle.std.proofs.lemmas.Bool.Decides.{nat_tests}
 use Rattle.scj_base.specs.declared.faults.RunFault.TheVariants.{StoreFull}
-use Rattle.scj_rules.specs.Bodies.{body_named, class_place}
+use Rattle.scj_rules.specs.Bodies.{body_named, class_position}
 use Rattle.scj_rules.specs.Words.{◌>>=◌}
 use Rattle.scj_rules.specs.declared.views.Body.{Body}
 use Rattle.accepted_laws.proofs.Lists.{get_last}
@@ -20,7 +20,7 @@ use Rattle.scj_model.specs.Memory.{has_store_for, with_area}
 use Rattle.scj_model.specs.Plan.{Plan}
 use Rattle.scj_model.specs.Reached.{Moment, Arrived, Reached}
 use Rattle.scj_model.specs.Registry.{handler_row}
-use Rattle.scj_model.specs.Run.{effect_at, no_activity, place_of_op, ref_op, started_with, turn_taken, with_turn}
+use Rattle.scj_model.specs.Run.{effect_at, no_activity, position_of_op, ref_op, started_with, turn_taken, with_turn}
 use Rattle.scj_model.specs.Sequencer.{innermost}
 use Rattle.scj_model.specs.State.{MemoryArea, Frame, Activity, Release, ReleaseStatus, Started, ReleaseAt, State, TurnOf, activity_in, activity_of, area_at, is_exec, with_activity}
 use Rattle.scj_model.specs.Steps.{Step, fault_in, opening, silently}
@@ -122,16 +122,16 @@ module _ (code : Code) (facts : Facts code) (behind : BehindChildren code.progra
     is_active = ap (λ (o : Option Release). o >>= (λ x. activity_in x.status)) there ∙ ap activity_in next.status
 
     pub operates : (step : Step) →
-        applied code s (ReleaseAt index) a below (place_of_op code op) (effect_at code rows s f op rest) ≡ Some step →
+        applied code s (ReleaseAt index) a below (position_of_op code op) (effect_at code rows s f op rest) ≡ Some step →
         LeavesOthers s step.state index → SameHandler step.state index r.handler → AreChained code step.state
     operates step does leaves same_handler =
         step_keeps code s step.state b index r.handler leaves same_handler
-        (effect_spares code (λ z. 0) s (ReleaseAt index) a (place_of_op code op) below f.area
+        (effect_spares code (λ z. 0) s (ReleaseAt index) a (position_of_op code op) below f.area
         (effect_at code rows s f op rest) puts step does).areas
         (λ w row e row_is.
         (let chain : Chain code s row (f ∷ below) =
         subst (Chain code s row) next.frames (b.is index (started_as r.handler a) row began row_is) in
-        (own_step code row index s a is_active (place_of_op code op) f below chain (exec_is_no_init s.phase exec)
+        (own_step code row index s a is_active (position_of_op code op) f below chain (exec_is_no_init s.phase exec)
         (effect_at code rows s f op rest) (links code facts behind rows s i held index r a f below op rest next).links step
         does).is w.activity (started_activity step.state index w e)))
 
@@ -169,7 +169,7 @@ module _ (code : Code) (facts : Facts code) (behind : BehindChildren code.progra
 
         of : (c : Bool) → After code row index
             (if c then silently (with_activity t (ReleaseAt index) a)
-            else fault_in s (ReleaseAt index) no_activity (class_place code.program row.class) StoreFull)
+            else fault_in s (ReleaseAt index) no_activity (class_position code.program row.class) StoreFull)
         of true = record {
           is = λ left e.
               (let is : activity_of (with_activity t (ReleaseAt index) a) (ReleaseAt index) ≡ Some a =
@@ -178,7 +178,7 @@ module _ (code : Code) (facts : Facts code) (behind : BehindChildren code.progra
               let same : a ≡ left = some_inj a left (sym is ∙ e) in
               subst (λ (z : Activity). Chain code (with_activity t (ReleaseAt index) a) row z.frames) same (lowest, tt));
         }
-        of false = faults_with code row index s no_activity (class_place code.program row.class) StoreFull
+        of false = faults_with code row index s no_activity (class_position code.program row.class) StoreFull
 
     pub starts : handler_row s.registry r.handler ≡ Some row →
         LeavesOthers s (started_with code s index row scope body).state index →

@@ -55,10 +55,10 @@ constructor_with (Constructor position name flags parameters call inner) id e =
 constructor_with _ id e = absurd (cc (e))
 
 only_new : (node : Node) (argument : ℕ) → only_argument node ≡ Some argument →
-    (position name_place : Pos) × (name : List ℕ) × (node ≡ New position name_place name (argument ∷ []))
+    (position name_position : Pos) × (name : List ℕ) × (node ≡ New position name_position name (argument ∷ []))
 unfolding only_argument
-only_new (New position name_place name (x ∷ [])) argument e =
-    (position, name_place, name, ap (λ (y : ℕ). New position name_place name (y ∷ [])) (some_inj x argument e))
+only_new (New position name_position name (x ∷ [])) argument e =
+    (position, name_position, name, ap (λ (y : ℕ). New position name_position name (y ∷ [])) (some_inj x argument e))
 only_new _ argument e = absurd (cc (e))
 
 second_among : (x : ℕ) (parts : List ℕ) → slice_get parts 1 ≡ Some x → is_among x parts ≡ true
@@ -211,9 +211,9 @@ module _ (forest : Forest) (a : IsAcceptedProgram forest) where
         second : slice_get parts 1 ≡ Some x
         argument : ℕ
         position : Pos
-        name_place : Pos
+        name_position : Pos
         name : List ℕ
-        is_new : slice_get p.nodes x ≡ Some (New position name_place name (argument ∷ []))
+        is_new : slice_get p.nodes x ≡ Some (New position name_position name (argument ∷ []))
         number : read p.nodes number_literal argument ≡ Some n
 
       stored : Storage
@@ -233,7 +233,7 @@ module _ (forest : Forest) (a : IsAcceptedProgram forest) where
             second = f.2;
             argument = d.0;
             position = h.0;
-            name_place = h.1;
+            name_position = h.1;
             name = h.2;
             is_new = g.1 ∙ ap (λ (m : Node). Some m) h.3;
             number = d.2;
@@ -271,7 +271,7 @@ module _ (forest : Forest) (a : IsAcceptedProgram forest) where
       plain : (s : Storage) → is_form_part p s.x ≡ true → binding_at_node p s.x ≡ Plain
       unfolding binding_of declarations_of
       plain s part =
-          binding_is forest a.is_accepted a.whole sorted s.x (New s.position s.name_place s.name (s.argument ∷ [])) s.is_new
+          binding_is forest a.is_accepted a.whole sorted s.x (New s.position s.name_position s.name (s.argument ∷ [])) s.is_new
           ∙ ap (λ t. if t then Plain else class_binding (class_number p.names s.name)) part
 
       pub form_says : (holds (class_with_form p class >>= superclass_in p.classes) (λ s. not (s == mission_sequencer)) ≡ true)
@@ -284,7 +284,7 @@ module _ (forest : Forest) (a : IsAcceptedProgram forest) where
           record {
             last = storage_last code behind id s.x n q.0 call.position
                 (call.is_there ∙ ap (λ (xs : List ℕ). Some (SuperCall call.position xs)) q.1)
-                (part_leaves code behind s.x s.argument n s.position s.name_place s.name s.is_new (plain s (part_is s among))
+                (part_leaves code behind s.x s.argument n s.position s.name_position s.name s.is_new (plain s (part_is s among))
                 s.number);
             kept = λ e. no_sequencer (some_inj superclass mission_sequencer (sym bound_to ∙ e));
           })

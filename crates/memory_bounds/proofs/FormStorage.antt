@@ -33,18 +33,18 @@ all_last left (y ∷ ys) x s = all_last left ys x (with_left (left y) s)
 
 module _ (code : Code) (behind : BehindChildren code.program) where
   -- a part of a form with one number leaves that number
-  pub part_leaves : (x argument n : ℕ) (position name_place : Pos) (name : List ℕ) →
-      slice_get code.program.nodes x ≡ Some (New position name_place name (argument ∷ [])) → binding code x ≡ Plain →
+  pub part_leaves : (x argument n : ℕ) (position name_position : Pos) (name : List ℕ) →
+      slice_get code.program.nodes x ≡ Some (New position name_position name (argument ∷ [])) → binding code x ≡ Plain →
       part code number_literal argument ≡ Some n → left_by code x ≡ One (Exactly (Int (pos n)))
   unfolding left_by next_left left_by_node left_by_new left_by_part children AllBelow
-  part_leaves x argument n position name_place name there plain written =
+  part_leaves x argument n position name_position name there plain written =
       by_smaller-is Forgets (next_left code) x
       ∙ (ap (λ (o : Option Node). elim o as (λ z. Left) [
         | None ↦ Forgets
         | Some node ↦ left_by_node code (left_below code x) x node
       ]) there
       ∙ (ap (λ (b : Binding). left_by_new (left_below code x) (argument ∷ []) b) plain
-      ∙ (below_is code x argument (behind x (New position name_place name (argument ∷ [])) there).0
+      ∙ (below_is code x argument (behind x (New position name_position name (argument ∷ [])) there).0
       ∙ number_leaves code argument n written)))
 
   -- and is the highest operand when the form is read

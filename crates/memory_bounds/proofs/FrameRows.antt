@@ -9,7 +9,7 @@ use Rattle.scj_model.specs.Code.{Code}
 use Rattle.scj_model.specs.Apply.{applied}
 use Rattle.scj_model.specs.State.{Frame, TheSequencer, State, is_exec, is_init, is_over}
 use Rattle.scj_model.specs.Steps.{Step, fault_in}
-use Rattle.scj_model.specs.Run.{frame_op, place_of_op, environment}
+use Rattle.scj_model.specs.Run.{frame_op, position_of_op, environment}
 use Rattle.mission_sound.specs.Bases.{areas_of}
 use Rattle.mission_sound.specs.Invariant.{Invariant, body_called_by, lowest}
 use Rattle.reference_sound.specs.References.{ReferencesHold}
@@ -97,7 +97,7 @@ module _ (code : Code) (facts : HasFacts code) (bare : ClassesAskNothing code) (
         rows = by (is_init s.phase) refl;
       }
         where
-          did : applied code s TheSequencer s.activity below (place_of_op code op)
+          did : applied code s TheSequencer s.activity below (position_of_op code op)
               (effect_of code (environment readings s) (record f { rest = rest }) op) ≡ Some step
           did =
               does code facts bare storage Inner OnWay forms readings s i refs held outcome f below acts_is step done op rest
@@ -108,7 +108,7 @@ module _ (code : Code) (facts : HasFacts code) (bare : ClassesAskNothing code) (
               rows_tell code facts bare storage Inner OnWay forms readings s i refs held outcome f below
               acts_is step done op rest ops (init e) rows
           by false e =
-              of ((rows_stay code s s.activity below (place_of_op code op)
+              of ((rows_stay code s s.activity below (position_of_op code op)
               (effect_of code (environment readings s) (record f { rest = rest }) op)).is step did)
             where
               of : (step.state.registry ≡ s.registry) ⊎ (is_init s.phase ≡ true) → RowsTell storage step.state
@@ -127,12 +127,12 @@ module _ (code : Code) (facts : HasFacts code) (bare : ClassesAskNothing code) (
                 | [] ↦ None
                 | g ∷ gs ↦ elim g.rest as (λ z. Option Step) [
                   | [] ↦ None
-                  | op ∷ rest ↦ applied code s TheSequencer s.activity gs (place_of_op code op)
+                  | op ∷ rest ↦ applied code s TheSequencer s.activity gs (position_of_op code op)
                       (effect_of code (environment readings s) (record g { rest = rest }) op)
                 ]
               ]) acts_is
               ∙ ap (λ (ops : List Op). elim ops as (λ z. Option Step) [
                 | [] ↦ None
-                | op ∷ rest ↦ applied code s TheSequencer s.activity below (place_of_op code op)
+                | op ∷ rest ↦ applied code s TheSequencer s.activity below (position_of_op code op)
                     (effect_of code (environment readings s) (record f { rest = rest }) op)
               ]) e in cc (none, done))

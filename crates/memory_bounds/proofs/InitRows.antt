@@ -19,7 +19,7 @@ use Rattle.scj_model.specs.Steps.{Step, fault_in}
 use Rattle.scj_model.specs.Effects.{Effect}
 use Rattle.scj_model.specs.Apply.{applied}
 use Rattle.scj_model.specs.Operations.{effect_of}
-use Rattle.scj_model.specs.Run.{environment, frame_op, place_of_op}
+use Rattle.scj_model.specs.Run.{environment, frame_op, position_of_op}
 use Rattle.frame_sound.specs.Fine.{FramesFine, list_of}
 use Rattle.frame_sound.specs.OwnJob.{HasFaulted, HasLeft, JobGoesOn, JobStands, KeepsItsJob, NewRow, RegistryIsKept}
 use Rattle.frame_sound.specs.Places.{world_of}
@@ -158,7 +158,7 @@ module _ (code : Code) (facts : HasFacts code) (bare : ClassesAskNothing code) (
             ap (λ (y : Step). is_init y.state.phase) x.is in cc (init, over))
 
     module _ (op : Op) (rest : List Op) (ops : f.rest ≡ op ∷ rest) where
-      pub does : applied code s TheSequencer s.activity below (place_of_op code op)
+      pub does : applied code s TheSequencer s.activity below (position_of_op code op)
           (effect_of code (environment rows s) (record f { rest = rest }) op) ≡ Some step
       unfolding job
       does = sym (op_is code facts.bodies rows s TheSequencer (areas_of i.base) job f below job_acts op rest ops) ∙ done
@@ -169,7 +169,7 @@ module _ (code : Code) (facts : HasFacts code) (bare : ClassesAskNothing code) (
           step.state.registry ≡ s.registry ++ row ∷ [] → ⊥
       unfolding applied fault_in
       no_row u o n told c row at more =
-          of (moves_on code Inner OnWay forms.laws (GivesSo code) bare u o s c.heap s.activity (place_of_op code op)
+          of (moves_on code Inner OnWay forms.laws (GivesSo code) bare u o s c.heap s.activity (position_of_op code op)
           (environment rows s)
           (environment_lacks code facts bare storage Inner OnWay forms rows s i refs held outcome f below acts op rest ops u o
           c.heap) c.heap.statics f below acts op rest ops
@@ -183,18 +183,18 @@ module _ (code : Code) (facts : HasFacts code) (bare : ClassesAskNothing code) (
 
           read : (id : ℕ) (d : Effect) → effect_of code (environment rows s) (record f { rest = rest }) (PARAMS id) ≡ d →
               op ≡ PARAMS id → f.this ≡ Some u → ReadsForm code (record f { rest = rest }) id d →
-              applied code s TheSequencer s.activity below (place_of_op code op) d ≡ Some step → ⊥
+              applied code s TheSequencer s.activity below (position_of_op code op) d ≡ Some step → ⊥
           read id _ q e own Unread k = cc (k)
           read id _ q e own (Fault x) k =
               same_rows (ap (λ (y : Step). y.state.registry)
-              (sym (some_inj (fault_in s TheSequencer s.activity (place_of_op code op) x) step k)))
+              (sym (some_inj (fault_in s TheSequencer s.activity (position_of_op code op) x) step k)))
           read id _ q e own (Not_kept h sequencer) k =
               (says code facts bare storage Inner OnWay forms rows s i refs held outcome f below acts op rest ops id e u o n own
               c.heap.object told).kept sequencer
           read id _ q e own (Sets h r vs z this top sets) k =
-              same_rows ((form_registers_none code s s.activity below (place_of_op code op) h r vs).is step k)
+              same_rows ((form_registers_none code s s.activity below (position_of_op code op) h r vs).is step k)
 
-          of : MovesOn code Inner OnWay forms.laws (GivesSo code) bare u o s c.heap s.activity (place_of_op code op)
+          of : MovesOn code Inner OnWay forms.laws (GivesSo code) bare u o s c.heap s.activity (position_of_op code op)
               (environment rows s)
               (environment_lacks code facts bare storage Inner OnWay forms rows s i refs held outcome f below acts op rest ops u
               o c.heap) c.heap.statics f below acts op rest ops
@@ -208,7 +208,7 @@ module _ (code : Code) (facts : HasFacts code) (bare : ClassesAskNothing code) (
           of (Is_read id e own) =
               read id (effect_of code (environment rows s) (record f { rest = rest }) (PARAMS id)) refl e own
               (reads_form code (record f { rest = rest }) id (environment rows s))
-              (ap (λ y. applied code s TheSequencer s.activity below (place_of_op code op)
+              (ap (λ y. applied code s TheSequencer s.activity below (position_of_op code op)
               (effect_of code (environment rows s) (record f { rest = rest }) y)) (sym e) ∙ does)
 
       -- the rows tell the storage afterwards

@@ -19,7 +19,7 @@ use Rattle.scj_model.specs.Steps.{Step, fault_in}
 use Rattle.scj_model.specs.Effects.{Effect, Makes, Stores, SetsHidden}
 use Rattle.scj_model.specs.Apply.{applied}
 use Rattle.scj_model.specs.Operations.{Environment, bound_class, effect_of}
-use Rattle.scj_model.specs.Run.{environment, place_of_op}
+use Rattle.scj_model.specs.Run.{environment, position_of_op}
 use Rattle.scj_model.proofs.Reaching.{Gives as StepGives, gives_some}
 use Rattle.priority_laws.proofs.StepCases.{gives_nothing}
 use Rattle.scope_flow.specs.Flow.{InNode}
@@ -225,7 +225,7 @@ module _ (code : Code) (facts : HasFacts code) (bare : ClassesAskNothing code) (
     module _ (u : ℕ) (o : Object) (heap : Heap u o s) (n : ℕ) (told : storage o.class ≡ Some n) where
       pub begin : (id class : ℕ) → (op ≡ CONSTRUCT id) ⊎ (op ≡ SUPER id) → bound_class (binding code id) ≡ Some class →
           OnWay class →
-          CanBegin code Inner OnWay forms.laws (GivesSo code) bare u o s heap s.activity (place_of_op code op)
+          CanBegin code Inner OnWay forms.laws (GivesSo code) bare u o s heap s.activity (position_of_op code op)
           (environment rows s) (environment_lacks u o heap) heap.statics class
       unfolding before pushed
       begin id class (inl e) bound way body g tail is new =
@@ -266,48 +266,48 @@ module _ (code : Code) (facts : HasFacts code) (bare : ClassesAskNothing code) (
       StandsAfter t = is_init t.phase ≡ true → (x : Object) → object_at t u ≡ Some x → Stands t u x
 
       read_now : (id : ℕ) → op ≡ PARAMS id → f.this ≡ Some u →
-          StepGives StandsAfter (applied code s TheSequencer s.activity below (place_of_op code op)
+          StepGives StandsAfter (applied code s TheSequencer s.activity below (position_of_op code op)
           (effect_of code (environment rows s) (record f { rest = rest }) op))
       unfolding applied fault_in is_init
       read_now id e own =
-          subst (λ y. StepGives StandsAfter (applied code s TheSequencer s.activity below (place_of_op code op)
+          subst (λ y. StepGives StandsAfter (applied code s TheSequencer s.activity below (position_of_op code op)
           (effect_of code (environment rows s) (record f { rest = rest }) y))) (sym e)
           (of (effect_of code (environment rows s) (record f { rest = rest }) (PARAMS id)) refl
           (reads_form code (record f { rest = rest }) id (environment rows s)))
         where
           of : (d : Effect) → effect_of code (environment rows s) (record f { rest = rest }) (PARAMS id) ≡ d →
               ReadsForm code (record f { rest = rest }) id d →
-              StepGives StandsAfter (applied code s TheSequencer s.activity below (place_of_op code op) d)
+              StepGives StandsAfter (applied code s TheSequencer s.activity below (position_of_op code op) d)
           of _ q Unread = gives_nothing StandsAfter
           of _ q (Fault x) =
-              gives_some StandsAfter (fault_in s TheSequencer s.activity (place_of_op code op) x)
+              gives_some StandsAfter (fault_in s TheSequencer s.activity (position_of_op code op) x)
               (λ init. absurd (cc (init)))
           of _ q (Not_kept h sequencer) = absurd ((says id e u o n own heap.object told).kept sequencer)
           of _ q (Sets h r vs z this top sets) =
-              of_set (hidden_tells storage s (SetsHidden h r vs) code s.activity below (place_of_op code op) h r vs
+              of_set (hidden_tells storage s (SetsHidden h r vs) code s.activity below (position_of_op code op) h r vs
               (λ y m there k. sets ∙ ap (λ v. Some v) (sets_storage id e r y m z this there k top)))
             where
               one : r ≡ u
               one = some_inj r u (sym this ∙ own)
 
               of_set : StepGives (λ t. (x : Object) → object_at t r ≡ Some x → Tells storage x)
-                  (applied code s TheSequencer s.activity below (place_of_op code op) (SetsHidden h r vs)) →
+                  (applied code s TheSequencer s.activity below (position_of_op code op) (SetsHidden h r vs)) →
                   StepGives StandsAfter
-                  (applied code s TheSequencer s.activity below (place_of_op code op) (SetsHidden h r vs))
+                  (applied code s TheSequencer s.activity below (position_of_op code op) (SetsHidden h r vs))
               of_set g = record {
                 is = λ step k init x there. Told (g.is step k x (ap (λ m. slice_get step.state.objects m) one ∙ there));
               }
 
       made_stands : Made code Inner OnWay (GivesSo code) u s.activity.frames →
-          StepGives StandsAfter (applied code s TheSequencer s.activity below (place_of_op code op)
+          StepGives StandsAfter (applied code s TheSequencer s.activity below (position_of_op code op)
           (effect_of code (environment rows s) (record f { rest = rest }) op))
       made_stands made =
-          of (moves_on code Inner OnWay forms.laws (GivesSo code) bare u o s heap s.activity (place_of_op code op)
+          of (moves_on code Inner OnWay forms.laws (GivesSo code) bare u o s heap s.activity (position_of_op code op)
           (environment rows s) (environment_lacks u o heap) heap.statics f below acts op rest ops stays gives begin made)
         where
-          of : MovesOn code Inner OnWay forms.laws (GivesSo code) bare u o s heap s.activity (place_of_op code op)
+          of : MovesOn code Inner OnWay forms.laws (GivesSo code) bare u o s heap s.activity (position_of_op code op)
               (environment rows s) (environment_lacks u o heap) heap.statics f below acts op rest ops stays gives begin →
-              StepGives StandsAfter (applied code s TheSequencer s.activity below (place_of_op code op)
+              StepGives StandsAfter (applied code s TheSequencer s.activity below (position_of_op code op)
               (effect_of code (environment rows s) (record f { rest = rest }) op))
           of (Is_made g) = record {
             is = λ step k init x there. (
@@ -385,22 +385,22 @@ module _ (code : Code) (facts : HasFacts code) (bare : ClassesAskNothing code) (
       new_stands : (slots : List Value) → slots ≡ new_slots code.program class →
           StepGives (λ t. (x : Object) → object_at t (length s.objects) ≡ Some x →
           Clean (length s.objects) x (Made code Inner OnWay (GivesSo code) (length s.objects)) t)
-          (applied code s TheSequencer s.activity below (place_of_op code op) (Makes (record f { rest = rest }) class slots))
+          (applied code s TheSequencer s.activity below (position_of_op code op) (Makes (record f { rest = rest }) class slots))
       new_stands slots is =
-          alloc_step code Inner OnWay (GivesSo code) s heap_lacks s.activity below (place_of_op code op)
+          alloc_step code Inner OnWay (GivesSo code) s heap_lacks s.activity below (position_of_op code op)
           (record f { rest = rest }) class slots
           (subst (AllLack (length s.objects)) (sym is) (slots_lack (length s.objects) code class)) holder
 
     -- ---- all objects
 
     pub objects_stand : (h : InInit s) → (step : Step) →
-        applied code s TheSequencer s.activity below (place_of_op code op)
+        applied code s TheSequencer s.activity below (position_of_op code op)
         (effect_of code (environment rows s) (record f { rest = rest }) op) ≡ Some step →
         is_init step.state.phase ≡ true → (u : ℕ) (x : Object) (n : ℕ) → object_at step.state u ≡ Some x →
         h.first ≤ x.area → storage x.class ≡ Some n → Stands step.state u x
     objects_stand h step e init u x n there le told =
         of (((objects_later storage s (effect_of code (environment rows s) (record f { rest = rest }) op) code s.activity
-        below (place_of_op code op) (effect_of code (environment rows s) (record f { rest = rest }) op) refl spares).is
+        below (position_of_op code op) (effect_of code (environment rows s) (record f { rest = rest }) op) refl spares).is
         step e).is u x there)
       where
         old : (o : Object) → object_at s u ≡ Some o → (Tells storage o → Tells storage x) → storage o.class ≡ Some n →
@@ -419,7 +419,7 @@ module _ (code : Code) (facts : HasFacts code) (bare : ClassesAskNothing code) (
             by (An_object id alloc bound top are) =
                 Making (subst (λ m. Clean m x (Made code Inner OnWay (GivesSo code) m) step.state) (sym num)
                 ((new_stands id class alloc bound n (ap storage (sym same) ∙ told) slots are).is step
-                (ap (applied code s TheSequencer s.activity below (place_of_op code op))
+                (ap (applied code s TheSequencer s.activity below (position_of_op code op))
                 (ap (λ (k : Frame). Makes k class slots) (sym top) ∙ (sym made ∙ sym is)) ∙ e) x
                 (ap (λ m. slice_get step.state.objects m) (sym num) ∙ there)))
 

@@ -343,12 +343,12 @@ module _ (code : Code) (facts : Facts code) (InSuper : ℕ → Type 0) (laws : S
         binary_inner position operator l x _ _ there r.1.left_is r.1.right_is
     node_inner (Binary position operator l x) k there (inr r) =
         binary_inner position operator l x _ _ there r.left_is r.right_is
-    node_inner (New position name_place name xs) k there r =
+    node_inner (New position name_position name xs) k there r =
         subst (λ (x : Binding). All (new_ops (below [] id (ops_of code)) id xs x)) (sym r.is) (
           plain (ALLOC id) (λ x. x) tt (λ n e. cc (e)) (λ n e. cc (e)),
           followed (flat_map (below [] id (ops_of code)) xs) (CONSTRUCT id)
               (all_children xs r.kinds r.arguments_are
-              (λ x a. laws.down id x (New position name_place name xs) there a stands))
+              (λ x a. laws.down id x (New position name_position name xs) there a stands))
               (plain (CONSTRUCT id) (λ x. x) tt (λ n e. cc (e)) (λ n e. cc (e))),
         )
     node_inner (NewArray position element count) k there r =
@@ -356,10 +356,10 @@ module _ (code : Code) (facts : Facts code) (InSuper : ℕ → Type 0) (laws : S
         (child count _ r.count_is
         (laws.down id count (NewArray position element count) there (later count element (count ∷ []) (among_first [] count)) stands))
         (plain (ALLOCARRAY id) (λ x. x) tt (λ n e. cc (e)) (λ n e. cc (e)))
-    node_inner (Cast position name_place name operand) k there r =
+    node_inner (Cast position name_position name operand) k there r =
         followed (below [] id (ops_of code) operand) (CAST id)
         (child operand _ r.operand_is
-        (laws.down id operand (Cast position name_place name operand) there (among_first [] operand) stands))
+        (laws.down id operand (Cast position name_position name operand) there (among_first [] operand) stands))
         (plain (CAST id) (λ x. x) tt (λ n e. cc (e)) (λ n e. cc (e)))
     node_inner (Call position name object xs) k there r = call_inner position name object xs k there r
     node_inner _ k there r = absurd r

@@ -57,12 +57,12 @@ module _ (code : Code) (facts : Facts code) (InSuper : ℕ → Type 0) (laws : S
   same_below id [] l = refl
   same_below id (x ∷ xs) l = cc (below_lt [] id (ops_of code) x l.0, same_below id xs l.1)
 
-  part_ops : (x : ℕ) (position name_place : Pos) (name xs : List ℕ) →
-      slice_get code.program.nodes x ≡ Some (New position name_place name xs) → binding code x ≡ Plain → AreSmaller x xs →
+  part_ops : (x : ℕ) (position name_position : Pos) (name xs : List ℕ) →
+      slice_get code.program.nodes x ≡ Some (New position name_position name xs) → binding code x ≡ Plain → AreSmaller x xs →
       ops_of code x ≡ flat_map (ops_of code) xs
   unfolding node_ops new_ops
-  part_ops x position name_place name xs there e l =
-      ops_at code x (New position name_place name xs) there
+  part_ops x position name_position name xs there e l =
+      ops_at code x (New position name_position name xs) there
       ∙ (ap (λ (y : Binding). new_ops (below [] x (ops_of code)) x xs y) e ∙ same_below x xs l)
 
   mutual
@@ -71,11 +71,11 @@ module _ (code : Code) (facts : Facts code) (InSuper : ℕ → Type 0) (laws : S
     numbers_inner : (known : List ℕ) (x n : ℕ) → Numbers code b c known x n → InSuper x →
         AllInner code (Inner code facts InSuper laws) (ops_of code x)
     numbers_inner known x _ (one_number inside judged among) i = value_inner x number inside judged i
-    numbers_inner known _ _ (form_part {x} {n} {position} {name_place} {name} {xs} there e l more) i =
-        subst All (sym (part_ops x position name_place name xs there e l))
-        (all_numbers_inner known xs n more (λ y a. laws.down x y (New position name_place name xs) there (under y a) i))
+    numbers_inner known _ _ (form_part {x} {n} {position} {name_position} {name} {xs} there e l more) i =
+        subst All (sym (part_ops x position name_position name xs there e l))
+        (all_numbers_inner known xs n more (λ y a. laws.down x y (New position name_position name xs) there (under y a) i))
       where
-        under : (y : ℕ) → is_among y xs ≡ true → is_among y (children (New position name_place name xs)) ≡ true
+        under : (y : ℕ) → is_among y xs ≡ true → is_among y (children (New position name_position name xs)) ≡ true
         under y a = a
 
     pub all_numbers_inner : (known xs : List ℕ) (n : ℕ) → AllNumbers code b c known xs n →

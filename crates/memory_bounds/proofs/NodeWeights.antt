@@ -472,12 +472,12 @@ module _ (code : Code) (table : Table) where
       node_covered (Unary position operator operand) there h k = one_covered operand (UNARY id) 0 (omega arith)
       node_covered (Binary position operator left right) there h k =
           binary_covered position operator left right there (same right h.1.0)
-      node_covered (New position name_place name xs) there h k = new_covered xs (binding code id) refl
+      node_covered (New position name_position name xs) there h k = new_covered xs (binding code id) refl
       node_covered (NewArray position element count) there h k = one_covered count (ALLOCARRAY id) (array_weight code id) (omega arith)
       node_covered (Call position name object xs) there h k = call_covered object xs (binding code id) refl
-      node_covered (Cast position name_place name operand) there h k = one_covered operand (CAST id) 0 (omega arith)
+      node_covered (Cast position name_position name operand) there h k = one_covered operand (CAST id) 0 (omega arith)
       node_covered (LocalNode position name flags declared_type) there h k = omega arith
-      node_covered (LocalWithValue position name_place name flags declared_type value) there h k =
+      node_covered (LocalWithValue position name_position name flags declared_type value) there h k =
           let a = one_covered value (STORE id) 0 (omega arith) in omega (arith, a)
       node_covered (Assign position target value) there h k = of (slice_get code.program.nodes target) refl
         where

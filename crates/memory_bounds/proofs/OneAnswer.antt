@@ -10,7 +10,7 @@ use Rattle.scj_base.specs.declared.places.Pos.{Pos}
 use Rattle.scj_tree.specs.declared.nodes.Node.{Node}
 use Rattle.scj_tree.specs.Forest.{ChildrenFirst}
 use Rattle.scj_rules.specs.declared.views.Body.{Body}
-use Rattle.scj_rules.specs.Report.{place_order}
+use Rattle.scj_rules.specs.Report.{position_order}
 use Rattle.accepted_laws.proofs.Tools.{some_inj}
 use Rattle.scj_model.specs.Code.{Code}
 use Rattle.memory_needs.specs.declared.answers.BoundAnswer.{BoundAnswer}
@@ -54,7 +54,7 @@ abbrev lines : Pos → Pos → Ordering
 lines x y = ordering_then (nat_cmp x.line y.line) (nat_cmp x.col y.col)
 
 -- neither stands before the other one
-one_place : (a b : Pos) → (place_order a b ≡ Less → ⊥) → (place_order b a ≡ Less → ⊥) → a ≡ b
+one_place : (a b : Pos) → (position_order a b ≡ Less → ⊥) → (position_order b a ≡ Less → ⊥) → a ≡ b
 one_place a b h k = by_file (rank a.file b.file)
   where
     by_col : a.file ≡ b.file → nat_cmp a.file b.file ≡ Equal → nat_cmp b.file a.file ≡ Equal → a.line ≡ b.line →
@@ -109,7 +109,7 @@ module _ (code : Code) (first : ChildrenFirst 0 code.program.nodes) (class : ℕ
         target = x.target;
         is_target = x.is_target;
         needs = subst (λ n. 0 < n) (agree x.target (entered_reached x.id x.node x.reached x.target x.is_target)) x.needs;
-        is_place = x.is_place;
+        is_position = x.is_position;
       }
   shows_too NewInLoop at x =
       record {
@@ -122,7 +122,7 @@ module _ (code : Code) (first : ChildrenFirst 0 code.program.nodes) (class : ℕ
             (need_agrees code first t u x.reached.body
             (λ target r. agree target (goes_on x.reached.body target x.reached.reached (runs_here code x.reached.body target r)))
             x.id x.reached.is_in) x.needs;
-        is_place = x.is_place;
+        is_position = x.is_position;
       }
   shows_too TooSmall at (entered id node size target r written c l place) =
       entered id node size target r written c

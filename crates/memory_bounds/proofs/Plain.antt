@@ -13,7 +13,7 @@ use Rattle.scj_model.specs.State.{Object, Frame}
 use Rattle.scj_model.specs.Ops.{put_in_front}
 use Rattle.scj_model.specs.Effects.{Effect, Goes, Prints, Makes, Stores, StoresStatic, SetsHidden, SetsCeiling, Calls, Opens, Leaves, AsksRegistration, AsksRelease, AsksTermination, Faults, Stuck, given, pop, pop_from, as_int, as_truth, as_reference, as_object, pushes, branch}
 use Rattle.scj_rules.specs.Classes.{is_sub}
-use Rattle.scj_rules.specs.Layout.{kind_of_type, literal_written, slot_of, static_place}
+use Rattle.scj_rules.specs.Layout.{kind_of_type, literal_written, slot_of, static_index}
 use Rattle.scj_rules.specs.declared.views.Declared.{Declared}
 use Rattle.scj_rules.specs.Views.{variable_at}
 use Rattle.scj_rules.specs.Words.{◌>>=◌}
@@ -264,7 +264,7 @@ module _ (code : Code) (top : Frame) where
     get_static_counts : Plain (get_static_op code world top id)
     get_static_counts =
         with_given (bound_static (binding code id)) _ (λ field.
-        with_given (static_place code.program field) _ (λ place.
+        with_given (static_index code.program field) _ (λ place.
         with_given (slice_get world.statics place) _ (λ v. pushing top v self)))
 
     length_counts : Plain (length_op world top)
@@ -356,7 +356,7 @@ module _ (code : Code) (top : Frame) where
 
     put_static_counts : Plain (put_static_op code top id)
     put_static_counts =
-        with_given (assigned code id >>= bound_static) _ (λ field. with_given (static_place code.program field) _ (λ place.
+        with_given (assigned code id >>= bound_static) _ (λ field. with_given (static_index code.program field) _ (λ place.
         with_pop top _ self (λ v f l. static_stored f place v l)))
 
     put_elem_counts : Plain (put_elem_op world top)

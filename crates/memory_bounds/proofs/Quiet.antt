@@ -4,7 +4,7 @@ use Rattle.std.proofs.Common.{◌≡◌, ℕ, List, [], ◌∷◌, false, refl, 
 use Rattle.scj_base.specs.declared.places.Pos.{Pos}
 use Rattle.scj_rules.specs.declared.views.Body.{Body}
 use Rattle.scj_rules.specs.ScopeRules.{immortal_scope, defined_by_chain}
-use Rattle.scj_rules.specs.Bodies.{body_named, constructor_body, size_of, safelet_class, class_place}
+use Rattle.scj_rules.specs.Bodies.{body_named, constructor_body, size_of, safelet_class, class_position}
 use Rattle.accepted_laws.proofs.Tools.{some_inj}
 use Rattle.scj_model.specs.declared.operations.SeqOp.{SeqOp}
 use Rattle.scj_model.specs.declared.operations.SeqOp.TheVariants.{OpenImmortal, AllocSafelet, ConstructSafelet, InitializeApplication, GetSequencer, GetNextMission, OpenMission, Initialize, CleanUp, Execute, Finished}
@@ -50,13 +50,13 @@ module _ (code : Code) (s : State) (quiet : is_exec s.phase ≡ false) where
   op_quiet OpenImmortal =
       gives_bind IsQuiet (safelet_class code.program) _ (λ class e.
       gives_bind IsQuiet (size_of code.program class) _ (λ bytes k.
-      gives_some IsQuiet (area_opened s (class_place code.program class) immortal_scope bytes)
-      (opened_quiet (class_place code.program class) immortal_scope bytes)))
+      gives_some IsQuiet (area_opened s (class_position code.program class) immortal_scope bytes)
+      (opened_quiet (class_position code.program class) immortal_scope bytes)))
   op_quiet AllocSafelet =
       gives_bind IsQuiet (safelet_class code.program) _ (λ class e.
       gives_bind IsQuiet (innermost s.activity.areas) _ (λ area k.
-      gives_some IsQuiet (safelet_made code s (class_place code.program class) class area)
-      (made_quiet (class_place code.program class) class area)))
+      gives_some IsQuiet (safelet_made code s (class_position code.program class) class area)
+      (made_quiet (class_position code.program class) class area)))
   op_quiet (ConstructSafelet r) =
       gives_bind IsQuiet (object_at s r) _ (λ o e.
       gives_bind IsQuiet (constructor_body code.program o.class) _ (λ body k. called_quiet r body))
@@ -67,8 +67,8 @@ module _ (code : Code) (s : State) (quiet : is_exec s.phase ≡ false) where
       gives_bind IsQuiet (object_at s r) _ (λ o e.
       gives_bind IsQuiet (defined_by_chain code.program o.class) _ (λ scope k.
       gives_bind IsQuiet (size_of code.program o.class) _ (λ bytes l.
-      gives_some IsQuiet (area_opened s (class_place code.program o.class) scope bytes)
-      (opened_quiet (class_place code.program o.class) scope bytes))))
+      gives_some IsQuiet (area_opened s (class_position code.program o.class) scope bytes)
+      (opened_quiet (class_position code.program o.class) scope bytes))))
   op_quiet (Initialize r) = method_quiet r (codes "initialize")
   op_quiet (CleanUp r) = method_quiet r (codes "cleanUp")
   op_quiet Execute = gives_nothing IsQuiet

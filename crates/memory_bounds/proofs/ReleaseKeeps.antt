@@ -9,7 +9,7 @@ use Rattle.scj_model.specs.Code.{Code}
 use Rattle.scj_model.specs.State.{Frame, Activity, Started, Release, ReleaseStatus, ReleaseAt, State, activity_in, activity_of, is_exec}
 use Rattle.scj_model.specs.Steps.{Step}
 use Rattle.scj_model.specs.Apply.{applied}
-use Rattle.scj_model.specs.Run.{effect_at, place_of_op, ref_op}
+use Rattle.scj_model.specs.Run.{effect_at, position_of_op, ref_op}
 use Rattle.mission_sound.specs.Invariant.{Invariant}
 use Rattle.priority_laws.specs.Started.{started_as, started_in, started_at}
 use Rattle.priority_laws.proofs.ReleaseMoves.{LeavesOthers}
@@ -45,7 +45,7 @@ module _ (code : Code) (storage : Storage) (table : Table) (bound : IsBound code
     (exec : is_exec s.phase ≡ true) (index : ℕ) (r : Release) (there : slice_get s.releases index ≡ Some r) where
   operates : (a : Activity) (f : Frame) (below : List Frame) (op : Op) (rest : List Op) (step : Step) →
       IsNext s index r a f below op rest →
-      applied code s (ReleaseAt index) a below (place_of_op code op) (effect_at code rows s f op rest) ≡ Some step →
+      applied code s (ReleaseAt index) a below (position_of_op code op) (effect_at code rows s f op rest) ≡ Some step →
       LeavesOthers s step.state index → SameHandler step.state index r.handler → AreBounded code storage table step.state
   unfolding started_at started_in activity_of activity_in
   operates a f below op rest step next does leaves same =

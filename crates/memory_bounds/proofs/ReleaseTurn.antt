@@ -14,7 +14,7 @@ use Rattle.scj_model.specs.State.{Frame, Activity, Waits, Started, Ended, Droppe
 use Rattle.scj_model.specs.Registry.{handler_row}
 use Rattle.scj_model.specs.Steps.{Step}
 use Rattle.scj_model.specs.Apply.{applied}
-use Rattle.scj_model.specs.Run.{effect_at, place_of_op, frame_op, started_with, start_op, release_op_of, ref_op}
+use Rattle.scj_model.specs.Run.{effect_at, position_of_op, frame_op, started_with, start_op, release_op_of, ref_op}
 use Rattle.priority_laws.specs.Started.{StartedRelease, started_as, started_at}
 use Rattle.priority_laws.proofs.ReleaseMoves.{LeavesOthers, GoesOn, Ends, ReleaseMoves}
 use Rattle.priority_laws.proofs.ReleaseTurns.{EntersRightly, TakesTurn, op_turns}
@@ -28,7 +28,7 @@ module _ (code : Code) (rows : List ReadingRow) (s : State) (P : State → Type 
     (index : ℕ) (r : Release) (there : slice_get s.releases index ≡ Some r)
     (operates : (a : Activity) (f : Frame) (below : List Frame) (op : Op) (rest : List Op) (step : Step) →
     IsNext s index r a f below op rest →
-    applied code s (ReleaseAt index) a below (place_of_op code op) (effect_at code rows s f op rest) ≡ Some step →
+    applied code s (ReleaseAt index) a below (position_of_op code op) (effect_at code rows s f op rest) ≡ Some step →
     LeavesOthers s step.state index → SameHandler step.state index r.handler → P step.state)
     (starts : (row : HandlerRow) (scope : ℕ) (body : Body) → r.status ≡ Waits →
     handler_row s.registry r.handler ≡ Some row →
@@ -56,7 +56,7 @@ module _ (code : Code) (rows : List ReadingRow) (s : State) (P : State → Type 
       by_ops : (f : Frame) (below : List Frame) → a.frames ≡ f ∷ below → (ops : List Op) → f.rest ≡ ops →
           (elim ops as (λ z. Option Step) [
             | [] ↦ None
-            | op ∷ rest ↦ applied code s (ReleaseAt index) a below (place_of_op code op) (effect_at code rows s f op rest)
+            | op ∷ rest ↦ applied code s (ReleaseAt index) a below (position_of_op code op) (effect_at code rows s f op rest)
           ]) ≡ Some step → P step.state
       by_ops f below frames [] next e = absurd (cc (e))
       by_ops f below frames (op ∷ rest) next e =
@@ -68,7 +68,7 @@ module _ (code : Code) (rows : List ReadingRow) (s : State) (P : State → Type 
             | [] ↦ None
             | f ∷ below ↦ elim f.rest [
               | [] ↦ None
-              | op ∷ rest ↦ applied code s (ReleaseAt index) a below (place_of_op code op) (effect_at code rows s f op rest)
+              | op ∷ rest ↦ applied code s (ReleaseAt index) a below (position_of_op code op) (effect_at code rows s f op rest)
             ]
           ]) ≡ Some step → P step.state
       by_frames [] frames e = absurd (cc (e))

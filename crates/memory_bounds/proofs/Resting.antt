@@ -2,7 +2,7 @@
 use Rattle.std.specs.Prelude.{Some, None, if◌then◌else◌}
 use Rattle.std.proofs.Common.{ℕ, suc, ◌≤◌, List, [], ◌∷◌, length, Bool, true, false, refl, sym, ◌∙◌, ap, arith}
 use Rattle.scj_base.specs.declared.faults.RunFault.TheVariants.{StoreFull}
-use Rattle.scj_rules.specs.Bodies.{class_place}
+use Rattle.scj_rules.specs.Bodies.{class_position}
 use Rattle.scj_rules.specs.declared.views.Body.{Body}
 use Rattle.accepted_laws.proofs.Lists.{get_left}
 use Rattle.scj_model.specs.declared.handlers.HandlerRow.{HandlerRow}
@@ -59,9 +59,9 @@ start_spares code s index row scope body now = of (has_store_for s row.bytes)
 
     of : (c : Bool) → Spares s
         (if c then silently (with_activity t (ReleaseAt index) a)
-        else fault_in s (ReleaseAt index) no_activity (class_place code.program row.class) StoreFull).state now
+        else fault_in s (ReleaseAt index) no_activity (class_position code.program row.class) StoreFull).state now
     of true = then_spares s t (with_activity t (ReleaseAt index) a) now more (acts_on t (ReleaseAt index) a now)
-    of false = faulted s (ReleaseAt index) no_activity (class_place code.program row.class) StoreFull now
+    of false = faulted s (ReleaseAt index) no_activity (class_position code.program row.class) StoreFull now
 
 -- so it leaves all others as they were
 pub start_keeps : (code : Code) (table : Table) (s : State) (index : ℕ) (row : HandlerRow) (scope : ℕ) (body : Body)

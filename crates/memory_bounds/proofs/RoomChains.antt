@@ -14,7 +14,7 @@ use Rattle.scj_rules.specs.Definitions.{read}
 use Rattle.scj_rules.specs.Words.{◌>>=◌}
 use Rattle.accepted_laws.proofs.Tools.{some_inj}
 use Rattle.scj_model.specs.declared.handlers.HandlerRow.{HandlerRow}
-use Rattle.scj_model.specs.Code.{Code, binding, place_of_node}
+use Rattle.scj_model.specs.Code.{Code, binding, position_of_node}
 use Rattle.scj_model.specs.State.{MemoryArea, Frame, State}
 use Rattle.scj_model.specs.Memory.{rounded_up}
 use Rattle.priority_laws.specs.Nesting.{opened_by}
@@ -72,11 +72,11 @@ module _ (code : Code) (children_first : ChildrenFirst 0 code.program.nodes) (cl
     where
       of : (o : Option ℕ) → read code.program.nodes number_literal size ≡ o → Sized id size node
       of None e =
-          absurd (none NotLiteral (place_of_node code size) (record {
+          absurd (none NotLiteral (position_of_node code size) (record {
             number = size;
             is_asked = of_node id node reaches (asks code id size node asked);
             is_none = e;
-            is_place = refl;
+            is_position = refl;
           }))
       of (Some n) e = record {
         n = n;

@@ -34,18 +34,18 @@ module _ (code : Code) (ops : ℕ → List Op) (id : ℕ) where
   abbrev All : List Op → Type 0
   All xs = AllRun code id xs
 
-  of_new : (position name_place : Pos) (name arguments : List ℕ)
-      (is : slice_get code.program.nodes id ≡ Some (New position name_place name arguments)) →
+  of_new : (position name_position : Pos) (name arguments : List ℕ)
+      (is : slice_get code.program.nodes id ≡ Some (New position name_position name arguments)) →
       ((k : ℕ) → IsIn code.program.nodes id k → AllRun code id (ops k)) →
       (b : Binding) → binding code id ≡ b → AllRun code id (new_ops ops id arguments b)
   unfolding new_ops branches_at op_targets opens_memory run_parts children targets_here
-  of_new position name_place name arguments is h (ClassNamed class) e = (
+  of_new position name_position name arguments is h (ClassNamed class) e = (
     plain code id (ALLOC id) refl refl,
-    behind_all code ops id (New position name_place name arguments) is h arguments (λ k c. c) (CONSTRUCT id)
-        (runs_here code ops id (New position name_place name arguments) is h (CONSTRUCT id) refl refl (λ target c. c)),
+    behind_all code ops id (New position name_position name arguments) is h arguments (λ k c. c) (CONSTRUCT id)
+        (runs_here code ops id (New position name_position name arguments) is h (CONSTRUCT id) refl refl (λ target c. c)),
   )
-  of_new position name_place name arguments is h _ e =
-      all_of code ops id (New position name_place name arguments) is h arguments (λ k c. c)
+  of_new position name_position name arguments is h _ e =
+      all_of code ops id (New position name_position name arguments) is h arguments (λ k c. c)
 
   module _ (position : Pos) (name : List ℕ) (object : Option ℕ) (arguments : List ℕ)
       (is : slice_get code.program.nodes id ≡ Some (Call position name object arguments))
@@ -174,17 +174,17 @@ module _ (code : Code) (ops : ℕ → List Op) (id : ℕ)
   of_node (Binary position operator left right) is =
       of_binary code ops id (Binary position operator left right) is h operator left right (0, omega arith, refl)
       (1, omega arith, refl)
-  of_node (New position name_place name arguments) is =
-      of_new code ops id position name_place name arguments is h (binding code id) refl
+  of_node (New position name_position name arguments) is =
+      of_new code ops id position name_position name arguments is h (binding code id) refl
   of_node (NewArray position element length) is =
       behind_part code ops id (NewArray position element length) is h length (1, omega arith, refl) (ALLOCARRAY id) refl refl
   of_node (Call position name object arguments) is =
       of_call code ops id position name object arguments is h (binding code id) refl
-  of_node (Cast position name_place name operand) is =
-      behind_part code ops id (Cast position name_place name operand) is h operand (0, omega arith, refl) (CAST id) refl refl
+  of_node (Cast position name_position name operand) is =
+      behind_part code ops id (Cast position name_position name operand) is h operand (0, omega arith, refl) (CAST id) refl refl
   of_node (LocalNode position name flags declared_type) is = one code id (ZERO id) refl refl
-  of_node (LocalWithValue position name_place name flags declared_type value) is =
-      behind_part code ops id (LocalWithValue position name_place name flags declared_type value) is h value
+  of_node (LocalWithValue position name_position name flags declared_type value) is =
+      behind_part code ops id (LocalWithValue position name_position name flags declared_type value) is h value
       (Contains-append_right (optional flags) (declared_type ∷ value ∷ []) value (1, omega arith, refl)) (STORE id) refl
       refl
   of_node (Assign position target value) is = go (slice_get code.program.nodes target) refl

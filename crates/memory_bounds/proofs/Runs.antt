@@ -21,7 +21,7 @@ use Rattle.scj_model.specs.Steps.{Step}
 use Rattle.scj_rules.specs.Views.{nowhere}
 use Rattle.scj_model.specs.Apply.{applied}
 use Rattle.scj_model.specs.Choice.{by_list}
-use Rattle.scj_model.specs.Run.{turn_taken, with_turn, ref_op, release_op_of, start_op, started_with, no_activity, frame_op, effect_at, place_of_op}
+use Rattle.scj_model.specs.Run.{turn_taken, with_turn, ref_op, release_op_of, start_op, started_with, no_activity, frame_op, effect_at, position_of_op}
 use Rattle.scj_model.specs.Reached.{Moment, Arrived, Reached}
 use Rattle.mission_sound.proofs.Phases.{time_passes}
 use Rattle.priority_laws.specs.Started.{started_as, started_at, started_in}
@@ -108,7 +108,7 @@ module _ (code : Code) (facts : HasFacts code) (storage : Storage) (table : Tabl
 
       room : (f : Frame) (below : List Frame) → a.frames ≡ f ∷ below → (op : Op) (rest : List Op) →
           f.rest ≡ op ∷ rest →
-          HasRoom is_memory_full only_memory_full code s index a below (place_of_op code op) (effect_at code plan.readings s f op rest)
+          HasRoom is_memory_full only_memory_full code s index a below (position_of_op code op) (effect_at code plan.readings s f op rest)
       unfolding is_memory_full
       room f below frames op rest next =
           let here : IsBounded code table s (f ∷ below) = subst (IsBounded code table s) frames mine in
@@ -126,12 +126,12 @@ module _ (code : Code) (facts : HasFacts code) (storage : Storage) (table : Tabl
         by_ops : (f : Frame) (below : List Frame) → a.frames ≡ f ∷ below → (ops : List Op) → f.rest ≡ ops →
             (elim ops as (λ z. Option Step) [
               | [] ↦ None
-              | op ∷ rest ↦ applied code s (ReleaseAt index) a below (place_of_op code op)
+              | op ∷ rest ↦ applied code s (ReleaseAt index) a below (position_of_op code op)
                   (effect_at code plan.readings s f op rest)
             ]) ≡ Some step → TellsNone is_memory_full only_memory_full step
         by_ops f below frames [] next q = absurd (cc (q))
         by_ops f below frames (op ∷ rest) next q =
-            applied_none is_memory_full only_memory_full code s index a below (place_of_op code op) (effect_at code plan.readings s f op rest)
+            applied_none is_memory_full only_memory_full code s index a below (position_of_op code op) (effect_at code plan.readings s f op rest)
             (room f below frames op rest next) step q
 
         by_frames : (fs : List Frame) → a.frames ≡ fs →
@@ -139,7 +139,7 @@ module _ (code : Code) (facts : HasFacts code) (storage : Storage) (table : Tabl
               | [] ↦ None
               | f ∷ below ↦ elim f.rest [
                 | [] ↦ None
-                | op ∷ rest ↦ applied code s (ReleaseAt index) a below (place_of_op code op)
+                | op ∷ rest ↦ applied code s (ReleaseAt index) a below (position_of_op code op)
                     (effect_at code plan.readings s f op rest)
               ]
             ]) ≡ Some step → TellsNone is_memory_full only_memory_full step

@@ -14,7 +14,7 @@ use Rattle.scj_rules.specs.declared.views.SlotKind.{SlotKind}
 use Rattle.scj_rules.specs.Bodies.{body_named, body_of, constructor_body}
 use Rattle.scj_rules.specs.Classes.{hidden_fields, instance_fields, is_sub}
 use Rattle.scj_rules.specs.Contexts.{Declarations}
-use Rattle.scj_rules.specs.Layout.{element_kind, field_numbered, literal_written, place_among, slot_of, static_place}
+use Rattle.scj_rules.specs.Layout.{element_kind, field_numbered, literal_written, index_among, slot_of, static_index}
 use Rattle.scj_rules.specs.ScopeRules.{defined_by_chain}
 use Rattle.scj_rules.specs.Views.{variable_at}
 use Rattle.scj_rules.specs.Words.{◌>>=◌}
@@ -45,9 +45,9 @@ behind_hidden p class field slot e = go (field_numbered p field) refl
     go : (o : Option Declared) → field_numbered p field ≡ o → hidden_fields p.classes class ≤ slot
     go None q = absurd (cc (e, q))
     go (Some d) q =
-        placed (place_among (instance_fields p.classes class) d)
+        placed (index_among (instance_fields p.classes class) d)
         (sym (ap (λ (o : Option Declared). o >>= (λ d. option_map (λ k. hidden_fields p.classes class + k)
-        (place_among (instance_fields p.classes class) d))) q) ∙ e)
+        (index_among (instance_fields p.classes class) d))) q) ∙ e)
 
 module _ (code : Code) (world : Environment) (f : Frame) where
   -- an array, or the object of a `new`, before anything else is done
@@ -263,7 +263,7 @@ module _ (code : Code) (world : Environment) (f : Frame) where
       given_pushed (GET id) (slice_get o.slots slot) h))))
   sourced (GETSTATIC id) =
       with_given (GETSTATIC id) (bound_static (binding code id)) _ (λ field e.
-      with_given (GETSTATIC id) (static_place code.program field) _ (λ place h.
+      with_given (GETSTATIC id) (static_index code.program field) _ (λ place h.
       with_given (GETSTATIC id) (slice_get world.statics place) _ (λ v k. goes (GETSTATIC id) _)))
   sourced (LENGTH id) =
       pop1 (LENGTH id) f (λ v h. as_object v (λ r. given (world.object_at r) (λ o. pushes h (Int (pos (length o.slots))))))
@@ -408,7 +408,7 @@ module _ (code : Code) (world : Environment) (f : Frame) where
       stored (PUT id) k r field slot v o t q)))))
   sourced (PUTSTATIC id) =
       with_given (PUTSTATIC id) (assigned code id >>= bound_static) _ (λ field e.
-      with_given (PUTSTATIC id) (static_place code.program field) _ (λ place q.
+      with_given (PUTSTATIC id) (static_index code.program field) _ (λ place q.
       pop1 (PUTSTATIC id) f (λ v h. StoresStatic h place v) (λ v h. record { is = tt })))
   sourced (PUTELEM id) =
       pop1 (PUTELEM id) f (λ v h. pop h (λ index k. pop k (λ array l. put_element l array index v))) (λ v h.

@@ -11,7 +11,7 @@ use Rattle.scj_model.specs.Memory.{has_room}
 use Rattle.scj_model.specs.Steps.{Step}
 use Rattle.scj_model.specs.Effects.{Makes}
 use Rattle.scj_model.specs.Apply.{applied}
-use Rattle.scj_model.specs.Run.{environment, effect_at, place_of_op}
+use Rattle.scj_model.specs.Run.{environment, effect_at, position_of_op}
 use Rattle.memory_needs.specs.Need.{Table}
 use Rattle.memory_bounds.specs.Weights.{IsBound, ops_weight}
 use Rattle.memory_bounds.specs.Accounting.{IsCounted, EffectWithin}
@@ -37,13 +37,13 @@ module _ (code : Code) (table : Table) (bound : IsBound code table) (first : Chi
   pub finds : (h : Frame) (class : ℕ) (values : List Value) → effect_at code rows s f op rest ≡ Makes h class values →
       has_room s h.area (length values) ≡ true
   finds h class values e =
-      make_bounded code table index s activity is (place_of_op code op) f below b h class values
+      make_bounded code table index s activity is (position_of_op code op) f below b h class values
       (subst (EffectWithin code table (ops_weight code table f.rest) f) e within)
 
   -- and it leaves the release bounded
   pub keeps : Situated s (effect_at code rows s f op rest) → (step : Step) →
-      applied code s (ReleaseAt index) activity below (place_of_op code op) (effect_at code rows s f op rest) ≡ Some step →
+      applied code s (ReleaseAt index) activity below (position_of_op code op) (effect_at code rows s f op rest) ≡ Some step →
       BoundedAfter code table index step
   keeps situated step q =
-      own_step code table index s activity is (place_of_op code op) f below b (effect_at code rows s f op rest) situated within
+      own_step code table index s activity is (position_of_op code op) f below b (effect_at code rows s f op rest) situated within
       step q

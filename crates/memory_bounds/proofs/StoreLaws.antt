@@ -19,7 +19,7 @@ use Rattle.scj_model.specs.Code.{Code, code_of}
 use Rattle.scj_model.specs.Plan.{Plan}
 use Rattle.scj_model.specs.Reached.{Arrived, Reached}
 use Rattle.scj_model.specs.Registry.{handler_row}
-use Rattle.scj_model.specs.Run.{effect_at, frame_op, no_activity, place_of_op, ref_op, release_op_of, start_op, started_with}
+use Rattle.scj_model.specs.Run.{effect_at, frame_op, no_activity, position_of_op, ref_op, release_op_of, start_op, started_with}
 use Rattle.scj_model.specs.Apply.{applied}
 use Rattle.scj_model.specs.State.{Activity, Dropped, Ended, Frame, Release, ReleaseAt, ReleaseStatus, Started, State, TurnOf, Waits, activity_in, activity_of, is_exec}
 use Rattle.scj_model.specs.Steps.{Step}
@@ -91,7 +91,7 @@ module _ (forest : Forest) (a : IsAcceptedProgram forest) (rows : List BoundRow)
 
       room : (f : Frame) (below : List Frame) → b.frames ≡ f ∷ below → (op : Op) (rest : List Op) →
           f.rest ≡ op ∷ rest →
-          HasRoom is_store_full only_store_full (code_of forest) s index b below (place_of_op (code_of forest) op)
+          HasRoom is_store_full only_store_full (code_of forest) s index b below (position_of_op (code_of forest) op)
           (effect_at (code_of forest) plan.readings s f op rest)
       unfolding is_store_full
       room f below frames op rest next =
@@ -108,12 +108,12 @@ module _ (forest : Forest) (a : IsAcceptedProgram forest) (rows : List BoundRow)
         by_ops : (f : Frame) (below : List Frame) → b.frames ≡ f ∷ below → (ops : List Op) → f.rest ≡ ops →
             (elim ops as (λ z. Option Step) [
               | [] ↦ None
-              | op ∷ rest ↦ applied (code_of forest) s (ReleaseAt index) b below (place_of_op (code_of forest) op)
+              | op ∷ rest ↦ applied (code_of forest) s (ReleaseAt index) b below (position_of_op (code_of forest) op)
                   (effect_at (code_of forest) plan.readings s f op rest)
             ]) ≡ Some step → TellsNone is_store_full only_store_full step
         by_ops f below frames [] next q = absurd (cc (q))
         by_ops f below frames (op ∷ rest) next q =
-            applied_none is_store_full only_store_full (code_of forest) s index b below (place_of_op (code_of forest) op)
+            applied_none is_store_full only_store_full (code_of forest) s index b below (position_of_op (code_of forest) op)
             (effect_at (code_of forest) plan.readings s f op rest) (room f below frames op rest next) step q
 
         by_frames : (fs : List Frame) → b.frames ≡ fs →
@@ -121,7 +121,7 @@ module _ (forest : Forest) (a : IsAcceptedProgram forest) (rows : List BoundRow)
               | [] ↦ None
               | f ∷ below ↦ elim f.rest [
                 | [] ↦ None
-                | op ∷ rest ↦ applied (code_of forest) s (ReleaseAt index) b below (place_of_op (code_of forest) op)
+                | op ∷ rest ↦ applied (code_of forest) s (ReleaseAt index) b below (position_of_op (code_of forest) op)
                     (effect_at (code_of forest) plan.readings s f op rest)
               ]
             ]) ≡ Some step → TellsNone is_store_full only_store_full step

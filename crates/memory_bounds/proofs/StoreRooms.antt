@@ -15,7 +15,7 @@ use Rattle.accepted_laws.proofs.Tools.{some_inj}
 use Rattle.accepted_laws.proofs.Typed.{behind_children}
 use Rattle.scj_model.specs.declared.handlers.HandlerRow.{HandlerRow}
 use Rattle.scj_model.specs.Choice.{by_list, by_priority, chosen}
-use Rattle.scj_model.specs.Code.{code_of, place_of_node}
+use Rattle.scj_model.specs.Code.{code_of, position_of_node}
 use Rattle.scj_model.specs.Memory.{has_store_for, reserved, rounded_up}
 use Rattle.scj_model.specs.Plan.{Plan}
 use Rattle.scj_model.specs.Reached.{Arrived, Reached}
@@ -135,8 +135,8 @@ module _ (forest : Forest) (a : IsAcceptedProgram forest) (rows : List BoundRow)
 
       of : (o : Option ℕ) → read p.nodes number_literal m.0 ≡ o → (n : ℕ) × (storage p class ≡ Some n)
       of None e =
-          absurd ((class_yes class k).none NotLiteral (place_of_node (code_of forest) m.0)
-          (record { number = m.0; is_asked = of_form m.1; is_none = e; is_place = refl }))
+          absurd ((class_yes class k).none NotLiteral (position_of_node (code_of forest) m.0)
+          (record { number = m.0; is_asked = of_form m.1; is_none = e; is_position = refl }))
       of (Some n) e = (n, ap (λ (o : Option ℕ). o >>= read p.nodes number_literal) m.1 ∙ e)
 
   abbrev each : ℕ

@@ -43,10 +43,10 @@ no_other false c arguments e k = true≢false (sym k)
 one_argument : (p : Declarations) (class : ℕ) (node : Node) → is_some (new_of p class 1 node) ≡ true →
     (argument : ℕ) × (only_argument node ≡ Some argument)
 unfolding new_of only_argument
-one_argument p class (New position name_place name (argument ∷ [])) e = (argument, refl)
-one_argument p class (New position name_place name []) e =
+one_argument p class (New position name_position name (argument ∷ [])) e = (argument, refl)
+one_argument p class (New position name_position name []) e =
     absurd (no_other (holds (class_number p.names name) (λ c. c == class)) (0 == 1) [] refl e)
-one_argument p class (New position name_place name (x ∷ y ∷ more)) e =
+one_argument p class (New position name_position name (x ∷ y ∷ more)) e =
     absurd (no_other (holds (class_number p.names name) (λ c. c == class)) (length (x ∷ y ∷ more) == 1)
     (x ∷ y ∷ more) (grind (arith, nat_tests)) e)
 one_argument p class _ e = absurd (true≢false (sym e))

@@ -22,9 +22,9 @@ use Rattle.scj_rules.specs.Definitions.{read}
 use Rattle.scj_rules.specs.Words.{◌>>=◌}
 use Rattle.scj_rules.specs.Classes.{is_user_class}
 use Rattle.scj_rules.specs.Layout.{size_with_slots}
-use Rattle.scj_rules.specs.Bodies.{class_node, class_of_body, number_literal, class_place}
+use Rattle.scj_rules.specs.Bodies.{class_node, class_of_body, number_literal, class_position}
 use Rattle.scj_rules.proofs.ReportLemmas.{Contains-head, Contains-tail}
-use Rattle.scj_model.specs.Code.{Code, binding, part, place_of_node}
+use Rattle.scj_model.specs.Code.{Code, binding, part, position_of_node}
 use Rattle.scj_model.specs.Ops.{body_ops}
 use Rattle.memory_needs.specs.declared.answers.NoBound.{NoBound}
 use Rattle.memory_needs.specs.declared.answers.NoBound.TheVariants.{NotLiteral, OuterArea, NewInLoop, TooSmall}
@@ -273,7 +273,7 @@ module _ (code : Code) (t u : Table) (f g : ℕ → ℕ) (id : ℕ) where
       let s : (g begins + (g condition + (g step + (g body + 0)))) + (0 + 0) ≡ 0 = still refl in
       let z = loop_free code t u id (f condition + (f step + f body)) (omega (arith, a, b, d, s)) in
       omega (arith, y, a, z)
-  node_le (New position name_place name xs) k h still =
+  node_le (New position name_position name xs) k h still =
       let a = sum_le f g xs h in
       let b = new_le code t u id (binding code id) k.here in
       omega (arith, a, b)
@@ -320,7 +320,7 @@ module _ (code : Code) (t u : Table) (f g : ℕ → ℕ) (id : ℕ) where
   node_le (Class position name flags header members) k h still =
       let d = unwritten_le code t u id id k.here in omega (arith, d)
   node_le (LocalNode position name flags declared_type) k h still = omega arith
-  node_le (LocalWithValue position name_place name flags declared_type value) k h still =
+  node_le (LocalWithValue position name_position name flags declared_type value) k h still =
       let a = h value (Contains-append_right (optional flags) (declared_type ∷ value ∷ []) value (1, omega arith, refl)) in
       let b = last_of g (optional flags) (declared_type ∷ value ∷ []) in
       omega (arith, a, b)
@@ -395,15 +395,15 @@ module _ (code : Code) (plain : IsPlain code) (class : ℕ) (table : Table) (rea
             read code.program.nodes number_literal m ≡ o →
             (n : ℕ) × (read code.program.nodes number_literal m ≡ Some n) × (n < too_much)
         numbers m asked None e =
-            absurd (none NotLiteral (place_of_node code m)
-            (record { number = m; is_asked = of_node id node rn asked; is_none = e; is_place = refl }))
+            absurd (none NotLiteral (position_of_node code m)
+            (record { number = m; is_asked = of_node id node rn asked; is_none = e; is_position = refl }))
         numbers m asked (Some n) e = (n, e, plain.small m n e)
 
         fit : (n : ℕ) → size_entered code id node ≡ Some n → (b : Body) → Contains (targets_entered code id node) b →
             (lt : Bool) → nat_lt n (table b) ≡ lt → told b ≤ n
         fit n written b c true e =
             let l : n < table b = grind (arith, nat_tests) in
-            absurd (none TooSmall (place_of_node code id) (entered id node n b rn written c l refl))
+            absurd (none TooSmall (position_of_node code id) (entered id node n b rn written c l refl))
         fit n written b c false e =
             let l : table b ≤ n = grind (arith, nat_tests) in let s = is_told b c in omega (arith, l, s)
 
@@ -411,7 +411,7 @@ module _ (code : Code) (plain : IsPlain code) (class : ℕ) (table : Table) (rea
             (lt : Bool) → nat_lt 0 (table b) ≡ lt → told b ≡ 0
         empty executes b c true e =
             let l : 0 < table b = grind (arith, nat_tests) in
-            absurd (none OuterArea (place_of_node code id) (record {
+            absurd (none OuterArea (position_of_node code id) (record {
               id = id;
               node = node;
               reached = rn;
@@ -419,7 +419,7 @@ module _ (code : Code) (plain : IsPlain code) (class : ℕ) (table : Table) (rea
               target = b;
               is_target = c;
               needs = l;
-              is_place = refl;
+              is_position = refl;
             }))
         empty executes b c false e =
             let l : table b ≤ 0 = grind (arith, nat_tests) in let s = is_told b c in omega (arith, l, s)
@@ -432,13 +432,13 @@ module _ (code : Code) (plain : IsPlain code) (class : ℕ) (table : Table) (rea
         of : (lt : Bool) → nat_lt 0 (need code table id) ≡ lt → need code table id ≡ 0
         of true e =
             let l : 0 < need code table id = grind (arith, nat_tests) in
-            absurd (none NewInLoop (place_of_node code id) (record {
+            absurd (none NewInLoop (position_of_node code id) (record {
               id = id;
               node = node;
               reached = reaches id node inside is;
               loops = loops;
               needs = l;
-              is_place = refl;
+              is_position = refl;
             }))
         of false e = let l : need code table id ≤ 0 = grind (arith, nat_tests) in omega (arith, l)
 
@@ -527,8 +527,8 @@ module _ (code : Code) (plain : IsPlain code) (class : ℕ) (table : Table) (rea
     where
       of : (o : Option ℕ) → read code.program.nodes number_literal form.0 ≡ o → IsYes code (storage code.program) told class
       of None e =
-          absurd (none NotLiteral (place_of_node code form.0)
-          (record { number = form.0; is_asked = of_form form.1; is_none = e; is_place = refl }))
+          absurd (none NotLiteral (position_of_node code form.0)
+          (record { number = form.0; is_asked = of_form form.1; is_none = e; is_position = refl }))
       of (Some n) e = test (nat_lt n (table fits.body)) refl
         where
           is_storage : storage code.program class ≡ Some n
@@ -537,7 +537,7 @@ module _ (code : Code) (plain : IsPlain code) (class : ℕ) (table : Table) (rea
           test : (lt : Bool) → nat_lt n (table fits.body) ≡ lt → IsYes code (storage code.program) told class
           test true q =
               let l : n < table fits.body = grind (arith, nat_tests) in
-              absurd (none TooSmall (class_place code.program class) (stored n fits.body is_storage fits.is_body l refl))
+              absurd (none TooSmall (class_position code.program class) (stored n fits.body is_storage fits.is_body l refl))
           test false q =
               let l : table fits.body ≤ n = grind (arith, nat_tests) in
               let s = told_is fits.body (reach.begins fits.body fits.is_body) in

@@ -132,7 +132,7 @@ module _ (code : Code) (t u : Table) (le : (body : Body) → t body ≤ u body) 
         let d = sub step in
         let c = loop_le (f condition + (f step + f body)) (g condition + (g step + g body)) (omega (arith, a, b, d)) in
         omega (arith, z, a, c)
-    node_le (New position name_place name xs) =
+    node_le (New position name_position name xs) =
         let a = all_le xs in let b = new_le (binding code id) in omega (arith, a, b)
     node_le (NewArray position element count) = let a = sub count in omega (arith, a)
     node_le (Call position name object xs) =
@@ -148,7 +148,7 @@ module _ (code : Code) (t u : Table) (le : (body : Body) → t body ≤ u body) 
         let a = sub call in let b = sub body in omega (arith, a, b)
     node_le (Class position name flags header members) = unwritten_le id
     node_le (LocalNode position name flags declared_type) = omega arith
-    node_le (LocalWithValue position name_place name flags declared_type value) = sub value
+    node_le (LocalWithValue position name_position name flags declared_type value) = sub value
     node_le n = all_le (children n)
 
   weight_step : (id : ℕ) → ((x : ℕ) → x < id → weight code t x ≤ weight code u x) → weight code t id ≤ weight code u id

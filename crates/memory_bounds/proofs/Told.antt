@@ -8,7 +8,7 @@ use Rattle.scj_base.specs.declared.faults.RunFault.TheVariants.{MemoryFull, Stor
 use Rattle.scj_base.specs.declared.places.Pos.{Pos}
 use Rattle.scj_base.specs.declared.values.Value.{Value}
 use Rattle.scj_rules.specs.declared.views.Body.{Body}
-use Rattle.scj_rules.specs.Bodies.{class_place}
+use Rattle.scj_rules.specs.Bodies.{class_position}
 use Rattle.accepted_laws.proofs.Tools.{some_inj}
 use Rattle.scj_model.specs.declared.events.Event.{Event}
 use Rattle.scj_model.specs.declared.events.Event.TheVariants.{Fault, Drop, End, Prio}
@@ -257,4 +257,4 @@ module _ (bad : RunFault → Bool) (only : (x : RunFault) → is_memory_fault x 
     unfolding started_with opening
     started_none row scope body room =
         either (has_store_for s row.bytes) _ _ (λ e. quiet _)
-        (λ e. spared StoreFull (has_store_for s row.bytes) s index no_activity (class_place code.program row.class) room e)
+        (λ e. spared StoreFull (has_store_for s row.bytes) s index no_activity (class_position code.program row.class) room e)

@@ -13,7 +13,7 @@ use Rattle.scj_model.specs.State.{Frame, Activity, Release, ReleaseAt, State, ac
 use Rattle.scj_model.specs.Registry.{handler_row}
 use Rattle.scj_model.specs.Steps.{Step}
 use Rattle.scj_model.specs.Apply.{applied}
-use Rattle.scj_model.specs.Run.{effect_at, place_of_op}
+use Rattle.scj_model.specs.Run.{effect_at, position_of_op}
 use Rattle.mission_sound.specs.Invariant.{Invariant}
 use Rattle.priority_laws.specs.Started.{StartedRelease, started_as, started_in, started_at}
 use Rattle.priority_laws.proofs.ReleaseMoves.{LeavesOthers}
@@ -60,7 +60,7 @@ module _ (code : Code) (storage : Storage) (table : Table) (bound : IsBound code
     (frames : a.frames ≡ f ∷ below) (op : Op) (rest : List Op) (next : f.rest ≡ op ∷ rest)
     (puts : PutsInto s f.area (effect_at code rows s f op rest)) (situated : Situated s (effect_at code rows s f op rest))
     (counted : op_weight code table op < too_much → IsCounted code table op (effect_at code rows s f op rest)) (step : Step)
-    (does : applied code s (ReleaseAt index) a below (place_of_op code op) (effect_at code rows s f op rest) ≡ Some step)
+    (does : applied code s (ReleaseAt index) a below (position_of_op code op) (effect_at code rows s f op rest) ≡ Some step)
     (leaves : LeavesOthers s step.state index)
     (same_handler : (w : StartedRelease) → started_at step.state.releases index ≡ Some w → w.handler ≡ r.handler) where
   row_before : (handler : ℕ) (row : HandlerRow) → handler_row step.state.registry handler ≡ Some row →
@@ -87,7 +87,7 @@ module _ (code : Code) (storage : Storage) (table : Table) (bound : IsBound code
       let was : started_at s.releases q ≡ Some w = sym (leaves.others q differ) ∙ e in
       other_stays code s i.base i.memories (ReleaseAt index) (ReleaseAt q) (λ same. differ (cc (same))) a w.activity is
       (started_activity s q w was) table f below frames step.state
-      (effect_spares code table s (ReleaseAt index) a (place_of_op code op) below f.area (effect_at code rows s f op rest)
+      (effect_spares code table s (ReleaseAt index) a (position_of_op code op) below f.area (effect_at code rows s f op rest)
       puts step does)
       (b.is q w row was (row_before w.handler row row_is) told)
 

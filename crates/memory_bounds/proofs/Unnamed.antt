@@ -189,14 +189,14 @@ module _ (u : ℕ) (o : Object) where
           past [] x e = cc (e)
           past (y ∷ xs) x e = past xs x e
 
-          place_of : Value → ℕ
-          place_of (At r) = r
-          place_of _ = 0
+          position_of : Value → ℕ
+          position_of (At r) = r
+          position_of _ = 0
 
           -- it is another object
           new : At (length s.objects) ≡ At u → ⊥
           new e =
-              let same : length s.objects ≡ u = ap place_of e in
+              let same : length s.objects ≡ u = ap position_of e in
               past s.objects o (ap (slice_get s.objects) same ∙ heap.object)
 
       call : (f g : Frame) → Kept u under this 0 f → Lack u g → Waits f g.body →

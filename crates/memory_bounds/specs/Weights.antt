@@ -95,7 +95,7 @@ node_weight code table sub id (While position condition body) =
     sub condition + loop_weight (sub condition + sub body)
 node_weight code table sub id (For position first condition step body) =
     sub first + (sub condition + loop_weight (sub condition + (sub step + sub body)))
-node_weight code table sub id (New position name_place name arguments) =
+node_weight code table sub id (New position name_position name arguments) =
     sum_of sub arguments + new_weight code table (binding code id)
 node_weight code table sub id (NewArray position element count) = sub count + array_weight code id
 node_weight code table sub id (Call position name object arguments) =
@@ -108,7 +108,7 @@ node_weight code table sub id (Constructor position name flags parameters super_
     (elim super_call [ None ↦ unwritten_super_weight code table id | Some call ↦ sub call ]) + sub body
 node_weight code table sub id (Class position name flags header members) = unwritten_super_weight code table id
 node_weight code table sub id (LocalNode position name flags declared_type) = 0
-node_weight code table sub id (LocalWithValue position name_place name flags declared_type value) = sub value
+node_weight code table sub id (LocalWithValue position name_position name flags declared_type value) = sub value
 node_weight code table sub id node = sum_of sub (children node)
 
 unfoldable pub next_weight : Code → Table → ℕ → (ℕ → ℕ) → ℕ

@@ -12,8 +12,8 @@ use Rattle.scj_rules.specs.declared.views.Body.{Body}
 use Rattle.scj_rules.specs.declared.views.Body.TheVariants.{Written, Empty}
 use Rattle.scj_rules.specs.Definitions.{read}
 use Rattle.scj_rules.specs.Words.{◌>>=◌}
-use Rattle.scj_rules.specs.Bodies.{number_literal, class_place}
-use Rattle.scj_model.specs.Code.{Code, binding, place_of_node}
+use Rattle.scj_rules.specs.Bodies.{number_literal, class_position}
+use Rattle.scj_model.specs.Code.{Code, binding, position_of_node}
 use Rattle.memory_needs.specs.declared.answers.BoundAnswer.TheVariants.{No}
 use Rattle.memory_needs.specs.declared.answers.NoBound.{NoBound}
 use Rattle.memory_needs.specs.declared.answers.NoBound.TheVariants.{Recursion, NotLiteral, OuterArea, NewInLoop, TooSmall}
@@ -28,7 +28,7 @@ use Rattle.memory_needs.specs.Edges.{count, body_vertex, IsGraphOf}
 use Rattle.memory_needs.specs.Shown.{IsShown, no_number, fills, makes, small}
 use Rattle.memory_needs.specs.Chosen.{is_before, IsChosen}
 use Rattle.memory_needs.specs.ClassShown.{answer_for}
-use Rattle.memory_needs.proofs.Choosing.{earlier_place, earlier_cause}
+use Rattle.memory_needs.proofs.Choosing.{earlier_position, earlier_cause}
 use Rattle.memory_needs.proofs.Leading.{there_is}
 use Rattle.memory_needs.proofs.Reached.{node_reached, reached_node, recurs_there, there_recurs, are_needs, node_need_is}
 
@@ -69,15 +69,15 @@ module _ (code : Code) (first : ChildrenFirst 0 code.program.nodes) (graph : Gra
     pub data ClassShows : Shown → Type 0 where
       recursion : (body : ℕ) → body < count code → slice_index_or marks (body_vertex code body) false ≡ true →
           slice_index_or loops (body_vertex code body) false ≡ true →
-          ClassShows (record { cause = Recursion; at = place_of_node code body })
+          ClassShows (record { cause = Recursion; at = position_of_node code body })
       by_node : (id : ℕ) (node : Node) (cause : NoBound) (at : Pos) → slice_get code.program.nodes id ≡ Some node →
           slice_index_or marks id false ≡ true → IsShown code (told_by rows) (lookup 0 rows) id node cause at →
           ClassShows (record { cause = cause; at = at })
       by_form : (number : ℕ) → storage_node code.program class ≡ Some number →
           read code.program.nodes number_literal number ≡ None →
-          ClassShows (record { cause = NotLiteral; at = place_of_node code number })
+          ClassShows (record { cause = NotLiteral; at = position_of_node code number })
       by_storage : (bytes : ℕ) → storage code.program class ≡ Some bytes → bytes < lookup 0 rows handler →
-          ClassShows (record { cause = TooSmall; at = class_place code.program class })
+          ClassShows (record { cause = TooSmall; at = class_position code.program class })
 
     handler_below : (n : ℕ) (body : Body) → handler_body code class ≡ Some body →
         n < told_by (solved code order (zero_rows code)) body → n < too_much → n < lookup 0 rows handler
@@ -137,7 +137,7 @@ module _ (code : Code) (first : ChildrenFirst 0 code.program.nodes) (graph : Gra
               slice_index_or loops (body_vertex code body) false ≡ false
           of false e = e
           of true e =
-              absurd (none (place_of_node code body)
+              absurd (none (position_of_node code body)
               (there_recurs code first graph is class handler handles there body l r
               ((ordered.exact (body_vertex code body) (let w = is.whole in omega (arith, l, w))).0 e)))
 
@@ -167,27 +167,27 @@ module _ (code : Code) (first : ChildrenFirst 0 code.program.nodes) (graph : Gra
           ClassShows (record { cause = cause; at = at })
       unfolding Shows storage
       shows_found Recursion at s = recurs_shown at s
-      shows_found NotLiteral at s = of s.number s.is_asked s.is_none s.is_place
+      shows_found NotLiteral at s = of s.number s.is_asked s.is_none s.is_position
         where
           of : (number : ℕ) → AsksNumber code class number → read code.program.nodes number_literal number ≡ None →
-              place_of_node code number ≡ at → ClassShows (record { cause = NotLiteral; at = at })
+              position_of_node code number ≡ at → ClassShows (record { cause = NotLiteral; at = at })
           of number (of_form e) n p =
               subst (λ z. ClassShows (record { cause = NotLiteral; at = z })) p (by_form number e n)
           of number (of_node id node r e) n p =
               subst (λ z. ClassShows (record { cause = NotLiteral; at = z })) p
-              (at_node id node r NotLiteral (place_of_node code number) (no_number number e n))
+              (at_node id node r NotLiteral (position_of_node code number) (no_number number e n))
       shows_found OuterArea at s =
-          subst (λ z. ClassShows (record { cause = OuterArea; at = z })) s.is_place
-          (at_node s.id s.node s.reached OuterArea (place_of_node code s.id)
+          subst (λ z. ClassShows (record { cause = OuterArea; at = z })) s.is_position
+          (at_node s.id s.node s.reached OuterArea (position_of_node code s.id)
           (fills s.target s.executes s.is_target (above_told 0 s.target s.needs (omega arith))))
       shows_found NewInLoop at s =
-          subst (λ z. ClassShows (record { cause = NewInLoop; at = z })) s.is_place
-          (at_node s.id s.node s.reached NewInLoop (place_of_node code s.id)
+          subst (λ z. ClassShows (record { cause = NewInLoop; at = z })) s.is_position
+          (at_node s.id s.node s.reached NewInLoop (position_of_node code s.id)
           (makes s.loops (let a = loop_need s.id s.node s.reached in let b = s.needs in let c = capped.each s.id in
           omega (arith, a, b, c))))
       shows_found TooSmall at (entered id node size target r e c l p) =
           subst (λ z. ClassShows (record { cause = TooSmall; at = z })) p
-          (at_node id node r TooSmall (place_of_node code id)
+          (at_node id node r TooSmall (position_of_node code id)
           (small size target e c (above_told size target l (read_small (entered_with (binding code id) node) size e))))
       shows_found TooSmall at (stored bytes body e h l p) =
           subst (λ z. ClassShows (record { cause = TooSmall; at = z })) p
@@ -198,7 +198,7 @@ module _ (code : Code) (first : ChildrenFirst 0 code.program.nodes) (graph : Gra
           Shows code class (told_by (solved code order (zero_rows code))) s.cause s.at
       unfolding Shows
       found_shows _ (recursion body l m t) n = absurd (n refl)
-      found_shows _ (by_form number a b) n = record { number = number; is_asked = of_form a; is_none = b; is_place = refl }
+      found_shows _ (by_form number a b) n = record { number = number; is_asked = of_form a; is_none = b; is_position = refl }
       found_shows _ (by_storage bytes a b) n =
           stored bytes (Written handler) a handles (told_above bytes (Written handler) (told_handler bytes b)) refl
       found_shows _ (by_node id node cause at e m s) n = by_cause cause at s
@@ -211,7 +211,7 @@ module _ (code : Code) (first : ChildrenFirst 0 code.program.nodes) (graph : Gra
           by_cause : (cause : NoBound) (at : Pos) → IsShown code (told_by rows) (lookup 0 rows) id node cause at →
               Shows code class (told_by (solved code order (zero_rows code))) cause at
           by_cause _ _ (no_number number a b) =
-              record { number = number; is_asked = of_node id node r a; is_none = b; is_place = refl }
+              record { number = number; is_asked = of_node id node r a; is_none = b; is_position = refl }
           by_cause _ _ (fills target a b c) = record {
             id = id;
             node = node;
@@ -220,7 +220,7 @@ module _ (code : Code) (first : ChildrenFirst 0 code.program.nodes) (graph : Gra
             target = target;
             is_target = b;
             needs = told_above 0 target c;
-            is_place = refl;
+            is_position = refl;
           }
           by_cause _ _ (makes a b) = record {
             id = id;
@@ -228,7 +228,7 @@ module _ (code : Code) (first : ChildrenFirst 0 code.program.nodes) (graph : Gra
             reached = r;
             loops = a;
             needs = (let x = loop_need id node r in let y = capped.each id in omega (arith, b, x, y));
-            is_place = refl;
+            is_position = refl;
           }
           by_cause _ _ (small size target a b c) = entered id node size target r a b (told_above size target c) refl
 
@@ -307,7 +307,7 @@ module _ (code : Code) (first : ChildrenFirst 0 code.program.nodes) (graph : Gra
                 none_before = λ at h b. c.first (record { cause = Recursion; at = at })
                     (recurs_shown at (subst (λ x. Shows code class (told_by (solved code order (zero_rows code))) x at)
                     e h))
-                    (earlier_place (record { cause = Recursion; at = at }) s (ap order_of (sym e)) b);
+                    (earlier_position (record { cause = Recursion; at = at }) s (ap order_of (sym e)) b);
               };
             };
           }
@@ -320,7 +320,7 @@ module _ (code : Code) (first : ChildrenFirst 0 code.program.nodes) (graph : Gra
               first = record {
                 here = found_shows none s c.that n;
                 none_before = λ at h b. c.first (record { cause = s.cause; at = at }) (shows_found none s.cause at h)
-                    (earlier_place (record { cause = s.cause; at = at }) s refl b);
+                    (earlier_position (record { cause = s.cause; at = at }) s refl b);
               };
             };
           }

@@ -5,7 +5,7 @@ use Rattle.std.specs.declared.cmp.Ordering.{Ordering}
 use Rattle.std.specs.declared.cmp.Ordering.TheVariants.{Less, Equal, Greater}
 use Rattle.std.proofs.Common.{◌≡◌, inl, inr, ℕ, ◌<◌, ◌==◌, ◌&&◌, ◌||◌, List, [], ◌∷◌, Bool, true, false, true≢false, refl, sym, ◌∙◌, ap, subst, arith}
 use Rattle.std.proofs.lemmas.Bool.Decides.{nat_tests}
-use Rattle.scj_rules.specs.Report.{place_order}
+use Rattle.scj_rules.specs.Report.{position_order}
 use Rattle.memory_needs.specs.declared.shown.Shown.{Shown}
 use Rattle.memory_needs.specs.Causes.{order_of}
 use Rattle.memory_needs.specs.Chosen.{lexical, key_of, is_before, first_of, IsChosen, IsAll}
@@ -85,10 +85,10 @@ cmp_then m n rest after h e = of (nat_lt m n) (nat_lt n m) refl refl
         not_less a b k = (let g : nat_cmp m n ≡ Greater = rw (a, b) refl in cc (g, k))
 
 -- of one cause, what stands before in order of place stands before
-pub earlier_place : (a b : Shown) → order_of a.cause ≡ order_of b.cause → place_order a.at b.at ≡ Less →
+pub earlier_position : (a b : Shown) → order_of a.cause ≡ order_of b.cause → position_order a.at b.at ≡ Less →
     is_before a b ≡ true
 unfolding key_of lexical
-earlier_place a b e p =
+earlier_position a b e p =
     of_same (order_of a.cause) (order_of b.cause) (lexical (a.at.file ∷ a.at.line ∷ a.at.col ∷ []) (b.at.file ∷ b.at.line ∷ b.at.col ∷ [])) e
     (cmp_then a.at.file b.at.file (ordering_then (nat_cmp a.at.line b.at.line) (nat_cmp a.at.col b.at.col))
     (lexical (a.at.line ∷ a.at.col ∷ []) (b.at.line ∷ b.at.col ∷ []))

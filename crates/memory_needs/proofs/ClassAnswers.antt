@@ -11,8 +11,8 @@ use Rattle.scj_tree.proofs.RecursionLemmas.{listed-at}
 use Rattle.scj_rules.specs.declared.views.Body.TheVariants.{Written}
 use Rattle.scj_rules.specs.Definitions.{read}
 use Rattle.scj_rules.specs.Words.{◌>>=◌}
-use Rattle.scj_rules.specs.Bodies.{number_literal, class_place}
-use Rattle.scj_model.specs.Code.{Code, place_of_node}
+use Rattle.scj_rules.specs.Bodies.{number_literal, class_position}
+use Rattle.scj_model.specs.Code.{Code, position_of_node}
 use Rattle.memory_needs.specs.declared.answers.BoundAnswer.{BoundAnswer}
 use Rattle.memory_needs.specs.declared.answers.NoBound.{NoBound}
 use Rattle.memory_needs.specs.declared.answers.NoBound.TheVariants.{Recursion, NotLiteral, TooSmall}
@@ -86,9 +86,9 @@ module _ (code : Code) (first : ChildrenFirst 0 code.program.nodes) (tables : Ta
     where
       of : (m t : Bool) → slice_index_or marks (body_vertex code b) false ≡ m →
           slice_index_or tables.order.loops.items (body_vertex code b) false ≡ t →
-          (if m && t then Some (record { cause = Recursion; at = place_of_node code b }) else None) ≡ Some s → Is s
+          (if m && t then Some (record { cause = Recursion; at = position_of_node code b }) else None) ≡ Some s → Is s
       of true true p q e =
-          (let same : record { cause = Recursion; at = place_of_node code b } ≡ s = cc (e) in
+          (let same : record { cause = Recursion; at = position_of_node code b } ≡ s = cc (e) in
           subst Is same (recursion b l p q))
       of true false p q e = absurd (cc (e))
       of false t p q e = absurd (cc (e))
@@ -124,21 +124,21 @@ module _ (code : Code) (first : ChildrenFirst 0 code.program.nodes) (tables : Ta
       by_bytes : (number : ℕ) → storage_node code.program class ≡ Some number → (o : Option ℕ) →
           read code.program.nodes number_literal number ≡ o →
           (elim o [
-            | None ↦ Some (record { cause = NotLiteral; at = place_of_node code number })
+            | None ↦ Some (record { cause = NotLiteral; at = position_of_node code number })
             | Some bytes ↦
                 if nat_lt bytes (lookup 0 tables.needs.items handler)
-                then Some (record { cause = TooSmall; at = class_place code.program class }) else None
+                then Some (record { cause = TooSmall; at = class_position code.program class }) else None
           ]) ≡ Some s → Is s
       by_bytes number h None q e =
-          (let same : record { cause = NotLiteral; at = place_of_node code number } ≡ s = cc (e) in
+          (let same : record { cause = NotLiteral; at = position_of_node code number } ≡ s = cc (e) in
           subst Is same (by_form number h q))
       by_bytes number h (Some bytes) q e = by_test (nat_lt bytes (lookup 0 tables.needs.items handler)) refl e
         where
           by_test : (b : Bool) → nat_lt bytes (lookup 0 tables.needs.items handler) ≡ b →
-              (if b then Some (record { cause = TooSmall; at = class_place code.program class }) else None) ≡ Some s →
+              (if b then Some (record { cause = TooSmall; at = class_position code.program class }) else None) ≡ Some s →
               Is s
           by_test true t e =
-              (let same : record { cause = TooSmall; at = class_place code.program class } ≡ s = cc (e) in
+              (let same : record { cause = TooSmall; at = class_position code.program class } ≡ s = cc (e) in
               subst Is same
               (by_storage bytes (ap (λ (o : Option ℕ). o >>= read code.program.nodes number_literal) h ∙ q)
               (grind (arith, nat_tests))))
@@ -148,10 +148,10 @@ module _ (code : Code) (first : ChildrenFirst 0 code.program.nodes) (tables : Ta
           (elim o [
             | None ↦ None
             | Some number ↦ elim (read code.program.nodes number_literal number) [
-              | None ↦ Some (record { cause = NotLiteral; at = place_of_node code number })
+              | None ↦ Some (record { cause = NotLiteral; at = position_of_node code number })
               | Some bytes ↦
                   if nat_lt bytes (lookup 0 tables.needs.items handler)
-                  then Some (record { cause = TooSmall; at = class_place code.program class }) else None
+                  then Some (record { cause = TooSmall; at = class_position code.program class }) else None
             ]
           ]) ≡ Some s → Is s
       of None h e = absurd (cc (e))
@@ -165,8 +165,8 @@ module _ (code : Code) (first : ChildrenFirst 0 code.program.nodes) (tables : Ta
   listed_all _ (recursion b l m t) =
       inl (at_body b (among b l (ap (λ x. x || is_some (lookup None tables.shown.items b)) t))
       (ap (λ x. if x && slice_index_or tables.order.loops.items (body_vertex code b) false
-      then Some (record { cause = Recursion; at = place_of_node code b }) else None) m
-      ∙ ap (λ x. if x then Some (record { cause = Recursion; at = place_of_node code b }) else None) t))
+      then Some (record { cause = Recursion; at = position_of_node code b }) else None) m
+      ∙ ap (λ x. if x then Some (record { cause = Recursion; at = position_of_node code b }) else None) t))
   listed_all _ (by_node id node cause at e m h) =
       (let l = there_is code first (rows_of tables.edges.items) (graph_is code tables.edges.items are.edges)
       code.program.nodes id node e in
@@ -185,24 +185,24 @@ module _ (code : Code) (first : ChildrenFirst 0 code.program.nodes) (tables : Ta
       by_number : storage_node code.program class ≡ Some number →
           read code.program.nodes number_literal number ≡ None →
           storage_shown code class (lookup 0 tables.needs.items handler)
-          ≡ Some (record { cause = NotLiteral; at = place_of_node code number })
+          ≡ Some (record { cause = NotLiteral; at = position_of_node code number })
       by_number a b =
           ap (λ (o : Option ℕ). elim o [
             | None ↦ None
             | Some n ↦ bytes_shown code class (lookup 0 tables.needs.items handler) n
           ]) a
           ∙ ap (λ (o : Option ℕ). elim o [
-            | None ↦ Some (record { cause = NotLiteral; at = place_of_node code number })
+            | None ↦ Some (record { cause = NotLiteral; at = position_of_node code number })
             | Some bytes ↦
                 if nat_lt bytes (lookup 0 tables.needs.items handler)
-                then Some (record { cause = TooSmall; at = class_place code.program class }) else None
+                then Some (record { cause = TooSmall; at = class_position code.program class }) else None
           ]) b
   listed_all _ (by_storage bytes a l) = inr (of (storage_node code.program class) refl a)
     where
       of : (o : Option ℕ) → storage_node code.program class ≡ o →
           (o >>= read code.program.nodes number_literal) ≡ Some bytes →
           storage_shown code class (lookup 0 tables.needs.items handler)
-          ≡ Some (record { cause = TooSmall; at = class_place code.program class })
+          ≡ Some (record { cause = TooSmall; at = class_position code.program class })
       of None h e = absurd (cc (e))
       of (Some number) h e =
           ap (λ (o : Option ℕ). elim o [
@@ -210,12 +210,12 @@ module _ (code : Code) (first : ChildrenFirst 0 code.program.nodes) (tables : Ta
             | Some n ↦ bytes_shown code class (lookup 0 tables.needs.items handler) n
           ]) h
           ∙ (ap (λ (o : Option ℕ). elim o [
-            | None ↦ Some (record { cause = NotLiteral; at = place_of_node code number })
+            | None ↦ Some (record { cause = NotLiteral; at = position_of_node code number })
             | Some bytes ↦
                 if nat_lt bytes (lookup 0 tables.needs.items handler)
-                then Some (record { cause = TooSmall; at = class_place code.program class }) else None
+                then Some (record { cause = TooSmall; at = class_position code.program class }) else None
           ]) e
-          ∙ ap (λ b. if b then Some (record { cause = TooSmall; at = class_place code.program class }) else None)
+          ∙ ap (λ b. if b then Some (record { cause = TooSmall; at = class_position code.program class }) else None)
           (let t : nat_lt bytes (lookup 0 tables.needs.items handler) ≡ true = grind (arith, nat_tests) in t))
 
   -- ---- the answer

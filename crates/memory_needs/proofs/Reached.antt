@@ -10,7 +10,7 @@ use Rattle.scj_tree.specs.Forest.{ChildrenFirst}
 use Rattle.scj_tree.specs.Recursion.{lookup}
 use Rattle.scj_rules.specs.declared.views.Body.{Body}
 use Rattle.scj_rules.specs.declared.views.Body.TheVariants.{Written, Empty}
-use Rattle.scj_model.specs.Code.{Code, place_of_node}
+use Rattle.scj_model.specs.Code.{Code, position_of_node}
 use Rattle.memory_needs.specs.Reach.{IsIn, itself, IsInBody, MayRun, Leads, at_once, by_another, handler_body, Reaches, begins, goes_on, ReachesNode}
 use Rattle.memory_needs.specs.Need.{body_need, RunsHere, HasNeed, by_targets, need, AreNeeds}
 use Rattle.memory_needs.specs.Causes.{Recurs}
@@ -129,20 +129,20 @@ module _ (code : Code) (first : ChildrenFirst 0 code.program.nodes) (graph : Gra
 
   pub recurs_there : (at : Pos) → Recurs code class at →
       (body : ℕ) × (body < count code) × IsReached graph (body_vertex code handler) (body_vertex code body)
-      × LeadsToItself graph (body_vertex code body) × (place_of_node code body ≡ at)
+      × LeadsToItself graph (body_vertex code body) × (position_of_node code body ≡ at)
   recurs_there at r =
       let n = leads_first (Written r.node) (Written r.node) r.again in
       let l = runs_something code first graph is r.node n.0 n.1 in
-      (r.node, l, body_reached r.node l r.reached, (itself_led code first graph is r.node l).1 r.again, r.is_place)
+      (r.node, l, body_reached r.node l r.reached, (itself_led code first graph is r.node l).1 r.again, r.is_position)
 
   pub there_recurs : (body : ℕ) → body < count code →
       IsReached graph (body_vertex code handler) (body_vertex code body) → LeadsToItself graph (body_vertex code body) →
-      Recurs code class (place_of_node code body)
+      Recurs code class (position_of_node code body)
   there_recurs body l r h = record {
     node = body;
     reached = reached_body body l r;
     again = (itself_led code first graph is body l).0 h;
-    is_place = refl;
+    is_position = refl;
   }
 
   module _ (order : List ℕ) (loops : List Bool) (ordered : AreInOrder graph order loops)

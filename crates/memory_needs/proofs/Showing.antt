@@ -14,7 +14,7 @@ use Rattle.scj_rules.specs.declared.typing.Binding.{Binding}
 use Rattle.scj_rules.specs.declared.typing.Binding.TheVariants.{Builtin}
 use Rattle.scj_rules.specs.declared.views.Body.{Body}
 use Rattle.scj_rules.specs.Bodies.{number_literal}
-use Rattle.scj_model.specs.Code.{Code, binding, place_of_node}
+use Rattle.scj_model.specs.Code.{Code, binding, position_of_node}
 use Rattle.memory_needs.specs.declared.answers.NoBound.{NoBound}
 use Rattle.memory_needs.specs.declared.answers.NoBound.TheVariants.{NotLiteral, OuterArea, NewInLoop, TooSmall}
 use Rattle.memory_needs.specs.declared.shown.Shown.{Shown}
@@ -81,13 +81,13 @@ module _ (code : Code) (table : Table) (needs : ℕ → ℕ) (id : ℕ) where
     where
       of : (o : Option ℕ) → read code.program.nodes number_literal count ≡ o →
           ShowsOne code table needs id node
-          (elim o [ None ↦ Some (record { cause = NotLiteral; at = place_of_node code count }) | Some n ↦ None ])
+          (elim o [ None ↦ Some (record { cause = NotLiteral; at = position_of_node code count }) | Some n ↦ None ])
       of None e = record { nothing = tt; that = no_number count a e; alone = alone }
         where
           alone : (cause : NoBound) (at : Pos) → IsShown code table needs id node cause at →
-              (cause ≡ NotLiteral) × (at ≡ place_of_node code count)
+              (cause ≡ NotLiteral) × (at ≡ position_of_node code count)
           alone _ _ (no_number number b n) =
-              (let same : number ≡ count = cc (a, b) in (refl, ap (place_of_node code) same))
+              (let same : number ≡ count = cc (a, b) in (refl, ap (position_of_node code) same))
           alone _ _ (fills target b c n) = absurd (none_contained target (subst (λ bs. Contains bs target) t c))
           alone _ _ (makes b n) = absurd (cc (l, b))
           alone _ _ (small size target b c n) = absurd (none_contained target (subst (λ bs. Contains bs target) t c))
@@ -110,11 +110,11 @@ module _ (code : Code) (table : Table) (needs : ℕ → ℕ) (id : ℕ) where
     where
       of : (b : Bool) → nat_lt 0 (needs id) ≡ b →
           ShowsOne code table needs id node
-          (if b then Some (record { cause = NewInLoop; at = place_of_node code id }) else None)
+          (if b then Some (record { cause = NewInLoop; at = position_of_node code id }) else None)
       of true e = record { nothing = tt; that = makes l (grind (arith, nat_tests)); alone = alone }
         where
           alone : (cause : NoBound) (at : Pos) → IsShown code table needs id node cause at →
-              (cause ≡ NewInLoop) × (at ≡ place_of_node code id)
+              (cause ≡ NewInLoop) × (at ≡ position_of_node code id)
           alone _ _ (no_number number b n) = absurd (cc (a, b))
           alone _ _ (fills target b c n) = absurd (none_contained target (subst (λ bs. Contains bs target) t c))
           alone _ _ (makes b n) = (refl, refl)
@@ -154,13 +154,13 @@ module _ (code : Code) (table : Table) (needs : ℕ → ℕ) (id : ℕ) where
 
         of : (b : Bool) → nat_lt 0 (greatest table (targets_entered code id node)) ≡ b →
             ShowsOne code table needs id node
-            (if b then Some (record { cause = OuterArea; at = place_of_node code id }) else None)
+            (if b then Some (record { cause = OuterArea; at = position_of_node code id }) else None)
         of true e =
             let h = greatest_there table (targets_entered code id node) 0 (grind (arith, nat_tests)) in
             record { nothing = tt; that = fills h.0 x h.1 h.2; alone = alone }
           where
             alone : (cause : NoBound) (at : Pos) → IsShown code table needs id node cause at →
-                (cause ≡ OuterArea) × (at ≡ place_of_node code id)
+                (cause ≡ OuterArea) × (at ≡ position_of_node code id)
             alone _ _ (no_number number b n) = absurd (cc (a, b))
             alone _ _ (fills target b c n) = (refl, refl)
             alone _ _ (makes b n) = absurd (cc (loop, b))
@@ -188,17 +188,17 @@ module _ (code : Code) (table : Table) (needs : ℕ → ℕ) (id : ℕ) where
         of : (o : Option ℕ) → read code.program.nodes number_literal size ≡ o →
             ShowsOne code table needs id node
             (elim o [
-              | None ↦ Some (record { cause = NotLiteral; at = place_of_node code size })
+              | None ↦ Some (record { cause = NotLiteral; at = position_of_node code size })
               | Some bytes ↦
                   if nat_lt bytes (greatest table (targets_entered code id node))
-                  then Some (record { cause = TooSmall; at = place_of_node code id }) else None
+                  then Some (record { cause = TooSmall; at = position_of_node code id }) else None
             ])
         of None e = record { nothing = tt; that = no_number size a e; alone = alone }
           where
             alone : (cause : NoBound) (at : Pos) → IsShown code table needs id node cause at →
-                (cause ≡ NotLiteral) × (at ≡ place_of_node code size)
+                (cause ≡ NotLiteral) × (at ≡ position_of_node code size)
             alone _ _ (no_number number b n) =
-                (let same : number ≡ size = cc (a, b) in (refl, ap (place_of_node code) same))
+                (let same : number ≡ size = cc (a, b) in (refl, ap (position_of_node code) same))
             alone _ _ (fills target b c n) = absurd (true≢false (sym b ∙ x))
             alone _ _ (makes b n) = absurd (cc (loop, b))
             alone _ _ (small bytes target b c n) = absurd (let k = sized None e in cc (k, b))
@@ -206,13 +206,13 @@ module _ (code : Code) (table : Table) (needs : ℕ → ℕ) (id : ℕ) where
           where
             by_test : (b : Bool) → nat_lt bytes (greatest table (targets_entered code id node)) ≡ b →
                 ShowsOne code table needs id node
-                (if b then Some (record { cause = TooSmall; at = place_of_node code id }) else None)
+                (if b then Some (record { cause = TooSmall; at = position_of_node code id }) else None)
             by_test true q =
                 let h = greatest_there table (targets_entered code id node) bytes (grind (arith, nat_tests)) in
                 record { nothing = tt; that = small bytes h.0 (sized (Some bytes) e) h.1 h.2; alone = alone }
               where
                 alone : (cause : NoBound) (at : Pos) → IsShown code table needs id node cause at →
-                    (cause ≡ TooSmall) × (at ≡ place_of_node code id)
+                    (cause ≡ TooSmall) × (at ≡ position_of_node code id)
                 alone _ _ (no_number number b n) =
                     absurd (let same : number ≡ size = cc (a, b) in
                     let f = ap (read code.program.nodes number_literal) same in cc (f, n, e))

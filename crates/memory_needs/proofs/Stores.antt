@@ -8,7 +8,7 @@ use Rattle.scj_tree.specs.Recursion.{lookup}
 use Rattle.scj_rules.proofs.ReportLemmas.{Contains-head, Contains-tail, Contains-cases, none_contained}
 use Rattle.scj_rules.specs.declared.views.Body.{Body}
 use Rattle.scj_rules.specs.declared.views.Body.TheVariants.{Written}
-use Rattle.scj_model.specs.Code.{Code, place_of_node}
+use Rattle.scj_model.specs.Code.{Code, position_of_node}
 use Rattle.memory_needs.specs.declared.answers.BoundAnswer.{BoundAnswer}
 use Rattle.memory_needs.specs.declared.answers.BoundAnswer.TheVariants.{Yes, No}
 use Rattle.memory_needs.specs.declared.answers.BoundRow.{BoundRow}
@@ -125,7 +125,7 @@ module _ (code : Code) (first : ChildrenFirst 0 code.program.nodes) (tables : Ta
               slice_index_or tables.order.loops.items (body_vertex code body) false ≡ false
           of false e = e
           of true e =
-              absurd (none (place_of_node code body)
+              absurd (none (position_of_node code body)
               (there_recurs code first (rows_of tables.edges.items) is class handler handles there body l r
               ((are.ordered.exact (body_vertex code body) (let w = is.whole in omega (arith, l, w))).0 e)))
 

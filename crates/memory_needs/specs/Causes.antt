@@ -13,10 +13,10 @@ use Rattle.scj_rules.specs.Words.{holds, ◌>>=◌}
 use Rattle.scj_rules.specs.Classes.{superclasses, superclass_in}
 use Rattle.scj_rules.specs.Contexts.{Declarations}
 use Rattle.scj_rules.specs.Definitions.{read}
-use Rattle.scj_rules.specs.Report.{place_order}
+use Rattle.scj_rules.specs.Report.{position_order}
 use Rattle.scj_rules.specs.Types.{has_form, form_in}
-use Rattle.scj_rules.specs.Bodies.{number_literal, class_place}
-use Rattle.scj_model.specs.Code.{Code, binding, place_of_node}
+use Rattle.scj_rules.specs.Bodies.{number_literal, class_position}
+use Rattle.scj_model.specs.Code.{Code, binding, position_of_node}
 use Rattle.memory_needs.specs.declared.answers.NoBound.{NoBound}
 use Rattle.memory_needs.specs.declared.answers.NoBound.TheVariants.{Recursion, NotLiteral, OuterArea, NewInLoop, TooSmall}
 use Rattle.memory_needs.specs.Targets.{targets_entered}
@@ -28,7 +28,7 @@ use Rattle.memory_needs.specs.Room.{entered_with, size_entered}
 
 -- the argument of a part of a form
 unfoldable pub only_argument : Node → Option ℕ
-only_argument (New position name_place name (argument ∷ [])) = Some argument
+only_argument (New position name_position name (argument ∷ [])) = Some argument
 only_argument _ = None
 
 -- the class of a handler's chain whose constructor begins with the form
@@ -51,7 +51,7 @@ pub record Recurs (code : Code) (class : ℕ) (at : Pos) : Type 0 where
   pub node : ℕ
   pub reached : Reaches code class (Written node)
   pub again : Leads code (Written node) (Written node)
-  pub is_place : place_of_node code node ≡ at
+  pub is_position : position_of_node code node ≡ at
 
 -- the node of the size of a private memory, and of the length of an array
 unfoldable pub number_asked : Code → ℕ → Node → Option ℕ
@@ -68,7 +68,7 @@ pub record LacksNumber (code : Code) (class : ℕ) (at : Pos) : Type 0 where
   pub number : ℕ
   pub is_asked : AsksNumber code class number
   pub is_none : read code.program.nodes number_literal number ≡ None
-  pub is_place : place_of_node code number ≡ at
+  pub is_position : position_of_node code number ≡ at
 
 -- what a call of executeInAreaOf runs puts something there
 unfoldable pub executes_in_area : Binding → Bool
@@ -83,7 +83,7 @@ pub record FillsOuterArea (code : Code) (class : ℕ) (table : Table) (at : Pos)
   pub target : Body
   pub is_target : Contains (targets_entered code id node) target
   pub needs : 0 < table target
-  pub is_place : place_of_node code id ≡ at
+  pub is_position : position_of_node code id ≡ at
 
 unfoldable pub is_loop : Node → Bool
 is_loop (While position condition body) = true
@@ -96,15 +96,15 @@ pub record MakesInLoop (code : Code) (class : ℕ) (table : Table) (at : Pos) : 
   pub reached : ReachesNode code class id node
   pub loops : is_loop node ≡ true
   pub needs : 0 < need code table id
-  pub is_place : place_of_node code id ≡ at
+  pub is_position : position_of_node code id ≡ at
 
 -- a size is below what is put there, or the storage is
 pub data IsTooSmall (code : Code) (class : ℕ) (table : Table) (at : Pos) : Type 0 where
   entered : (id : ℕ) (node : Node) (size : ℕ) (target : Body) → ReachesNode code class id node →
       size_entered code id node ≡ Some size → Contains (targets_entered code id node) target → size < table target →
-      place_of_node code id ≡ at → IsTooSmall code class table at
+      position_of_node code id ≡ at → IsTooSmall code class table at
   stored : (bytes : ℕ) (body : Body) → storage code.program class ≡ Some bytes → handler_body code class ≡ Some body →
-      bytes < table body → class_place code.program class ≡ at → IsTooSmall code class table at
+      bytes < table body → class_position code.program class ≡ at → IsTooSmall code class table at
 
 -- a place that shows a cause, by a table of Needs
 unfoldable pub Shows : Code → ℕ → Table → NoBound → Pos → Type 0
@@ -129,7 +129,7 @@ IsNowhere Is = (at : Pos) → Is at → ⊥
 
 pub record IsFirst (Is : Pos → Type 0) (at : Pos) : Type 0 where
   pub here : Is at
-  pub none_before : (other : Pos) → Is other → place_order other at ≡ Less → ⊥
+  pub none_before : (other : Pos) → Is other → position_order other at ≡ Less → ⊥
 
 pub record IsFirstCause (code : Code) (class : ℕ) (table : Table) (cause : NoBound) (at : Pos) : Type 0 where
   pub none_before : (other : NoBound) → order_of other < order_of cause → IsNowhere (Shows code class table other)

@@ -3,8 +3,8 @@
 use Rattle.std.specs.Prelude.{ℕ, nat_lt, Bool, false, ◌&&◌, List, slice_index_or, Option, Some, None, if◌then◌else◌, ◌||◌, [], ◌∷◌, is_some}
 use Rattle.scj_tree.specs.Recursion.{lookup}
 use Rattle.scj_rules.specs.Definitions.{read}
-use Rattle.scj_rules.specs.Bodies.{number_literal, class_place}
-use Rattle.scj_model.specs.Code.{Code, place_of_node}
+use Rattle.scj_rules.specs.Bodies.{number_literal, class_position}
+use Rattle.scj_model.specs.Code.{Code, position_of_node}
 use Rattle.memory_needs.specs.declared.answers.BoundAnswer.{BoundAnswer}
 use Rattle.memory_needs.specs.declared.answers.BoundAnswer.TheVariants.{Yes, No}
 use Rattle.memory_needs.specs.declared.answers.NoBound.TheVariants.{Recursion, NotLiteral, TooSmall}
@@ -17,7 +17,7 @@ use Rattle.memory_needs.specs.Edges.{body_vertex}
 unfoldable pub recursion_at : Code → List Bool → List Bool → ℕ → Option Shown
 recursion_at code marks loops body =
     if slice_index_or marks (body_vertex code body) false && slice_index_or loops (body_vertex code body) false
-    then Some (record { cause = Recursion; at = place_of_node code body }) else None
+    then Some (record { cause = Recursion; at = position_of_node code body }) else None
 
 -- what a node shows that is reached
 unfoldable pub reached_at : List Bool → List (Option Shown) → ℕ → Option Shown
@@ -38,9 +38,9 @@ first_shown code marks loops shown best (id ∷ ids) =
 unfoldable pub bytes_shown : Code → ℕ → ℕ → ℕ → Option Shown
 bytes_shown code class need number =
     elim (read code.program.nodes number_literal number) [
-      | None ↦ Some (record { cause = NotLiteral; at = place_of_node code number })
+      | None ↦ Some (record { cause = NotLiteral; at = position_of_node code number })
       | Some bytes ↦
-          if nat_lt bytes need then Some (record { cause = TooSmall; at = class_place code.program class }) else None
+          if nat_lt bytes need then Some (record { cause = TooSmall; at = class_position code.program class }) else None
     ]
 
 unfoldable pub storage_shown : Code → ℕ → ℕ → Option Shown

@@ -46,7 +46,7 @@ unfoldable pub array_bytes : List Node → ℕ → ℕ
 array_bytes nodes count = elim (read nodes number_literal count) [ None ↦ size_with_slots 0 | Some n ↦ size_with_slots n ]
 
 unfoldable pub own_bytes : Code → ℕ → Node → ℕ
-own_bytes code id (New position name_place name arguments) = object_bytes code.program (binding code id)
+own_bytes code id (New position name_position name arguments) = object_bytes code.program (binding code id)
 own_bytes code id (NewArray position element count) = array_bytes code.program.nodes count
 own_bytes code id _ = 0
 

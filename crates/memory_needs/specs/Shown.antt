@@ -11,7 +11,7 @@ use Rattle.scj_rules.specs.declared.typing.Binding.TheVariants.{Builtin}
 use Rattle.scj_rules.specs.Definitions.{read}
 use Rattle.scj_rules.specs.declared.views.Body.{Body}
 use Rattle.scj_rules.specs.Bodies.{number_literal}
-use Rattle.scj_model.specs.Code.{Code, binding, place_of_node}
+use Rattle.scj_model.specs.Code.{Code, binding, position_of_node}
 use Rattle.memory_needs.specs.declared.answers.NoBound.{NoBound}
 use Rattle.memory_needs.specs.declared.answers.NoBound.TheVariants.{NotLiteral, OuterArea, NewInLoop, TooSmall}
 use Rattle.memory_needs.specs.declared.shown.Shown.{Shown}
@@ -25,14 +25,14 @@ use Rattle.memory_needs.specs.Edges.{runs_entered}
 pub data IsShown (code : Code) (table : Table) (needs : ℕ → ℕ) (id : ℕ) (node : Node) : NoBound → Pos → Type 0 where
   no_number : (number : ℕ) → number_asked code id node ≡ Some number →
       read code.program.nodes number_literal number ≡ None →
-      IsShown code table needs id node NotLiteral (place_of_node code number)
+      IsShown code table needs id node NotLiteral (position_of_node code number)
   fills : (target : Body) → executes_in_area (binding code id) ≡ true →
       Contains (targets_entered code id node) target → 0 < table target →
-      IsShown code table needs id node OuterArea (place_of_node code id)
-  makes : is_loop node ≡ true → 0 < needs id → IsShown code table needs id node NewInLoop (place_of_node code id)
+      IsShown code table needs id node OuterArea (position_of_node code id)
+  makes : is_loop node ≡ true → 0 < needs id → IsShown code table needs id node NewInLoop (position_of_node code id)
   small : (size : ℕ) (target : Body) → size_entered code id node ≡ Some size →
       Contains (targets_entered code id node) target → size < table target →
-      IsShown code table needs id node TooSmall (place_of_node code id)
+      IsShown code table needs id node TooSmall (position_of_node code id)
 
 -- a node shows nothing, or one cause at one place
 pub record ShowsOne (code : Code) (table : Table) (needs : ℕ → ℕ) (id : ℕ) (node : Node) (o : Option Shown) : Type 0 where
@@ -46,20 +46,20 @@ pub record ShowsOne (code : Code) (table : Table) (needs : ℕ → ℕ) (id : �
 unfoldable pub number_shown : Code → ℕ → Option Shown
 number_shown code number =
     elim (read code.program.nodes number_literal number) [
-      | None ↦ Some (record { cause = NotLiteral; at = place_of_node code number })
+      | None ↦ Some (record { cause = NotLiteral; at = position_of_node code number })
       | Some n ↦ None
     ]
 
 unfoldable pub shown_if_needed : Code → ℕ → NoBound → ℕ → Option Shown
 shown_if_needed code id cause need =
-    if nat_lt 0 need then Some (record { cause = cause; at = place_of_node code id }) else None
+    if nat_lt 0 need then Some (record { cause = cause; at = position_of_node code id }) else None
 
 unfoldable pub size_shown : Code → ℕ → ℕ → ℕ → Option Shown
 size_shown code id size need =
     elim (read code.program.nodes number_literal size) [
-      | None ↦ Some (record { cause = NotLiteral; at = place_of_node code size })
+      | None ↦ Some (record { cause = NotLiteral; at = position_of_node code size })
       | Some bytes ↦
-          if nat_lt bytes need then Some (record { cause = TooSmall; at = place_of_node code id }) else None
+          if nat_lt bytes need then Some (record { cause = TooSmall; at = position_of_node code id }) else None
     ]
 
 unfoldable pub entered_shown : Code → ℕ → List ℕ → ℕ → Option Shown

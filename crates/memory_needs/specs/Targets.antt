@@ -72,7 +72,7 @@ memory_targets p _ = []
 
 -- the bodies that run in the area in which the node does
 unfoldable pub targets_here : Code → ℕ → Node → List Body
-targets_here code id (New position name_place name arguments) = constructor_targets code.program (binding code id)
+targets_here code id (New position name_position name arguments) = constructor_targets code.program (binding code id)
 targets_here code id (Call position name object arguments) = call_targets code.program (binding code id)
 targets_here code id (SuperCall position arguments) = super_targets code.program (binding code id)
 targets_here code id (Constructor position name flags parameters None body) = unwritten_super_targets code id

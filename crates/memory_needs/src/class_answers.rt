@@ -17,7 +17,7 @@ use crate::code::Code;
 use crate::needs::number_literal;
 use crate::points::is_marked;
 use crate::program_tables::Tables;
-use crate::shown::{Shown, place_of};
+use crate::shown::{Shown, position_of};
 use crate::sites::node_of;
 use crate::storage::storage_node;
 use directed_graphs::reached;
@@ -34,7 +34,7 @@ fn recursion_at(code: &Code<'_>, marks: &[bool], loops: &[bool], body: NodeId) -
     if is_marked(marks, vertex) && is_marked(loops, vertex) {
         return Some(Shown {
             cause: NoBound::Recursion,
-            at: place_of(code, body),
+            at: position_of(code, body),
         });
     }
     None
@@ -80,13 +80,13 @@ fn bytes_shown(code: &Code<'_>, class: ClassId, need: u64, number: NodeId) -> Op
     match number_literal(code.program(), number) {
         None => Some(Shown {
             cause: NoBound::NotLiteral,
-            at: place_of(code, number),
+            at: position_of(code, number),
         }),
         Some(bytes) => {
             if (bytes as u64) < need {
                 return Some(Shown {
                     cause: NoBound::TooSmall,
-                    at: code.layout().class_place(class),
+                    at: code.layout().class_position(class),
                 });
             }
             None

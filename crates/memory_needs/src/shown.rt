@@ -3,7 +3,7 @@
 ghost use Rattle.std.specs.Prelude.{◌≡◌, IfOk};
 ghost use Rattle.scj_tree.specs.Heights.{highest};
 ghost use Rattle.scj_tree.specs.Recursion.{listed, lookup};
-ghost use Rattle.scj_model.specs.Code.{binding, code_of, place_of_node};
+ghost use Rattle.scj_model.specs.Code.{binding, code_of, position_of_node};
 ghost use Rattle.memory_needs.specs.Edges.{count, runs_entered};
 ghost use Rattle.memory_needs.specs.Shown.{call_shown, node_shown, number_shown, shown_at, shown_if_needed, size_shown};
 ghost use Rattle.memory_needs.specs.Sites.{IsTable};
@@ -28,10 +28,10 @@ pub struct Shown {
 
 /// The place of a node.
 #[tactic(auto, using(op_list::proofs::CodeLemmas::nodes_are))]
-pub fn place_of(code: &Code<'_>, id: NodeId) -> Pos
-    ensures { result ≡ place_of_node (code_of code.now) id }
+pub fn position_of(code: &Code<'_>, id: NodeId) -> Pos
+    ensures { result ≡ position_of_node (code_of code.now) id }
 {
-    node_views::place_at(code.program(), id)
+    node_views::position_at(code.program(), id)
 }
 
 /// What a number that is asked shows: that it is none.
@@ -43,7 +43,7 @@ fn number_shown(code: &Code<'_>, number: NodeId) -> Option<Shown>
         Some(_) => None,
         None => Some(Shown {
             cause: NoBound::NotLiteral,
-            at: place_of(code, number),
+            at: position_of(code, number),
         }),
     }
 }
@@ -58,14 +58,14 @@ fn size_shown(code: &Code<'_>, id: NodeId, size: NodeId, need: u64) -> Option<Sh
             if (bytes as u64) < need {
                 return Some(Shown {
                     cause: NoBound::TooSmall,
-                    at: place_of(code, id),
+                    at: position_of(code, id),
                 });
             }
             None
         }
         None => Some(Shown {
             cause: NoBound::NotLiteral,
-            at: place_of(code, size),
+            at: position_of(code, size),
         }),
     }
 }
@@ -78,7 +78,7 @@ fn shown_if_needed(code: &Code<'_>, id: NodeId, cause: NoBound, need: u64) -> Op
     if need > 0 {
         return Some(Shown {
             cause,
-            at: place_of(code, id),
+            at: position_of(code, id),
         });
     }
     None

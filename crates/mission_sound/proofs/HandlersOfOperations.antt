@@ -6,7 +6,7 @@ use Rattle.scj_base.specs.declared.places.Pos.{Pos}
 use Rattle.scj_rules.specs.declared.views.Body.{Body}
 use Rattle.scj_rules.specs.Words.{◌>>=◌}
 use Rattle.scj_rules.specs.ScopeRules.{defined_by_chain}
-use Rattle.scj_rules.specs.Bodies.{body_named, class_place}
+use Rattle.scj_rules.specs.Bodies.{body_named, class_position}
 use Rattle.accepted_laws.proofs.Tools.{some_inj}
 use Rattle.scj_model.specs.declared.handlers.HandlerRow.{HandlerRow}
 use Rattle.scj_model.specs.declared.operations.Op.{Op}
@@ -19,7 +19,7 @@ use Rattle.scj_model.specs.Steps.{Step, silently, fault_in, opening}
 use Rattle.scj_model.specs.Effects.{new_frame}
 use Rattle.scj_model.specs.Apply.{applied}
 use Rattle.scj_model.specs.Sequencer.{innermost}
-use Rattle.scj_model.specs.Run.{effect_at, place_of_op, frame_op, no_activity, started_with, start_op}
+use Rattle.scj_model.specs.Run.{effect_at, position_of_op, frame_op, no_activity, started_with, start_op}
 use Rattle.mission_sound.specs.Bases.{Base}
 use Rattle.mission_sound.specs.Invariant.{HandlersFine}
 use Rattle.mission_sound.specs.Registering.{NextRegistersFine}
@@ -36,18 +36,18 @@ handlers_of_operation code base rows s job activity acts outside h registers = f
     ops : (f : Frame) (below : List Frame) → activity.frames ≡ f ∷ below → (os : List Op) → f.rest ≡ os →
         HandlersIf code base (elim os as (λ z. Option Step) [
           | [] ↦ None
-          | op ∷ rest ↦ applied code s job activity below (place_of_op code op) (effect_at code rows s f op rest)
+          | op ∷ rest ↦ applied code s job activity below (position_of_op code op) (effect_at code rows s f op rest)
         ])
     ops f below e [] g = record { is = λ q x. absurd (cc (x)) }
     ops f below e (op ∷ rest) g =
-        handlers_of_effect code base s job activity acts outside h below (place_of_op code op)
+        handlers_of_effect code base s job activity acts outside h below (position_of_op code op)
         (effect_at code rows s f op rest) (registers f below op rest e g)
 
     frames : (fs : List Frame) → activity.frames ≡ fs → HandlersIf code base (elim fs as (λ z. Option Step) [
       | [] ↦ None
       | f ∷ below ↦ elim f.rest as (λ z. Option Step) [
         | [] ↦ None
-        | op ∷ rest ↦ applied code s job activity below (place_of_op code op) (effect_at code rows s f op rest)
+        | op ∷ rest ↦ applied code s job activity below (position_of_op code op) (effect_at code rows s f op rest)
       ]
     ])
     frames [] e = record { is = λ q x. absurd (cc (x)) }
@@ -82,7 +82,7 @@ module _ (code : Code) (base : Base) (s : State) (index : ℕ) (r : Release) (th
   started_if row scope body = go (has_store_for s row.bytes)
     where
       at : Pos
-      at = class_place code.program row.class
+      at = class_position code.program row.class
 
       opened : State
       opened = with_area s scope (innermost s.activity.areas) row.bytes

@@ -6,7 +6,7 @@ use Rattle.scj_base.specs.declared.values.Value.TheVariants.{Null}
 use Rattle.scj_rules.specs.Words.{is_among, chain, ◌>>=◌}
 use Rattle.scj_rules.specs.Contexts.{Declarations}
 use Rattle.scj_rules.specs.ScopeRules.{immortal_scope, is_outer, parent_scope}
-use Rattle.scj_rules.specs.Bodies.{size_of, class_place}
+use Rattle.scj_rules.specs.Bodies.{size_of, class_position}
 use Rattle.accepted_laws.proofs.Tools.{some_inj}
 use Rattle.scj_model.specs.declared.handlers.HandlerRow.{HandlerRow}
 use Rattle.scj_model.specs.declared.operations.SeqOp.TheVariants.{OpenImmortal}
@@ -143,10 +143,10 @@ module _ (code : Code) (facts : SequencerFacts code) (s : State) (f : Free code 
   unfolding sequencer_op innermost
   immortal_opens =
       subst (λ (o : Option ℕ). Operates code (o >>= (λ class. size_of code.program class >>= (λ bytes.
-      Some (area_opened s (class_place code.program class) immortal_scope bytes))))) (sym there.is)
+      Some (area_opened s (class_position code.program class) immortal_scope bytes))))) (sym there.is)
       (subst (λ (o : Option ℕ). Operates code (o >>= (λ bytes.
-      Some (area_opened s (class_place code.program there.class) immortal_scope bytes)))) (sym there.size)
-      (opens code s f (class_place code.program there.class) immortal_scope there.bytes [] no_list
+      Some (area_opened s (class_position code.program there.class) immortal_scope bytes)))) (sym there.size)
+      (opens code s f (class_position code.program there.class) immortal_scope there.bytes [] no_list
       (finished there.bytes)))
     where
       there : SafeletThere code.program

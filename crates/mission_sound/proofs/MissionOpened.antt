@@ -6,7 +6,7 @@ use Rattle.scj_base.specs.declared.values.Value.TheVariants.{Null}
 use Rattle.scj_builtins.specs.Framework.{mission as mission_class}
 use Rattle.scj_rules.specs.Words.{is_among, holds, ◌>>=◌}
 use Rattle.scj_rules.specs.ScopeRules.{immortal_scope, parent_scope, defined_by_chain}
-use Rattle.scj_rules.specs.Bodies.{size_of, class_place}
+use Rattle.scj_rules.specs.Bodies.{size_of, class_position}
 use Rattle.accepted_laws.proofs.Lists.{get_last}
 use Rattle.accepted_laws.proofs.Tools.{some_inj}
 use Rattle.scj_model.specs.declared.operations.SeqOp.TheVariants.{OpenMission}
@@ -154,10 +154,10 @@ module _ (code : Code) (facts : SequencerFacts code) (s : State) (f : Free code 
   mission_opens =
       subst (λ (o : Option Object). Operates code (o >>= (λ o. defined_by_chain code.program o.class >>= (λ scope.
       size_of code.program o.class
-      >>= (λ bytes. Some (area_opened s (class_place code.program o.class) scope bytes)))))) (sym mission.found)
+      >>= (λ bytes. Some (area_opened s (class_position code.program o.class) scope bytes)))))) (sym mission.found)
       (subst (λ (o : Option ℕ). Operates code (o >>= (λ scope. size_of code.program mission.object.class >>= (λ bytes.
-      Some (area_opened s (class_place code.program mission.object.class) scope bytes))))) (sym fact.defines)
+      Some (area_opened s (class_position code.program mission.object.class) scope bytes))))) (sym fact.defines)
       (subst (λ (o : Option ℕ). Operates code (o >>= (λ bytes.
-      Some (area_opened s (class_place code.program mission.object.class) fact.scope bytes)))) (sym fact.size)
-      (opens code s f (class_place code.program mission.object.class) fact.scope fact.bytes
+      Some (area_opened s (class_position code.program mission.object.class) fact.scope bytes)))) (sym fact.size)
+      (opens code s f (class_position code.program mission.object.class) fact.scope fact.bytes
       (0 ∷ []) the_list opened_fine)))

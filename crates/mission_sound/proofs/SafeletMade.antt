@@ -8,7 +8,7 @@ use Rattle.scj_rules.specs.declared.typing.Scope.TheVariants.{In}
 use Rattle.scj_rules.specs.declared.views.Body.TheVariants.{Empty}
 use Rattle.scj_rules.specs.Words.{is_among, ◌>>=◌}
 use Rattle.scj_rules.specs.ScopeRules.{immortal_scope}
-use Rattle.scj_rules.specs.Bodies.{class_place}
+use Rattle.scj_rules.specs.Bodies.{class_position}
 use Rattle.accepted_laws.proofs.Lists.{get_last}
 use Rattle.accepted_laws.proofs.Tools.{some_inj}
 use Rattle.scj_model.specs.declared.operations.SeqOp.TheVariants.{AllocSafelet}
@@ -132,13 +132,13 @@ module _ (code : Code) (basics : Facts code) (facts : SequencerFacts code) (s : 
   unfolding sequencer_op innermost safelet_made allocating
   safelet_is_made =
       subst (λ (o : Option ℕ). Operates code (o >>= (λ class. innermost s.activity.areas >>= (λ area.
-      Some (safelet_made code s (class_place code.program class) class area))))) (sym there.is)
+      Some (safelet_made code s (class_position code.program class) class area))))) (sym there.is)
       (subst (λ (list : List ℕ). Operates code (innermost list >>= (λ area.
-      Some (safelet_made code s (class_place code.program there.class) there.class area)))) (sym the_list)
+      Some (safelet_made code s (class_position code.program there.class) there.class area)))) (sym the_list)
       (go (has_room s 0 (length (new_slots code.program there.class)))))
     where
       place : Pos
-      place = class_place code.program there.class
+      place = class_position code.program there.class
 
       go : (b : Bool) → Operates code (Some (if b then silently made
           else fault_in s TheSequencer s.activity place MemoryFull))

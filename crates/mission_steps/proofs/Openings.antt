@@ -6,7 +6,7 @@ use Rattle.scj_base.specs.declared.places.Pos.{Pos}
 use Rattle.scj_base.specs.declared.values.Value.{Value}
 use Rattle.scj_base.specs.declared.values.Value.TheVariants.{At, Null}
 use Rattle.scj_rules.specs.declared.views.Body.{Body}
-use Rattle.scj_rules.specs.Bodies.{class_place}
+use Rattle.scj_rules.specs.Bodies.{class_position}
 use Rattle.scj_model.specs.declared.events.Event.{Event}
 use Rattle.scj_model.specs.declared.events.Event.TheVariants.{Halted}
 use Rattle.scj_model.specs.declared.handlers.HandlerRow.{HandlerRow}
@@ -168,7 +168,7 @@ module _ (code : Listing) (was : RunState) (n : ℕ) (row : HandlerRow) (scope :
   u = state_of code was
 
   abbrev at : Pos
-  at = class_place (code_of code.program).program row.class
+  at = class_position (code_of code.program).program row.class
 
   abbrev pub IsPrivate : Option ℕ → State → Type 0
   IsPrivate found after =

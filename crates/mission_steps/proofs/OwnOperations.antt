@@ -3,7 +3,7 @@ use Rattle.std.specs.Prelude.{true, Option, Some, None, option_map, slice_get}
 use Rattle.std.proofs.Common.{◌≡◌, ◌∙◌, ℕ, List, [], ◌∷◌, refl, ap, sym}
 use Rattle.scj_rules.specs.declared.views.Body.{Body}
 use Rattle.scj_rules.specs.Words.{◌>>=◌}
-use Rattle.scj_rules.specs.Bodies.{body_named, class_place, constructor_body, safelet_class, size_of}
+use Rattle.scj_rules.specs.Bodies.{body_named, class_position, constructor_body, safelet_class, size_of}
 use Rattle.scj_rules.specs.ScopeRules.{defined_by_chain, immortal_scope}
 use Rattle.scj_model.specs.declared.events.Event.{Event}
 use Rattle.scj_model.specs.declared.operations.SeqOp.TheVariants.{AllocSafelet, ConstructSafelet, OpenImmortal, OpenMission}
@@ -36,7 +36,7 @@ module _ (code : Listing) (s : State) where
   pub immortal_opened : (class bytes : ℕ) → safelet_class (code_of code.program).program ≡ Some class →
       size_of (code_of code.program).program class ≡ Some bytes →
       sequencer_op (code_of code.program) s OpenImmortal
-      ≡ Some (area_opened s (class_place (code_of code.program).program class) immortal_scope bytes)
+      ≡ Some (area_opened s (class_position (code_of code.program).program class) immortal_scope bytes)
   unfolding sequencer_op
   immortal_opened class bytes e f = rw (e, f) refl
 
@@ -52,7 +52,7 @@ module _ (code : Listing) (s : State) where
   pub safelet_allocated : (class area : ℕ) → safelet_class (code_of code.program).program ≡ Some class →
       innermost s.activity.areas ≡ Some area →
       sequencer_op (code_of code.program) s AllocSafelet
-      ≡ Some (safelet_made (code_of code.program) s (class_place (code_of code.program).program class) class area)
+      ≡ Some (safelet_made (code_of code.program) s (class_position (code_of code.program).program class) class area)
   unfolding sequencer_op
   safelet_allocated class area e f = rw (e, f) refl
 
@@ -84,7 +84,7 @@ module _ (code : Listing) (s : State) where
   abbrev opening_mission : ℕ → Option Step
   opening_mission class =
       defined_by_chain (code_of code.program).program class >>= (λ scope.
-      size_of (code_of code.program).program class >>= (λ bytes. Some (area_opened s (class_place (code_of code.program).program class) scope bytes)))
+      size_of (code_of code.program).program class >>= (λ bytes. Some (area_opened s (class_position (code_of code.program).program class) scope bytes)))
 
   pub no_mission : (r : ℕ) → ClassAt r None → sequencer_op (code_of code.program) s (OpenMission r) ≡ None
   unfolding sequencer_op
@@ -102,7 +102,7 @@ module _ (code : Listing) (s : State) where
 
   pub mission_opened : (r class scope bytes : ℕ) → ClassAt r (Some class) →
       defined_by_chain (code_of code.program).program class ≡ Some scope → size_of (code_of code.program).program class ≡ Some bytes →
-      sequencer_op (code_of code.program) s (OpenMission r) ≡ Some (area_opened s (class_place (code_of code.program).program class) scope bytes)
+      sequencer_op (code_of code.program) s (OpenMission r) ≡ Some (area_opened s (class_position (code_of code.program).program class) scope bytes)
   unfolding sequencer_op
   mission_opened r class scope bytes e f g = with_object r class opening_mission e ∙ (rw (f, g) refl)
 

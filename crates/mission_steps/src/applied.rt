@@ -4,14 +4,14 @@ ghost use Rattle.std.specs.Prelude.{◌≡◌, ◌+◌, IfOk};
 ghost use Rattle.scj_model.specs.Code.{code_of};
 ghost use Rattle.op_list.specs.Listed.{Listing};
 ghost use Rattle.scj_model.specs.Apply.{class_name_at};
-ghost use Rattle.scj_model.specs.Sequencer.{BeginsExecution, BeginsMission, ClosesMission, LacksSequencer, TakesMission, innermost, place_of_object, seq_applied, transition_done};
+ghost use Rattle.scj_model.specs.Sequencer.{BeginsExecution, BeginsMission, ClosesMission, LacksSequencer, TakesMission, innermost, position_of_object, seq_applied, transition_done};
 ghost use Rattle.run_state.specs.Seen.{state_of};
 ghost use Rattle.run_state.specs.Standing.{ClosesLast, IsLive};
 ghost use Rattle.run_state.specs.Steps.{IsStep};
 ghost use Rattle.mission_steps.specs.Standing.{CanFollow};
 ghost use Rattle.mission_steps.specs.Transitions.{effect_seen, transition_seen};
 
-use crate::looks::{class_name, class_of, class_place};
+use crate::looks::{class_name, class_of, class_position};
 use crate::transitions::{SeqEffect, Transition};
 use op_list::OpList;
 use run_state::RunState;
@@ -21,12 +21,12 @@ use scj_base::{Memory, Name, Pos, Ref, RunFault};
 use scj_model::Event;
 
 /// Where the class of an object is named; nowhere, if there is no such object.
-fn place_of_object(code: &OpList<'_>, state: &RunState, r: Ref) -> Pos
+fn position_of_object(code: &OpList<'_>, state: &RunState, r: Ref) -> Pos
     requires { IsLive state.now.memory r }
-    ensures { result ≡ place_of_object (code_of code.now.program) (state_of code.now state.now) r }
+    ensures { result ≡ position_of_object (code_of code.now.program) (state_of code.now state.now) r }
 {
     match class_of(&state.memory, r) {
-        Some(class) => class_place(code, class),
+        Some(class) => class_position(code, class),
         None => Pos {
             file: 0,
             line: 0,
@@ -48,7 +48,7 @@ fn lack_sequencer(
         (seq_applied (code_of code.now.program) (state_of code.now state.old) (LacksSequencer safelet)) state.new
         told.old.items told.new.items) }
 {
-    let index = place_of_object(code, state, safelet);
+    let index = position_of_object(code, state, safelet);
     halted(state, index, RunFault::NullPointer, told)?;
     Ok(())
 }

@@ -1,7 +1,7 @@
 //! Areas that the sequencer opens for itself, and the safelet that it makes in one (JSR 302: Safelet, Mission).
 
 ghost use Rattle.std.specs.Prelude.{◌≡◌, ◌<◌, ◌^◌, true, IfOk, length};
-ghost use Rattle.scj_rules.specs.Bodies.{class_place};
+ghost use Rattle.scj_rules.specs.Bodies.{class_position};
 ghost use Rattle.scj_model.specs.Code.{code_of};
 ghost use Rattle.op_list.specs.Listed.{Listing};
 ghost use Rattle.scj_model.specs.Sequencer.{area_opened, safelet_made};
@@ -11,7 +11,7 @@ ghost use Rattle.run_state.specs.Standing.{HasNumbers};
 ghost use Rattle.run_state.specs.Steps.{IsStep};
 
 use crate::bodies::new_object;
-use crate::looks::class_place;
+use crate::looks::class_position;
 use op_list::OpList;
 use run_state::ends::halted;
 use run_state::memory::{make_object, open_area};
@@ -70,7 +70,7 @@ pub(crate) fn make_safelet(
     ensures { IfOk result
         (λ _. IsStep code.now
         (safelet_made (code_of code.now.program) (state_of code.now state.old)
-        (class_place (code_of code.now.program).program class) class area) state.new told.old.items told.new.items) }
+        (class_position (code_of code.now.program).program class) class area) state.new told.old.items told.new.items) }
 {
     let object = new_object(alloc, code, class)?;
     match make_object(state, area, &object) {
@@ -79,7 +79,7 @@ pub(crate) fn make_safelet(
             Ok(())
         }
         None => {
-            halted(state, class_place(code, class), RunFault::MemoryFull, told)?;
+            halted(state, class_position(code, class), RunFault::MemoryFull, told)?;
             Ok(())
         }
     }

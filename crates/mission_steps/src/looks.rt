@@ -1,7 +1,7 @@
 //! What the sequencer and releases ask of the program that runs, and of the objects of a run.
 
 ghost use Rattle.std.specs.Prelude.{◌≡◌, option_map, slice_get};
-ghost use Rattle.scj_rules.specs.Bodies.{body_named, class_place, constructor_body, safelet_class, size_of};
+ghost use Rattle.scj_rules.specs.Bodies.{body_named, class_position, constructor_body, safelet_class, size_of};
 ghost use Rattle.scj_rules.specs.ScopeRules.{defined_by_chain};
 ghost use Rattle.scj_model.specs.Code.{code_of};
 ghost use Rattle.scj_model.specs.State.{Object as ObjectOfRun};
@@ -31,10 +31,10 @@ pub(crate) fn size_of(code: &OpList<'_>, class: ClassId) -> Option<u32>
 
 /// Where a class is named.
 #[tactic(auto, unfolding(scj_model::specs::Code::code_of))]
-pub(crate) fn class_place(code: &OpList<'_>, class: ClassId) -> Pos
-    ensures { result ≡ class_place (code_of code.now.program).program class }
+pub(crate) fn class_position(code: &OpList<'_>, class: ClassId) -> Pos
+    ensures { result ≡ class_position (code_of code.now.program).program class }
 {
-    code.code().layout().class_place(class)
+    code.code().layout().class_position(class)
 }
 
 /// What `new` runs for a class (JLS 8.8.9).

@@ -15,7 +15,7 @@ ghost use Rattle.mission_steps.specs.Standing.{IsOnLive};
 use crate::areas::{make_safelet, open_inside};
 use crate::bodies::{OwnCall, first_frames};
 use crate::looks::{
-    body_named, class_of, class_place, constructor, private_scope, safelet, size_of,
+    body_named, class_of, class_position, constructor, private_scope, safelet, size_of,
 };
 use op_list::OpList;
 use run_state::RunState;
@@ -45,7 +45,7 @@ fn open_immortal(
     };
     open_inside(
         state,
-        class_place(code, class),
+        class_position(code, class),
         ScopeId::IMMORTAL,
         bytes,
         told,
@@ -101,7 +101,7 @@ fn open_mission(
     let Some(bytes) = size_of(code, class) else {
         return Ok(false);
     };
-    open_inside(state, class_place(code, class), scope, bytes, told)?;
+    open_inside(state, class_position(code, class), scope, bytes, told)?;
     Ok(true)
 }
 

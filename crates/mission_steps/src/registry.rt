@@ -34,7 +34,7 @@ fn is_at(row: &HandlerRow, at: Ref) -> bool
 }
 
 /// The place of a handler object.
-fn place_of(registry: &[HandlerRow], at: Ref) -> Option<usize>
+fn index_of(registry: &[HandlerRow], at: Ref) -> Option<usize>
     ensures { result ≡ position (λ (row : Row). row.at == at) registry.now }
 {
     let mut rest = registry;
@@ -68,7 +68,7 @@ fn is_aperiodic_of(row: &HandlerRow, class: ClassId) -> bool
 }
 
 /// The place of the first aperiodic handler of exactly this class.
-fn place_of_aperiodic(registry: &[HandlerRow], class: ClassId) -> Option<usize>
+fn index_of_aperiodic(registry: &[HandlerRow], class: ClassId) -> Option<usize>
     ensures { result ≡ position (λ (row : Row). is_aperiodic row.kind && (row.class == class)) registry.now }
 {
     let mut rest = registry;
@@ -88,7 +88,7 @@ fn place_of_aperiodic(registry: &[HandlerRow], class: ClassId) -> Option<usize>
 pub(crate) fn handler_number(registry: &[HandlerRow], at: Ref) -> Result<Option<u8>, Memory>
     ensures { IfOk result (λ number. number ≡ handler_number registry.now at) }
 {
-    number_at(place_of(registry, at))
+    number_at(index_of(registry, at))
 }
 
 /// The number of the first aperiodic handler of exactly this class.
@@ -96,7 +96,7 @@ pub(crate) fn handler_number(registry: &[HandlerRow], at: Ref) -> Result<Option<
 pub fn aperiodic_of(registry: &[HandlerRow], class: ClassId) -> Result<Option<u8>, Memory>
     ensures { IfOk result (λ number. number ≡ aperiodic_of registry.now class) }
 {
-    number_at(place_of_aperiodic(registry, class))
+    number_at(index_of_aperiodic(registry, class))
 }
 
 /// The row of a handler's number.

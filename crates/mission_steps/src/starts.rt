@@ -14,7 +14,7 @@ ghost use Rattle.run_state.specs.Standing.{HasNumbers};
 ghost use Rattle.run_state.specs.Steps.{IsStep, IsTry};
 
 use crate::bodies::{OwnCall, first_frames};
-use crate::looks::{body_named, class_place, private_scope};
+use crate::looks::{body_named, class_position, private_scope};
 use crate::registry::handler_row;
 use job_frames::{Activity, OpenAreas};
 use op_list::OpList;
@@ -118,7 +118,7 @@ fn started_with(
         None => {
             let acting = Acting {
                 job: Job::Release(start.index),
-                position: class_place(code, start.row.class),
+                position: class_position(code, start.row.class),
             };
             fault_in(
                 state,

@@ -6,7 +6,7 @@ use Rattle.scj_tree.specs.Forest.{Forest, forest_of}
 use Rattle.scj_tree.specs.Heights.{too_deep, first_too_deep, body_height, super_height, height, node_height, highest, weight}
 use Rattle.scj_tree.specs.Lexemes.{lexemes_of, lexeme_of, part_of}
 use Rattle.scj_tree.specs.Recursion.{bottom_up}
-use Rattle.scj_tree.specs.Shape.{place_of, children}
+use Rattle.scj_tree.specs.Shape.{position_of, children}
 use Rattle.scj_lexer.proofs.Computing.{tokens_from, sound, lexer}
 use Rattle.parser_machine.specs.Machine.{answer, start, parsed}
 use Rattle.machine_laws.proofs.Computing.{parser}
@@ -38,5 +38,5 @@ read_alone bound text tokens program classes are_tokens are_parsed is_low files 
 
 -- one name to unfold where a text that is written out is read
 unfoldable pub reading : Unit {0}
-unfolding lexer parser lexemes_of lexeme_of part_of too_deep first_too_deep body_height super_height height node_height highest weight bottom_up place_of children
+unfolding lexer parser lexemes_of lexeme_of part_of too_deep first_too_deep body_height super_height height node_height highest weight bottom_up position_of children
 reading = tt

@@ -10,7 +10,7 @@ use Rattle.scj_rules.specs.declared.typing.Guard.{Guard}
 use Rattle.scj_rules.specs.declared.typing.Scope.{Scope}
 use Rattle.scj_rules.specs.declared.typing.Scope.TheVariants.{Lost, Unknown}
 use Rattle.scj_rules.specs.Words.{is_among}
-use Rattle.scj_rules.specs.Views.{place_at}
+use Rattle.scj_rules.specs.Views.{position_at}
 use Rattle.scj_rules.specs.Contexts.{declarations_of}
 use Rattle.scj_rules.specs.TypeRules.{types_in}
 use Rattle.scj_rules.specs.Guards.{asked_at, is_undone, ifs_around}
@@ -59,7 +59,7 @@ pub record IsUnsafeUnguarded : Type 0 where
 pub record IsUnsafeWhereUndone : Type 0 where
   pub needed : IsNeeded E5
   pub store : ℕ
-  pub is_at : place_at (declarations_of needed.program).nodes store ≡ needed.position
+  pub is_at : position_at (declarations_of needed.program).nodes store ≡ needed.position
   pub number : ℕ
   pub stands : is_among number (ifs_around (declarations_of needed.program).nodes store) ≡ true
   pub guard : Guard

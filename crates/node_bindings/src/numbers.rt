@@ -21,7 +21,7 @@ fn is_variable_of(facts: &Facts<'_>, member: NodeId, id: NodeId) -> bool
 }
 
 /// The place of a variable among those of a member.
-fn place_of(facts: &Facts<'_>, numbers: &[u32], member: NodeId, variable: NodeId) -> Option<u32>
+fn index_of(facts: &Facts<'_>, numbers: &[u32], member: NodeId, variable: NodeId) -> Option<u32>
     requires { numbers.now ≡ numbers_before (declarations_of facts.now) }
     ensures { result ≡ position (λ v. v == variable) (variables_of (declarations_of facts.now) member) }
 {
@@ -47,7 +47,7 @@ pub fn variable_binding(
     let Some(member) = facts.context(id).member else {
         return Ok(Binding::Plain);
     };
-    match place_of(facts, numbers, member, variable) {
+    match index_of(facts, numbers, member, variable) {
         Some(number) => {
             if number > 255 {
                 return Err(Memory);

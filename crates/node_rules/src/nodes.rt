@@ -109,7 +109,7 @@ fn note_asked(
             ..
         }
         | Node::LocalWithValue {
-            name_place: position,
+            name_position: position,
             flags,
             declared_type,
             ..
@@ -124,17 +124,17 @@ fn note_asked(
             report_if(found, is_wrong, Rule::C9, *position)
         }
         Node::New {
-            name_place,
+            name_position,
             name,
             ..
         }
         | Node::Cast {
-            name_place,
+            name_position,
             name,
             ..
         } => {
             let is_wrong = names_no_class(classes, name.get());
-            report_if(found, is_wrong, Rule::C9, *name_place)
+            report_if(found, is_wrong, Rule::C9, *name_position)
         }
         Node::NewArray { element, .. } => note_element(found, classes, *element),
         _ => Ok(()),

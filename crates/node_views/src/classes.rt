@@ -22,7 +22,7 @@ pub fn class_name(program: &Program, id: NodeId) -> Option<Name>
 
 /// Where the class at a node is named.
 #[tactic(auto, unfolding(scj_rules::specs::Views::class_of))]
-pub fn class_place(program: &Program, id: NodeId) -> Option<Pos>
+pub fn class_position(program: &Program, id: NodeId) -> Option<Pos>
     ensures { result ≡ option_map (λ (c : WrittenClass). c.position) (class_at program.now.nodes id) }
 {
     match program.get(id)? {

@@ -47,7 +47,7 @@ pub fn variable_at(program: &Program, id: NodeId) -> Option<Declared>
             declared_type,
         }
         | Node::LocalWithValue {
-            name_place: position,
+            name_position: position,
             name,
             flags,
             declared_type,

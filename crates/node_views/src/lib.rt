@@ -11,7 +11,7 @@ mod parts;
 mod words;
 
 pub use classes::{
-    class_extends, class_members, class_modifiers, class_name, class_place, interface_nodes,
+    class_extends, class_members, class_modifiers, class_name, class_position, interface_nodes,
     named_super,
 };
 pub use constructors::{constructor_parameters, is_constructor, super_call_arguments};
@@ -23,4 +23,4 @@ pub use parts::{
     field_type, field_written, is_abstract_class, is_abstract_method, is_static_at,
     is_static_field, is_static_method, result_type, variable_type, variable_written,
 };
-pub use words::{modifiers_at, place_at, scope_written, type_at};
+pub use words::{modifiers_at, position_at, scope_written, type_at};

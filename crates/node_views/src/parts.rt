@@ -130,7 +130,7 @@ pub fn variable_written(program: &Program, id: NodeId) -> Option<Written>
         Node::Parameter { position, name, .. }
         | Node::Local { position, name, .. }
         | Node::LocalWithValue {
-            name_place: position,
+            name_position: position,
             name,
             ..
         } => Some(Written {

@@ -2,15 +2,15 @@
 
 ghost use Rattle.std.specs.Prelude.{◌≡◌};
 ghost use Rattle.scj_rules.specs.Definitions.{read, written_of};
-ghost use Rattle.scj_rules.specs.Views.{place_at, modifiers_at, modifiers_of, type_at, type_of_node};
+ghost use Rattle.scj_rules.specs.Views.{position_at, modifiers_at, modifiers_of, type_at, type_of_node};
 
 use scj_base::{NodeId, Pos};
 use scj_rules::{Modifiers, Written, WrittenType};
 use scj_tree::{Node, Program};
 
 /// Where reports name a node.
-pub fn place_at(program: &Program, id: NodeId) -> Pos
-    ensures { result ≡ place_at program.now.nodes id }
+pub fn position_at(program: &Program, id: NodeId) -> Pos
+    ensures { result ≡ position_at program.now.nodes id }
 {
     match program.get(id) {
         Some(node) => node.position(),

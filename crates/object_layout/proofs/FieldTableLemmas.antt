@@ -10,13 +10,13 @@ use Rattle.scj_rules.specs.Words.{holds}
 use Rattle.scj_rules.specs.Views.{field_at}
 use Rattle.scj_rules.specs.Classes.{field_nodes}
 use Rattle.scj_rules.specs.Contexts.{Declarations, declarations_of}
-use Rattle.scj_rules.specs.Layout.{declared_fields, static_fields, field_kind, static_place, place_among}
+use Rattle.scj_rules.specs.Layout.{declared_fields, static_fields, field_kind, static_index, index_among}
 use Rattle.scj_rules.specs.declared.views.Declared.{Declared}
 use Rattle.scj_rules.specs.declared.views.SlotKind.{SlotKind}
 use Rattle.object_layout.specs.declared.fields.StaticField.{StaticField}
 use Rattle.object_layout.specs.declared.field_tables.FieldTable.{FieldTable}
 use Rattle.object_layout.specs.Fields.{kind_of_field, kind_at, static_row, static_at, is_static_at}
-use Rattle.object_layout.specs.FieldTables.{places_among_statics, IsFieldTableOf}
+use Rattle.object_layout.specs.FieldTables.{indices_among_statics, IsFieldTableOf}
 use Rattle.object_layout.proofs.FieldLemmas.{AreRead, all_read, field_nodes_are, all_read_again}
 
 abbrev node_of : Declared → ℕ
@@ -60,7 +60,7 @@ turned a b = grind (arith, nat_tests)
 
 -- the place of a node among the nodes of some fields is that of the field
 pub place_by_node : (fields : List Declared) (f : Declared) →
-    position (λ other. f.node == other) (map node_of fields) ≡ place_among fields f
+    position (λ other. f.node == other) (map node_of fields) ≡ index_among fields f
 place_by_node fields f =
     position_mapped (λ other. f.node == other) node_of fields
     ∙ position_same (λ (other : Declared). f.node == other.node) (λ (other : Declared). other.node == f.node)
@@ -142,18 +142,18 @@ static_nodes_are forest =
     ∙ nodes_passed forest.nodes is_static (declared_fields (declarations_of forest)) (all_read forest)
 
 places_of_each : (statics fs : List Declared) → map (λ (id : ℕ). position (λ other. id == other) (map node_of statics))
-    (map node_of fs) ≡ map (λ (f : Declared). place_among statics f) fs
+    (map node_of fs) ≡ map (λ (f : Declared). index_among statics f) fs
 places_of_each statics [] = refl
 places_of_each statics (f ∷ fs) =
     ap (λ o. o ∷ map (λ (id : ℕ). position (λ other. id == other) (map node_of statics)) (map node_of fs))
     (place_by_node statics f)
-    ∙ ap (λ os. place_among statics f ∷ os) (places_of_each statics fs)
+    ∙ ap (λ os. index_among statics f ∷ os) (places_of_each statics fs)
 
 pub static_places_are : (forest : Forest)
     → map (λ (id : ℕ). position (λ other. id == other) (filter (is_static_at forest.nodes)
     (field_nodes (declarations_of forest).classes))) (field_nodes (declarations_of forest).classes)
-    ≡ places_among_statics (declarations_of forest)
-unfolding places_among_statics
+    ≡ indices_among_statics (declarations_of forest)
+unfolding indices_among_statics
 static_places_are forest =
     let p : Declarations = declarations_of forest in
     ap (λ (list : List ℕ). map (λ (id : ℕ). position (λ other. id == other) list) (field_nodes p.classes))
@@ -176,26 +176,26 @@ flat f None = refl
 flat f (Some x) = refl
 
 pub static_place_by_table : (forest : Forest) (table : FieldTable) (field : ℕ) → IsFieldTableOf forest table
-    → option_and_then (λ index. index) (slice_get table.static_places.items field) ≡ static_place
+    → option_and_then (λ index. index) (slice_get table.static_indices.items field) ≡ static_index
     (declarations_of forest) field
-unfolding static_place places_among_statics
+unfolding static_index indices_among_statics
 static_place_by_table forest table field h =
     let p : Declarations = declarations_of forest in
-    ap (λ (os : List (Option ℕ)). option_and_then (λ index. index) (slice_get os field)) h.static_places
+    ap (λ (os : List (Option ℕ)). option_and_then (λ index. index) (slice_get os field)) h.static_indices
     ∙ ap (option_and_then (λ index. index))
-    (slice_get-map (λ (f : Declared). place_among (static_fields p) f) (declared_fields p) field)
-    ∙ flat (λ (f : Declared). place_among (static_fields p) f) (slice_get (declared_fields p) field)
+    (slice_get-map (λ (f : Declared). index_among (static_fields p) f) (declared_fields p) field)
+    ∙ flat (λ (f : Declared). index_among (static_fields p) f) (slice_get (declared_fields p) field)
 
 -- the table, from the list of the nodes of the fields
 pub table_is : (forest : Forest) (table : FieldTable) (nodes : List ℕ) → nodes ≡ field_nodes
     (declarations_of forest).classes → table.kinds.items ≡ filter_map (kind_at forest.nodes) nodes
-    → table.static_places.items ≡ map (λ (id : ℕ). position (λ other. id == other)
+    → table.static_indices.items ≡ map (λ (id : ℕ). position (λ other. id == other)
     (filter (is_static_at forest.nodes) nodes)) nodes
     → table.statics.items ≡ filter_map (static_at forest.nodes) nodes → IsFieldTableOf forest table
 table_is forest table nodes n k s t =
     record {
       kinds = k ∙ ap (filter_map (kind_at forest.nodes)) n ∙ kinds_are forest;
-      static_places = s
+      static_indices = s
           ∙ ap (λ (ids : List ℕ). map (λ (id : ℕ). position (λ other. id == other)
           (filter (is_static_at forest.nodes) ids)) ids) n
           ∙ static_places_are forest;

@@ -9,17 +9,17 @@ use Rattle.std.proofs.lemmas.Option.{slice_get-get_or, slice_get-map}
 use Rattle.scj_tree.specs.Recursion.{lookup}
 use Rattle.scj_rules.specs.Classes.{hidden_fields, instance_fields, field_nodes}
 use Rattle.scj_rules.specs.Contexts.{Declarations}
-use Rattle.scj_rules.specs.Layout.{slot_of, slots, place_among, declared_fields, field_numbered}
+use Rattle.scj_rules.specs.Layout.{slot_of, slots, index_among, declared_fields, field_numbered}
 use Rattle.scj_rules.specs.declared.views.Declared.{Declared}
 use Rattle.object_layout.specs.declared.objects.ObjectRow.{ObjectRow}
 use Rattle.object_layout.specs.ObjectTables.{instance_nodes, slot_of_node, IsObjectRowOf}
-use Rattle.object_layout.specs.Slots.{HasPlaces}
+use Rattle.object_layout.specs.Slots.{HasIndices}
 use Rattle.object_layout.proofs.FieldLemmas.{field_nodes_are}
 use Rattle.object_layout.proofs.FieldTableLemmas.{place_by_node}
 
-module _ (places fields : List ℕ) (field : ℕ) (has : HasPlaces places fields) where
+module _ (indices fields : List ℕ) (field : ℕ) (has : HasIndices indices fields) where
   -- where the field stands, the table has the place
-  stands : (k : ℕ) → k < length fields → (field == get_or fields k field) ≡ true → lookup 0 places field ≡ k
+  stands : (k : ℕ) → k < length fields → (field == get_or fields k field) ≡ true → lookup 0 indices field ≡ k
   stands k l e =
       has k field (slice_get-get_or fields k field l
       ∙ ap (λ n. Some n) (sym (eqb-true field (get_or fields k field) e)))
@@ -31,7 +31,7 @@ module _ (places fields : List ℕ) (field : ℕ) (has : HasPlaces places fields
       let e : Some (get_or fields k field) ≡ Some (get_or fields k 0) = sym a ∙ b in
       cc
 
-  pub placed_there : (index : ℕ) → index ≡ lookup 0 places field → index < length fields →
+  pub placed_there : (index : ℕ) → index ≡ lookup 0 indices field → index < length fields →
       (field == lookup 0 fields index) ≡ true → position (λ other. field == other) fields ≡ Some index
   placed_there index e l h =
       let here : (field == get_or fields index field) ≡ true = ap (λ n. field == n) (same_there index l) ∙ h in
@@ -50,7 +50,7 @@ module _ (places fields : List ℕ) (field : ℕ) (has : HasPlaces places fields
           ))
 
   -- where the table's place has another field, the field doesn't stand there
-  pub placed_elsewhere : (index : ℕ) → index ≡ lookup 0 places field → index < length fields →
+  pub placed_elsewhere : (index : ℕ) → index ≡ lookup 0 indices field → index < length fields →
       (field == lookup 0 fields index) ≡ false → position (λ other. field == other) fields ≡ None
   placed_elsewhere index e l h = go (position (λ other. field == other) fields) refl
     where
@@ -63,7 +63,7 @@ module _ (places fields : List ℕ) (field : ℕ) (has : HasPlaces places fields
           ap (λ n. field == lookup 0 fields n) at ∙ ap (λ n. field == n) (sym (same_there k found.0)) ∙ found.1 in
           absurd (let z : true ≡ false = sym here ∙ h in cc)
 
-  pub placed_nowhere : length fields ≤ lookup 0 places field → position (λ other. field == other) fields ≡ None
+  pub placed_nowhere : length fields ≤ lookup 0 indices field → position (λ other. field == other) fields ≡ None
   placed_nowhere out = go (position (λ other. field == other) fields) refl
     where
       go : (o : Option ℕ) → position (λ other. field == other) fields ≡ o → o ≡ None
@@ -77,7 +77,7 @@ module _ (places fields : List ℕ) (field : ℕ) (has : HasPlaces places fields
 slot_from : (hidden : ℕ) (fields : List Declared) (o : Option Declared)
     → option_and_then (λ (id : ℕ). option_map (λ k. hidden + k) (position (λ other. id == other)
     (map (λ (f : Declared). f.node) fields))) (option_map (λ (f : Declared). f.node) o)
-    ≡ option_and_then (λ (f : Declared). option_map (λ k. hidden + k) (place_among fields f)) o
+    ≡ option_and_then (λ (f : Declared). option_map (λ k. hidden + k) (index_among fields f)) o
 slot_from hidden fields None = refl
 slot_from hidden fields (Some f) = ap (option_map (λ k. hidden + k)) (place_by_node fields f)
 

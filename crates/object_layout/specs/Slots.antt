@@ -3,10 +3,10 @@ use Rattle.std.specs.Prelude.{◌≡◌, ℕ, ◌+◌, ◌%◌, ◌^◌, List, [
 use Rattle.scj_tree.specs.Recursion.{lookup}
 
 -- the table has the place of each of these fields
-abbrev pub HasPlaces : List ℕ → List ℕ → Type 0
-HasPlaces places fields = (k id : ℕ) → slice_get fields k ≡ Some id → lookup 0 places id ≡ k
+abbrev pub HasIndices : List ℕ → List ℕ → Type 0
+HasIndices indices fields = (k id : ℕ) → slice_get fields k ≡ Some id → lookup 0 indices id ≡ k
 
 -- the table in which the places of these fields are noted, from a place on. Behind 2 ^ 32 - 1 comes 0.
 unfoldable pub noted : List ℕ → ℕ → List ℕ → List ℕ
-noted places index [] = places
-noted places index (id ∷ ids) = noted (slice_set places id index) ((index + 1) % 2 ^ 32) ids
+noted indices index [] = indices
+noted indices index (id ∷ ids) = noted (slice_set indices id index) ((index + 1) % 2 ^ 32) ids

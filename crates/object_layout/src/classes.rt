@@ -5,7 +5,7 @@ ghost use Rattle.scj_tree.specs.Forest.{IsForest};
 ghost use Rattle.scj_rules.specs.Views.{class_at};
 ghost use Rattle.scj_rules.specs.Contexts.{declarations_of};
 ghost use Rattle.scj_rules.specs.ScopeRules.{user_class_in};
-ghost use Rattle.scj_rules.specs.Bodies.{class_node, class_place, constructor_body};
+ghost use Rattle.scj_rules.specs.Bodies.{class_node, class_position, constructor_body};
 
 use class_rows::ClassTable;
 use scj_base::ids::OBJECT;
@@ -31,12 +31,12 @@ pub fn class_node(classes: &ClassTable, class: ClassId) -> Option<NodeId>
 }
 
 /// Where a user class is named, and the first place of all for one of the framework.
-#[tactic(auto, unfolding(scj_rules::specs::Bodies::class_place))]
-pub fn class_place(classes: &ClassTable, class: ClassId) -> Pos
-    ensures { result ≡ class_place (declarations_of classes.now) class }
+#[tactic(auto, unfolding(scj_rules::specs::Bodies::class_position))]
+pub fn class_position(classes: &ClassTable, class: ClassId) -> Pos
+    ensures { result ≡ class_position (declarations_of classes.now) class }
 {
     let position = match class_node(classes, class) {
-        Some(node) => node_views::class_place(classes.program(), node),
+        Some(node) => node_views::class_position(classes.program(), node),
         None => None,
     };
     match position {

@@ -6,7 +6,7 @@ ghost use Rattle.object_layout.specs.FieldTables.{IsFieldTableOf};
 
 use crate::fields::{StaticField, kinds_at, static_nodes, statics_at};
 use class_rows::ClassTable;
-use class_rows::members::places_of;
+use class_rows::members::indices_of;
 use scj_base::{FieldId, Memory, NodeId};
 use scj_rules::SlotKind;
 use std::alloc::Global;
@@ -18,7 +18,7 @@ pub struct FieldTable {
     /// What they hold.
     pub(crate) kinds: Vec<SlotKind>,
     /// Their places among all statics.
-    pub(crate) static_places: Vec<Option<u32>>,
+    pub(crate) static_indices: Vec<Option<u32>>,
     /// The static fields in order.
     pub(crate) statics: Vec<StaticField>,
 }
@@ -43,13 +43,13 @@ fn numbers_at(
 
 /// The place of each of these nodes in another list.
 #[tactic(auto, using(crate::proofs::FieldTableLemmas::places_found))]
-fn places_in(alloc: Global, ids: &[NodeId], list: &[NodeId]) -> Result<Vec<Option<u32>>, Memory>
+fn indices_in(alloc: Global, ids: &[NodeId], list: &[NodeId]) -> Result<Vec<Option<u32>>, Memory>
     ensures { IfOk result
-        (λ places. places.items ≡ map (λ (id : ℕ). position (λ other. id == other) list.now) ids.now) }
+        (λ indices. indices.items ≡ map (λ (id : ℕ). position (λ other. id == other) list.now) ids.now) }
 {
-    let found = places_of(alloc, list, 0)?;
-    let places = numbers_at(alloc, &found, ids)?;
-    Ok(places)
+    let found = indices_of(alloc, list, 0)?;
+    let indices = numbers_at(alloc, &found, ids)?;
+    Ok(indices)
 }
 
 /// The table of the fields of a program.
@@ -61,11 +61,11 @@ pub fn field_table(alloc: Global, classes: &ClassTable) -> Result<FieldTable, Me
     let nodes = classes.field_nodes();
     let kinds = kinds_at(alloc, program, nodes)?;
     let listed = static_nodes(alloc, program, nodes)?;
-    let static_places = places_in(alloc, nodes, &listed)?;
+    let static_indices = indices_in(alloc, nodes, &listed)?;
     let statics = statics_at(alloc, program, nodes)?;
     Ok(FieldTable {
         kinds,
-        static_places,
+        static_indices,
         statics,
     })
 }
@@ -78,10 +78,10 @@ pub fn kind_numbered(kinds: &[SlotKind], field: FieldId) -> Option<SlotKind>
 }
 
 /// The place at a number.
-pub fn place_numbered(places: &[Option<u32>], field: FieldId) -> Option<u32>
-    ensures { result ≡ option_and_then (λ index. index) (slice_get places.now field) }
+pub fn index_numbered(indices: &[Option<u32>], field: FieldId) -> Option<u32>
+    ensures { result ≡ option_and_then (λ index. index) (slice_get indices.now field) }
 {
-    match places.get(field.number() as usize) {
+    match indices.get(field.number() as usize) {
         Some(index) => *index,
         None => None,
     }

@@ -3,20 +3,20 @@
 ghost use Rattle.std.specs.Prelude.{◌≡◌, map, slice_get, IfOk};
 ghost use Rattle.scj_rules.specs.Classes.{field_nodes, hidden_fields, instance_fields, is_sub};
 ghost use Rattle.scj_rules.specs.Contexts.{declarations_of};
-ghost use Rattle.scj_rules.specs.Bodies.{class_node, class_place, constructor_body, body_named, body_of, class_of_body, is_synchronized_body, locals, safelet_class, size_of};
+ghost use Rattle.scj_rules.specs.Bodies.{class_node, class_position, constructor_body, body_named, body_of, class_of_body, is_synchronized_body, locals, safelet_class, size_of};
 ghost use Rattle.scj_rules.specs.ScopeRules.{defined_by_chain};
 ghost use Rattle.scj_rules.specs.Definitions.{read};
-ghost use Rattle.scj_rules.specs.Layout.{class_of_elements, element_kind, field_kind, fields_with_literal, literal_written, slot_of, slots, static_fields, static_place};
+ghost use Rattle.scj_rules.specs.Layout.{class_of_elements, element_kind, field_kind, fields_with_literal, literal_written, slot_of, slots, static_fields, static_index};
 ghost use Rattle.class_rows.specs.Tables.{AreChainedScopes};
 ghost use Rattle.object_layout.specs.Fields.{kind_of_field, static_row};
 ghost use Rattle.object_layout.specs.FieldTables.{IsFieldTableOf};
 ghost use Rattle.object_layout.specs.ObjectTables.{nodes_of_fields, slot_of_node};
 ghost use Rattle.object_layout.specs.Objects.{IsObjectTableOf};
 
-use crate::field_tables::{FieldTable, kind_numbered, place_numbered};
+use crate::field_tables::{FieldTable, kind_numbered, index_numbered};
 use crate::fields::StaticField;
 use crate::object_tables::ObjectTable;
-use crate::slots::{place_of, slot_at};
+use crate::slots::{index_of, slot_at};
 use crate::tables::{Tables, scope_numbered, tables_of};
 use crate::{arrays, bodies, classes, parts, sizes};
 use class_rows::ClassTable;
@@ -75,10 +75,10 @@ impl<'a> Layout<'a> {
     }
 
     /// Where a user class is named. A fault that no node has is told there.
-    pub fn class_place(&self, class: ClassId) -> Pos
-        ensures { result ≡ class_place (declarations_of self.now) class }
+    pub fn class_position(&self, class: ClassId) -> Pos
+        ensures { result ≡ class_position (declarations_of self.now) class }
     {
-        classes::class_place(self.classes, class)
+        classes::class_position(self.classes, class)
     }
 
     /// The name of a class.
@@ -244,7 +244,7 @@ impl<'a> Layout<'a> {
         match table.row(class) {
             Some(row) => slot_at(
                 row,
-                place_of(&row.fields, &table.places, table.is_regular, node),
+                index_of(&row.fields, &table.indices, table.is_regular, node),
             ),
             None => None,
         }
@@ -270,10 +270,10 @@ impl<'a> Layout<'a> {
 
     /// The place of a static field among all statics.
     #[tactic(auto, using(crate::proofs::FieldTableLemmas::static_place_by_table))]
-    pub fn static_place(&self, field: FieldId) -> Option<u32>
-        ensures { result ≡ static_place (declarations_of self.now) field }
+    pub fn static_index(&self, field: FieldId) -> Option<u32>
+        ensures { result ≡ static_index (declarations_of self.now) field }
     {
-        place_numbered(&self.fields().static_places, field)
+        index_numbered(&self.fields().static_indices, field)
     }
 
     /// The static fields in the order of the sources (JLS 8.3.1.1).

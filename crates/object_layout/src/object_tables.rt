@@ -4,7 +4,7 @@ ghost use Rattle.std.specs.Prelude.{◌≡◌, option_copied, replicate, slice_g
 ghost use Rattle.object_layout.specs.Objects.{all_noted, IsObjectTableOf};
 
 use crate::objects::{ObjectRow, object_rows};
-use crate::slots::{has_all_places, note_places};
+use crate::slots::{has_all_indices, note_indices};
 use class_rows::ClassTable;
 use scj_base::{ClassId, Memory};
 use std::alloc::Global;
@@ -15,23 +15,23 @@ pub struct ObjectTable {
     /// The classes, each at its number.
     pub(crate) rows: Vec<ObjectRow>,
     /// The place of each field among those of an object, at the field's node.
-    pub(crate) places: Vec<u32>,
+    pub(crate) indices: Vec<u32>,
     /// Whether that is its place in the objects of each class that have it.
     pub(crate) is_regular: bool,
 }
 
 /// The places of the fields of all objects, at so many nodes.
 #[tactic(auto, unfolding(crate::specs::Objects::all_noted))]
-fn all_places(alloc: Global, count: usize, rows: &[ObjectRow]) -> Result<Vec<u32>, Memory>
-    ensures { IfOk result (λ places. places.items ≡ all_noted (replicate count 0) rows.now) }
+fn all_indices(alloc: Global, count: usize, rows: &[ObjectRow]) -> Result<Vec<u32>, Memory>
+    ensures { IfOk result (λ indices. indices.items ≡ all_noted (replicate count 0) rows.now) }
 {
-    let mut places = vec![in alloc; 0; count]?;
+    let mut indices = vec![in alloc; 0; count]?;
     let mut others = rows;
     while let [row, rest @ ..] = others {
-        note_places(&mut places, &row.fields);
+        note_indices(&mut indices, &row.fields);
         others = rest;
     }
-    Ok(places)
+    Ok(indices)
 }
 
 /// The table of the objects of a program.
@@ -39,11 +39,11 @@ pub fn object_table(alloc: Global, classes: &ClassTable) -> Result<ObjectTable, 
     ensures { IfOk result (λ table. IsObjectTableOf classes.now table) }
 {
     let rows = object_rows(alloc, classes)?;
-    let places = all_places(alloc, classes.program().len(), &rows)?;
-    let is_regular = has_all_places(&places, &rows);
+    let indices = all_indices(alloc, classes.program().len(), &rows)?;
+    let is_regular = has_all_indices(&indices, &rows);
     Ok(ObjectTable {
         rows,
-        places,
+        indices,
         is_regular,
     })
 }

@@ -4,42 +4,42 @@
 ghost use Rattle.std.specs.Prelude.{◌≡◌, ◌↔◌, ◌<◌, ◌==◌, ◌+◌, ℕ, true, length, option_map, position, slice_get, slice_set, Some, IfSome, IsTrue};
 ghost use Rattle.scj_tree.specs.Recursion.{lookup};
 ghost use Rattle.object_layout.specs.declared.objects.ObjectRow.{ObjectRow as Row};
-ghost use Rattle.object_layout.specs.Slots.{HasPlaces, noted};
+ghost use Rattle.object_layout.specs.Slots.{HasIndices, noted};
 
 use crate::objects::ObjectRow;
 use scj_base::NodeId;
 use scj_tree::told;
 
 /// Notes the place of a field.
-fn note_place(places: &mut Vec<u32>, field: NodeId, index: u32)
-    ensures { places.new.items ≡ slice_set places.old.items field index }
+fn note_index(indices: &mut Vec<u32>, field: NodeId, index: u32)
+    ensures { indices.new.items ≡ slice_set indices.old.items field index }
 {
     let at = field.number();
-    if at < places.len() {
-        places[at] = index;
+    if at < indices.len() {
+        indices[at] = index;
     }
 }
 
 /// Notes the places of the fields of an object.
 #[tactic(auto, unfolding(crate::specs::Slots::noted))]
-pub fn note_places(places: &mut Vec<u32>, fields: &[NodeId])
-    ensures { places.new.items ≡ noted places.old.items 0 fields.now }
+pub fn note_indices(indices: &mut Vec<u32>, fields: &[NodeId])
+    ensures { indices.new.items ≡ noted indices.old.items 0 fields.now }
 {
     let mut index = 0u32;
     let mut others = fields;
     while let [field, rest @ ..] = others {
-        note_place(places, *field, index);
+        note_index(indices, *field, index);
         index = index.wrapping_add(1);
         others = rest;
     }
 }
 
 /// Whether the table has the places of all these fields.
-fn has_places(places: &[u32], fields: &[NodeId]) -> bool
-    ensures { IsTrue result ↔ (HasPlaces places.now fields.now) }
+fn has_indices(indices: &[u32], fields: &[NodeId]) -> bool
+    ensures { IsTrue result ↔ (HasIndices indices.now fields.now) }
 {
     for k in 0..fields.len() {
-        if told(places, 0, fields[k]) as usize != k {
+        if told(indices, 0, fields[k]) as usize != k {
             return false;
         }
     }
@@ -47,13 +47,13 @@ fn has_places(places: &[u32], fields: &[NodeId]) -> bool
 }
 
 /// Whether the table has the places of the fields of all objects.
-pub fn has_all_places(places: &[u32], rows: &[ObjectRow]) -> bool
+pub fn has_all_indices(indices: &[u32], rows: &[ObjectRow]) -> bool
     ensures { IsTrue result ↔
-        ((class : ℕ) (row : Row) → slice_get rows.now class ≡ Some row → HasPlaces places.now row.fields.items) }
+        ((class : ℕ) (row : Row) → slice_get rows.now class ≡ Some row → HasIndices indices.now row.fields.items) }
 {
     for at in 0..rows.len() {
         let row = &rows[at];
-        if !has_places(places, &row.fields) {
+        if !has_indices(indices, &row.fields) {
             return false;
         }
     }
@@ -69,12 +69,12 @@ fn stands_at(fields: &[NodeId], index: usize, field: NodeId) -> bool
 }
 
 /// The place of a field that the table has, if the field is there.
-fn place_by_table(fields: &[NodeId], places: &[u32], field: NodeId) -> Option<usize>
-    requires { HasPlaces places.now fields.now }
+fn index_by_table(fields: &[NodeId], indices: &[u32], field: NodeId) -> Option<usize>
+    requires { HasIndices indices.now fields.now }
     ensures value { result ≡ position (λ other. field == other) fields.now }
     ensures within { IfSome result (λ index. index < length fields.now) }
 {
-    let index = told(places, 0, field) as usize;
+    let index = told(indices, 0, field) as usize;
     if index >= fields.len() {
         return None;
     }
@@ -87,7 +87,7 @@ fn place_by_table(fields: &[NodeId], places: &[u32], field: NodeId) -> Option<us
 
 /// The first place of a field.
 #[tactic(auto, using(crate::proofs::SlotLemmas::found_first, crate::proofs::SlotLemmas::found_nowhere))]
-fn place_by_search(fields: &[NodeId], field: NodeId) -> Option<usize>
+fn index_by_search(fields: &[NodeId], field: NodeId) -> Option<usize>
     ensures value { result ≡ position (λ other. field == other) fields.now }
     ensures within { IfSome result (λ index. index < length fields.now) }
 {
@@ -100,15 +100,15 @@ fn place_by_search(fields: &[NodeId], field: NodeId) -> Option<usize>
 }
 
 /// The place of a field among those of an object.
-pub fn place_of(fields: &[NodeId], places: &[u32], is_regular: bool, field: NodeId) -> Option<usize>
-    requires { is_regular ≡ true → HasPlaces places.now fields.now }
+pub fn index_of(fields: &[NodeId], indices: &[u32], is_regular: bool, field: NodeId) -> Option<usize>
+    requires { is_regular ≡ true → HasIndices indices.now fields.now }
     ensures value { result ≡ position (λ other. field == other) fields.now }
     ensures within { IfSome result (λ index. index < length fields.now) }
 {
     if is_regular {
-        place_by_table(fields, places, field)
+        index_by_table(fields, indices, field)
     } else {
-        place_by_search(fields, field)
+        index_by_search(fields, field)
     }
 }
 

@@ -68,9 +68,9 @@ module _ (code : Code) (behind : BehindChildren code.program) (id : ℕ) (sub : 
   node_stands (Binary position operator left right) there =
       let h = behind id (Binary position operator left right) there in
       binary_stands code id sub operator left right h.0 h.1.0
-  node_stands (New position name_place name arguments) there =
-      new_stands code id sub arguments (items_are nodes id (New position name_place name arguments) there)
-      (behind id (New position name_place name arguments) there) (binding code id)
+  node_stands (New position name_position name arguments) there =
+      new_stands code id sub arguments (items_are nodes id (New position name_position name arguments) there)
+      (behind id (New position name_position name arguments) there) (binding code id)
   node_stands (NewArray position element length) there =
       let h = behind id (NewArray position element length) there in
       visit code id sub length _ _ h.1.0 (last code id sub (ALLOCARRAY id))
@@ -78,13 +78,13 @@ module _ (code : Code) (behind : BehindChildren code.program) (id : ℕ) (sub : 
       let h = below_split id (optional object) arguments (behind id (Call position name object arguments) there) in
       call_stands code id sub object arguments (items_are nodes id (Call position name object arguments) there) h.0 h.1
       (binding code id)
-  node_stands (Cast position name_place name operand) there =
-      let h = behind id (Cast position name_place name operand) there in
+  node_stands (Cast position name_position name operand) there =
+      let h = behind id (Cast position name_position name operand) there in
       visit code id sub operand _ _ h.0 (last code id sub (CAST id))
   node_stands (LocalNode position name flags declared_type) there = last code id sub (ZERO id)
-  node_stands (LocalWithValue position name_place name flags declared_type value) there =
+  node_stands (LocalWithValue position name_position name flags declared_type value) there =
       let h = below-right id (optional flags) (declared_type ∷ value ∷ [])
-      (behind id (LocalWithValue position name_place name flags declared_type value) there) in
+      (behind id (LocalWithValue position name_position name flags declared_type value) there) in
       visit code id sub value _ _ h.1.0 (last code id sub (STORE id))
   node_stands (Assign position target value) there =
       let h = behind id (Assign position target value) there in

@@ -6,7 +6,7 @@ use Rattle.scj_rules.specs.Words.{◌>>=◌}
 use Rattle.scj_rules.specs.Contexts.{Declarations, declarations_of}
 use Rattle.scj_rules.specs.Bodies.{body_of, constructor_body}
 use Rattle.scj_rules.specs.declared.views.Declared.{Declared}
-use Rattle.scj_rules.specs.Layout.{element_kind, kind_of_type, literal_written, static_place}
+use Rattle.scj_rules.specs.Layout.{element_kind, kind_of_type, literal_written, static_index}
 use Rattle.scj_rules.specs.Views.{variable_at}
 use Rattle.scj_model.specs.Memory.{literal_value}
 use Rattle.scj_model.specs.Ops.{right_operand, if_parts, turn_ops}
@@ -74,7 +74,7 @@ module _ (forest : Forest) (accepted : IsAcceptedProgram forest) where
   callee_among (THIS id) body e = absurd (cc (e))
   callee_among (LOAD id) body e = absurd (none (bound_local (binding code id)) instruction.Load (λ _. refl) body e)
   callee_among (GET id) body e = absurd (none (bound_field (binding code id)) instruction.Get (λ _. refl) body e)
-  callee_among (GETSTATIC id) body e = absurd (none (bound_static (binding code id) >>= static_place code.program) instruction.GetStatic (λ _. refl) body e)
+  callee_among (GETSTATIC id) body e = absurd (none (bound_static (binding code id) >>= static_index code.program) instruction.GetStatic (λ _. refl) body e)
   callee_among (LENGTH id) body e = absurd (cc (e))
   callee_among (ELEM id) body e = absurd (cc (e))
   callee_among (UNARY id) body e = absurd (none (part code operator_of id) instruction.Unary (λ _. refl) body e)
@@ -109,7 +109,7 @@ module _ (forest : Forest) (accepted : IsAcceptedProgram forest) where
       absurd (none_of_two (bound_local (binding code id)) (λ k. variable_at code.program.nodes id) (λ k (d : Declared). instruction.Zero (record { local = k; kind = kind_of_type d.declared_type })) (λ _ _. refl) body e)
   callee_among (STORE id) body e = absurd (none (assigned code id >>= bound_local) instruction.Store (λ _. refl) body e)
   callee_among (PUT id) body e = absurd (none (assigned code id >>= bound_field) instruction.Put (λ _. refl) body e)
-  callee_among (PUTSTATIC id) body e = absurd (none (assigned code id >>= bound_static >>= static_place code.program) instruction.PutStatic (λ _. refl) body e)
+  callee_among (PUTSTATIC id) body e = absurd (none (assigned code id >>= bound_static >>= static_index code.program) instruction.PutStatic (λ _. refl) body e)
   callee_among (PUTELEM id) body e = absurd (cc (e))
   callee_among (IF id) body e = absurd (none (part code if_parts id) (λ _. instruction.If) (λ _. refl) body e)
   callee_among (LOOP id) body e = absurd (none (part code (turn_ops code id) id) (λ _. instruction.Loop) (λ _. refl) body e)

@@ -4,7 +4,7 @@ use Rattle.scj_base.specs.declared.values.Value.{Value}
 use Rattle.scj_base.specs.declared.values.Value.TheVariants.{Int, Bool as Truth, Null, At}
 use Rattle.scj_rules.specs.declared.views.Declared.{Declared}
 use Rattle.scj_rules.specs.Words.{◌>>=◌}
-use Rattle.scj_rules.specs.Layout.{element_kind, kind_of_type, literal_written, static_place}
+use Rattle.scj_rules.specs.Layout.{element_kind, kind_of_type, literal_written, static_index}
 use Rattle.scj_rules.specs.Bodies.{body_of, constructor_body}
 use Rattle.scj_rules.specs.Views.{variable_at}
 use Rattle.scj_model.specs.declared.operations.Op.{Op}
@@ -91,7 +91,7 @@ means code world f (THIS id) = refl
 means code world f (LOAD id) = once code world f id _ instruction.Load _ (λ k. refl)
 means code world f (GET id) = once code world f id _ instruction.Get _ (λ field. refl)
 means code world f (GETSTATIC id) =
-    behind (bound_static (binding code id)) (static_place code.program) (get_static world f)
+    behind (bound_static (binding code id)) (static_index code.program) (get_static world f)
     ∙ once code world f id _ instruction.GetStatic _ (λ place. refl)
 means code world f (LENGTH id) = refl
 means code world f (ELEM id) = refl
@@ -137,7 +137,7 @@ means code world f (ZERO id) =
 means code world f (STORE id) = once code world f id _ instruction.Store _ (λ k. refl)
 means code world f (PUT id) = once code world f id _ instruction.Put _ (λ field. refl)
 means code world f (PUTSTATIC id) =
-    behind (assigned code id >>= bound_static) (static_place code.program) (put_static f)
+    behind (assigned code id >>= bound_static) (static_index code.program) (put_static f)
     ∙ once code world f id _ instruction.PutStatic _ (λ place. refl)
 means code world f (PUTELEM id) = refl
 means code world f (IF id) =

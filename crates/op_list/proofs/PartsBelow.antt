@@ -213,12 +213,12 @@ module _ (code : Code) (behind : BehindChildren code.program) (id : ℕ) where
       (choose nodes id (operator == sign_or_or) _ _
       (there_is nodes id or_choice (Binary position operator left right) there (tt, h.1.0), tt)
       (tt, tt))
-  emits (New position name_place name arguments) there = news nodes id id (binding code id)
+  emits (New position name_position name arguments) there = news nodes id id (binding code id)
   emits (NewArray position element length) there = (tt, tt)
   emits (Call position name object arguments) there = calls nodes id id object (binding code id)
-  emits (Cast position name_place name operand) there = (tt, tt)
+  emits (Cast position name_position name operand) there = (tt, tt)
   emits (LocalNode position name flags declared_type) there = (tt, tt)
-  emits (LocalWithValue position name_place name flags declared_type value) there = (tt, tt)
+  emits (LocalWithValue position name_position name flags declared_type value) there = (tt, tt)
   emits (Assign position target value) there = assignments nodes id code id value target (slice_get nodes target)
   emits (ExpressionStatement position expression) there =
       choose nodes id (leaves_value (binding code expression)) _ _ (tt, tt) tt

@@ -5,7 +5,7 @@ use Rattle.scj_rules.specs.declared.views.Body.{Body}
 use Rattle.scj_rules.specs.declared.views.Declared.{Declared}
 use Rattle.scj_rules.specs.Words.{◌>>=◌}
 use Rattle.scj_rules.specs.Views.{variable_at}
-use Rattle.scj_rules.specs.Layout.{element_kind, kind_of_type, literal_written, static_place}
+use Rattle.scj_rules.specs.Layout.{element_kind, kind_of_type, literal_written, static_index}
 use Rattle.scj_rules.specs.Bodies.{body_of, constructor_body}
 use Rattle.scj_model.specs.declared.operations.Op.{Op}
 use Rattle.scj_model.specs.declared.operations.Op.TheVariants.{Push as PUSH, This as THIS, Load as LOAD, Get as GET, GetStatic as GETSTATIC, Length as LENGTH, Elem as ELEM, Unary as UNARY, Bin as BIN, And as AND, Or as OR, Alloc as ALLOC, Construct as CONSTRUCT, AllocArray as ALLOCARRAY, Call as CALL, CallStatic as CALLSTATIC, Cast as CAST, Enter as ENTER, ExecuteIn as EXECUTEIN, Same as SAME, SetCeiling as SETCEILING, Print as PRINT, Read as READ, Register as REGISTER, Release as RELEASE, Terminate as TERMINATE, Zero as ZERO, Store as STORE, Put as PUT, PutStatic as PUTSTATIC, PutElem as PUTELEM, If as IF, Loop as LOOP, LeaveWith as LEAVEWITH, Leave as LEAVE, Drop as DROP, Init as INIT, Super as SUPER, Params as PARAMS}
@@ -33,7 +33,7 @@ instruction_of code (THIS id) = instruction.This
 instruction_of code (LOAD id) = asked (bound_local (binding code id)) instruction.Load
 instruction_of code (GET id) = asked (bound_field (binding code id)) instruction.Get
 instruction_of code (GETSTATIC id) =
-    asked (bound_static (binding code id) >>= static_place code.program) instruction.GetStatic
+    asked (bound_static (binding code id) >>= static_index code.program) instruction.GetStatic
 instruction_of code (LENGTH id) = instruction.Length
 instruction_of code (ELEM id) = instruction.Elem
 instruction_of code (UNARY id) = asked (part code operator_of id) instruction.Unary
@@ -69,7 +69,7 @@ instruction_of code (ZERO id) =
 instruction_of code (STORE id) = asked (assigned code id >>= bound_local) instruction.Store
 instruction_of code (PUT id) = asked (assigned code id >>= bound_field) instruction.Put
 instruction_of code (PUTSTATIC id) =
-    asked (assigned code id >>= bound_static >>= static_place code.program) instruction.PutStatic
+    asked (assigned code id >>= bound_static >>= static_index code.program) instruction.PutStatic
 instruction_of code (PUTELEM id) = instruction.PutElem
 instruction_of code (IF id) = chosen (part code if_parts id) instruction.If
 instruction_of code (LOOP id) = chosen (part code (turn_ops code id) id) instruction.Loop

@@ -27,7 +27,7 @@ unfoldable pub items_of : Node → List ℕ
 items_of (SuperCall position arguments) = arguments
 items_of (Block position statements) = statements
 items_of (Call position name object arguments) = arguments
-items_of (New position name_place name arguments) = arguments
+items_of (New position name_position name arguments) = arguments
 items_of _ = []
 
 unfoldable pub items_at : List Node → ℕ → List ℕ
@@ -176,12 +176,12 @@ node_parts code id (Element position array index) = Visit array ∷ Visit index 
 node_parts code id (Parenthesized position inner) = Visit inner ∷ []
 node_parts code id (Unary position operator operand) = Visit operand ∷ Emit (UNARY id) ∷ []
 node_parts code id (Binary position operator left right) = binary_parts id operator left right
-node_parts code id (New position name_place name arguments) = new_parts id (binding code id)
+node_parts code id (New position name_position name arguments) = new_parts id (binding code id)
 node_parts code id (NewArray position element length) = Visit length ∷ Emit (ALLOCARRAY id) ∷ []
 node_parts code id (Call position name object arguments) = call_parts id object (binding code id)
-node_parts code id (Cast position name_place name operand) = Visit operand ∷ Emit (CAST id) ∷ []
+node_parts code id (Cast position name_position name operand) = Visit operand ∷ Emit (CAST id) ∷ []
 node_parts code id (LocalNode position name flags declared_type) = Emit (ZERO id) ∷ []
-node_parts code id (LocalWithValue position name_place name flags declared_type value) =
+node_parts code id (LocalWithValue position name_position name flags declared_type value) =
     Visit value ∷ Emit (STORE id) ∷ []
 node_parts code id (Assign position target value) = assignment_parts code id target value
 node_parts code id (ExpressionStatement position expression) =

@@ -1,7 +1,7 @@
 //! What operations on values ask of the program.
 
 ghost use Rattle.std.specs.Prelude.{◌≡◌, option_and_then};
-ghost use Rattle.scj_rules.specs.Layout.{static_place};
+ghost use Rattle.scj_rules.specs.Layout.{static_index};
 ghost use Rattle.scj_model.specs.declared.operations.Op.TheVariants as op;
 ghost use Rattle.scj_model.specs.Code.{code_of};
 ghost use Rattle.scj_model.specs.Operations.{assigned, bound_field, bound_local, bound_static};
@@ -56,9 +56,9 @@ pub fn get(code: &Code<'_>, id: NodeId) -> Instruction
 /// The place of a static field among all statics, if it is one.
 #[tactic(auto, using(crate::proofs::CodeLemmas::program_is))]
 fn place_of(code: &Code<'_>, field: Option<FieldId>) -> Option<u32>
-    ensures { result ≡ option_and_then (static_place (code_of code.now).program) field }
+    ensures { result ≡ option_and_then (static_index (code_of code.now).program) field }
 {
-    code.layout().static_place(field?)
+    code.layout().static_index(field?)
 }
 
 /// A static field that is read.

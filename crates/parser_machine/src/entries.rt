@@ -179,7 +179,7 @@ pub enum Entry {
     /// A local up to its `=`, at `place`.
     LocalValue {
         position: Pos,
-        name_place: Pos,
+        name_position: Pos,
         name: SharedName,
         flags: Option<NodeId>,
         declared_type: NodeId,
@@ -198,7 +198,7 @@ pub enum Entry {
     /// `( Name )` of a cast.
     CastOpen {
         position: Pos,
-        name_place: Pos,
+        name_position: Pos,
         name: SharedName,
     },
     /// `(` around an expression.
@@ -228,12 +228,12 @@ pub enum Entry {
     /// `new Name`.
     NewOpen {
         position: Pos,
-        name_place: Pos,
+        name_position: Pos,
         name: SharedName,
     },
-    /// `super`, in a constructor whose body begins at `block_place`.
+    /// `super`, in a constructor whose body begins at `block_position`.
     SuperCallOpen {
-        block_place: Pos,
+        block_position: Pos,
         position: Pos,
     },
 }

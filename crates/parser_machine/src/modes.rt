@@ -215,12 +215,12 @@ pub enum Mode {
     },
     /// `super`: `(`.
     SuperOpen {
-        block_place: Pos,
+        block_position: Pos,
         position: Pos,
     },
     /// `super(..)`: `;`.
     SuperEnd {
-        block_place: Pos,
+        block_position: Pos,
     },
     /// Statements: a statement or `}`.
     InStatements,
@@ -286,13 +286,13 @@ pub enum Mode {
     /// `( Name`.
     OpenedName {
         position: Pos,
-        name_place: Pos,
+        name_position: Pos,
         name: SharedName,
     },
     /// `( Name )`: a cast or a name between parentheses.
     ClosedName {
         position: Pos,
-        name_place: Pos,
+        name_position: Pos,
         name: SharedName,
     },
     /// `-` where an operand is due.
@@ -306,7 +306,7 @@ pub enum Mode {
     /// `new Name`: `(` or `[`.
     NewName {
         position: Pos,
-        name_place: Pos,
+        name_position: Pos,
         name: SharedName,
     },
     /// `new int` or `new boolean`, whose type is a node: `[`.

@@ -7,7 +7,7 @@ use Rattle.scj_base.specs.declared.errors.Memory.{Memory}
 use Rattle.scj_base.specs.declared.lexemes.Token.{Token}
 use Rattle.scj_base.specs.declared.lexemes.TokenKind.TheVariants.{Name, Word, Number, Text, Sign, End}
 use Rattle.scj_base.specs.declared.places.Pos.{Pos}
-use Rattle.scj_tree.specs.Lexemes.{Lexeme, part_of, place_of_lexeme}
+use Rattle.scj_tree.specs.Lexemes.{Lexeme, part_of, position_of_lexeme}
 use Rattle.scj_tree.specs.declared.nodes.Node.{Node}
 use Rattle.parser_steps.specs.declared.runs.Outcome.{Outcome}
 use Rattle.parser_steps.specs.declared.runs.Outcome.TheVariants.{Ended, Stopped}
@@ -19,7 +19,7 @@ pub data Way : Type 0 where
 
 unfoldable pub way : State → List Lexeme → Way
 way st [] = to st
-way st (t ∷ o) = elim (step st t) [ Some next ↦ way next o | None ↦ up_to (place_of_lexeme t) ]
+way st (t ∷ o) = elim (step st t) [ Some next ↦ way next o | None ↦ up_to (position_of_lexeme t) ]
 
 -- what the code tells of it; whatever is awaited where memory was wanting
 abbrev pub leads : Result Outcome Memory → List Node → List Entry → Way → Way

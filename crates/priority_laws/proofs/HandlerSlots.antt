@@ -10,7 +10,7 @@ use Rattle.scj_rules.specs.declared.views.SlotKind.{SlotKind}
 use Rattle.scj_rules.specs.Words.{is_among, ◌>>=◌}
 use Rattle.scj_rules.specs.Classes.{superclasses, hidden_fields, instance_fields}
 use Rattle.scj_rules.specs.Contexts.{Declarations}
-use Rattle.scj_rules.specs.Layout.{field_numbered, kind_of_type, place_among, slot_of, element_kind}
+use Rattle.scj_rules.specs.Layout.{field_numbered, kind_of_type, index_among, slot_of, element_kind}
 use Rattle.scj_rules.specs.ScopeRules.{is_handler}
 use Rattle.accepted_laws.proofs.Tools.{some_inj}
 use Rattle.scj_model.specs.Code.{Code}
@@ -74,11 +74,11 @@ slot_behind p class field slot e = go (field_numbered p field) refl
     go : (o : Option Declared) → field_numbered p field ≡ o → hidden_fields p.classes class ≤ slot
     go None f = absurd (cc (e, f))
     go (Some d) f =
-        placed d (place_among (instance_fields p.classes class) d)
+        placed d (index_among (instance_fields p.classes class) d)
         (sym (ap
         (λ (o : Option Declared). o
         >>= (λ f. option_map (λ k. hidden_fields p.classes class + k)
-        (place_among (instance_fields p.classes class) f))) f) ∙ e)
+        (index_among (instance_fields p.classes class) f))) f) ∙ e)
 
 pub field_spares : (code : Code) (objects : ℕ → Option Object) (r : ℕ) (o : Object) (field slot : ℕ) →
     objects r ≡ Some o → slot_of code.program o.class field ≡ Some slot → SparesPriority code objects r slot

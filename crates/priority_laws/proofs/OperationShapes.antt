@@ -9,7 +9,7 @@ use Rattle.scj_base.specs.declared.values.Value.TheVariants.{Int, Bool as Truth,
 use Rattle.scj_builtins.specs.Framework.{mission_sequencer, periodic_handler}
 use Rattle.scj_rules.specs.declared.views.Body.{Body}
 use Rattle.scj_rules.specs.Classes.{is_sub}
-use Rattle.scj_rules.specs.Layout.{slot_of, static_place, element_kind, literal_written}
+use Rattle.scj_rules.specs.Layout.{slot_of, static_index, element_kind, literal_written}
 use Rattle.scj_rules.specs.Bodies.{body_named, body_of}
 use Rattle.scj_rules.specs.Views.{variable_at}
 use Rattle.scj_rules.specs.ScopeRules.{defined_by_chain}
@@ -119,7 +119,7 @@ module _ (m : Scene) where
       (λ o slot spares. shaped_given m (slice_get o.slots slot) _ (λ value. shaped_pushes m g s value)))))
   shaped (GETSTATIC id) e =
       shaped_given m (bound_static (binding m.code id)) _
-      (λ field. shaped_given m (static_place m.code.program field) _ (λ place.
+      (λ field. shaped_given m (static_index m.code.program field) _ (λ place.
       shaped_given m (slice_get m.world.statics place) _ (λ value. shaped_pushes m m.frame (here m) value)))
   shaped (LENGTH id) e =
       shaped_pop m m.frame (here m) _
@@ -230,7 +230,7 @@ module _ (m : Scene) where
       (λ r. shaped_field r field _ (λ o slot spares. shaped_stores m h t r slot value (inr spares))))))
   shaped (PUTSTATIC id) e =
       shaped_given m (assigned m.code id >>= bound_static) _
-      (λ field. shaped_given m (static_place m.code.program field) _ (λ place.
+      (λ field. shaped_given m (static_index m.code.program field) _ (λ place.
       shaped_pop m m.frame (here m) _ (λ value g s. shaped_stores_static m g s place value)))
   shaped (PUTELEM id) e =
       shaped_pop m m.frame (here m) _ (λ value g s. shaped_pop m g s _ (λ index h t. shaped_pop m h t _ (λ array k u.

@@ -18,7 +18,7 @@ use Rattle.scj_model.specs.Effects.{Effect, new_frame, monitor_of}
 use Rattle.scj_model.specs.Apply.{applied}
 use Rattle.scj_model.specs.Sequencer.{innermost}
 use Rattle.scj_model.specs.Choice.{candidate, may_act}
-use Rattle.scj_model.specs.Run.{frame_op, effect_at, place_of_op, start_op, started_with, no_activity, release_op_of, ref_op, environment}
+use Rattle.scj_model.specs.Run.{frame_op, effect_at, position_of_op, start_op, started_with, no_activity, release_op_of, ref_op, environment}
 use Rattle.scj_model.specs.Safety.{job_may_act}
 use Rattle.scj_model.proofs.Reaching.{Gives, gives_some}
 use Rattle.priority_laws.specs.Premises.{Does, is_synchronized}
@@ -82,7 +82,7 @@ module _ (code : Code) (rows : List ReadingRow) (s : State) (p : ℕ) (r : Relea
           Gives (ReleaseMoves code (EntersRightly code rows s p) s p r.handler a.priority (f ∷ below))
           (elim ops [
             | [] ↦ None
-            | op ∷ rest ↦ applied code s (ReleaseAt p) a below (place_of_op code op)
+            | op ∷ rest ↦ applied code s (ReleaseAt p) a below (position_of_op code op)
                 (effect_at code rows s f op rest)
           ])
       act f below frames [] k = gives_nothing _
@@ -103,7 +103,7 @@ module _ (code : Code) (rows : List ReadingRow) (s : State) (p : ℕ) (r : Relea
                 })
                 (formed_at code (environment rows s) f rest op))
                 s p r.handler a.priority (f ∷ below) step.state
-                ((applied_moves code s p r there exec a f below frames (place_of_op code op)
+                ((applied_moves code s p r there exec a f below frames (position_of_op code op)
                 (effect_at code rows s f op rest)
                 (shaped_at code (environment rows s) f rest op)).is step x);
           }
@@ -115,7 +115,7 @@ module _ (code : Code) (rows : List ReadingRow) (s : State) (p : ℕ) (r : Relea
             | f
                 ∷ below ↦ elim f.rest [
                   | [] ↦ None
-                  | op ∷ rest ↦ applied code s (ReleaseAt p) a below (place_of_op code op)
+                  | op ∷ rest ↦ applied code s (ReleaseAt p) a below (position_of_op code op)
                       (effect_at code rows s f op rest)
                 ]
           ])

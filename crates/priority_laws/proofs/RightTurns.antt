@@ -24,7 +24,7 @@ use Rattle.scj_model.specs.Effects.{Effect, Makes, Stores, SetsHidden, SetsCeili
 use Rattle.scj_model.specs.Apply.{applied}
 use Rattle.scj_model.specs.Sequencer.{innermost, area_opened, safelet_made, body_called, method_called, sequencer_op}
 use Rattle.scj_model.specs.Choice.{by_priority}
-use Rattle.scj_model.specs.Run.{frame_op, effect_at, place_of_op, start_op, started_with, no_activity, release_op_of, ref_op, sequencer_turn, environment}
+use Rattle.scj_model.specs.Run.{frame_op, effect_at, position_of_op, start_op, started_with, no_activity, release_op_of, ref_op, sequencer_turn, environment}
 use Rattle.scj_model.specs.Reached.{Arrived, Reached}
 use Rattle.scj_model.specs.Safety.{job_may_act}
 use Rattle.scj_model.proofs.Reaching.{Gives, gives_some}
@@ -89,11 +89,11 @@ module _ (code : Code) (rows : List ReadingRow) (s : State) (h : PrioritiesAreRi
           Gives (PrioritiesAreRight code)
           (elim ops [
             | [] ↦ None
-            | op ∷ rest ↦ applied code s job a below (place_of_op code op) (effect_at code rows s f op rest)
+            | op ∷ rest ↦ applied code s job a below (position_of_op code op) (effect_at code rows s f op rest)
           ])
       act f below frames [] k = gives_nothing _
       act f below frames (op ∷ rest) k =
-          right_applied code s h job a below (place_of_op code op) (effect_at code rows s f op rest)
+          right_applied code s h job a below (position_of_op code op) (effect_at code rows s f op rest)
           (c.is op (effect_at code rows s f op rest) f rest
           (record {
             may = may;
@@ -115,7 +115,7 @@ module _ (code : Code) (rows : List ReadingRow) (s : State) (h : PrioritiesAreRi
             | f
                 ∷ below ↦ elim f.rest [
                   | [] ↦ None
-                  | op ∷ rest ↦ applied code s job a below (place_of_op code op)
+                  | op ∷ rest ↦ applied code s job a below (position_of_op code op)
                       (effect_at code rows s f op rest)
                 ]
           ])

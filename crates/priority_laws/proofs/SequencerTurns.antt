@@ -15,7 +15,7 @@ use Rattle.scj_model.specs.Steps.{allocating, opening}
 use Rattle.scj_model.specs.Effects.{new_frame}
 use Rattle.scj_model.specs.Apply.{applied}
 use Rattle.scj_model.specs.Sequencer.{innermost, area_opened, safelet_made, body_called, method_called, sequencer_op}
-use Rattle.scj_model.specs.Run.{frame_op, effect_at, place_of_op, sequencer_turn, environment}
+use Rattle.scj_model.specs.Run.{frame_op, effect_at, position_of_op, sequencer_turn, environment}
 use Rattle.scj_model.proofs.Reaching.{Gives, gives_some}
 use Rattle.priority_laws.specs.Started.{started_at}
 use Rattle.priority_laws.specs.Nesting.{NestsForSequencer}
@@ -95,12 +95,12 @@ module _ (code : Code) (s : State) (none : (q : ℕ) → started_at s.releases q
           Gives (SequencerMoves s)
           (elim ops [
             | [] ↦ None
-            | op ∷ rest ↦ applied code s TheSequencer s.activity below (place_of_op code op)
+            | op ∷ rest ↦ applied code s TheSequencer s.activity below (position_of_op code op)
                 (effect_at code rows s f op rest)
           ])
       act f below frames [] = gives_nothing _
       act f below frames (op ∷ rest) =
-          applied_moves code s none quiet idle n f below frames (place_of_op code op) (effect_at code rows s f op rest)
+          applied_moves code s none quiet idle n f below frames (position_of_op code op) (effect_at code rows s f op rest)
           (shaped_at code (environment rows s) f rest op)
 
       inner : (fs : List Frame) → s.activity.frames ≡ fs →
@@ -110,7 +110,7 @@ module _ (code : Code) (s : State) (none : (q : ℕ) → started_at s.releases q
             | f
                 ∷ below ↦ elim f.rest [
                   | [] ↦ None
-                  | op ∷ rest ↦ applied code s TheSequencer s.activity below (place_of_op code op)
+                  | op ∷ rest ↦ applied code s TheSequencer s.activity below (position_of_op code op)
                       (effect_at code rows s f op rest)
                 ]
           ])

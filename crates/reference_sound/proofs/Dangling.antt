@@ -37,9 +37,9 @@ module _ {A : Type 0} (Q : ℕ → Type 0) (f : A → List ℕ) where
       (all_flat xs (All-tail (λ x. All Q (f x)) x xs h))
 
 module _ {A : Type 0} (P : A → Type 0) where
-  all_places : (xs : List A) → ((i : ℕ) (x : A) → slice_get xs i ≡ Some x → P x) → All P xs
-  all_places [] h = All-nil P
-  all_places (x ∷ xs) h = All-cons P x xs (h 0 x refl) (all_places xs (λ i y e. h (suc i) y e))
+  all_indices : (xs : List A) → ((i : ℕ) (x : A) → slice_get xs i ≡ Some x → P x) → All P xs
+  all_indices [] h = All-nil P
+  all_indices (x ∷ xs) h = All-cons P x xs (h 0 x refl) (all_indices xs (λ i y e. h (suc i) y e))
 
   all_filtered : (test : A → Bool) (xs : List A) →
       ((i : ℕ) (x : A) → slice_get xs i ≡ Some x → test x ≡ true → P x) → All P (filter test xs)
@@ -214,7 +214,7 @@ module _ (code : Code) (s : State) (base : List ℕ) (rooted : IsRooted code s b
   handlers_live : All Lives (map (λ (row : HandlerRow). row.at) s.registry)
   handlers_live =
       All-map Lives (λ (row : HandlerRow). row.at) s.registry
-      (all_places (λ (row : HandlerRow). Lives row.at) s.registry rooted.roots.handlers)
+      (all_indices (λ (row : HandlerRow). Lives row.at) s.registry rooted.roots.handlers)
 
   objects_live : All Lives (flat_map (λ (o : Object). references o.slots) (open_objects s))
   objects_live =

@@ -7,7 +7,7 @@ use Rattle.scj_rules.specs.declared.typing.Ty.{Ty}
 use Rattle.scj_rules.specs.declared.typing.Ty.TheVariants.{Class as ClassTy}
 use Rattle.scj_rules.specs.declared.typing.Scope.{Scope}
 use Rattle.scj_rules.specs.declared.typing.Scope.TheVariants.{Caller}
-use Rattle.scj_rules.specs.Layout.{static_place}
+use Rattle.scj_rules.specs.Layout.{static_index}
 use Rattle.accepted_laws.specs.Kinds.{Kind, number, reference, Fits}
 use Rattle.accepted_laws.proofs.Tools.{some_inj}
 use Rattle.scj_model.specs.declared.operations.Op.{Op}
@@ -149,7 +149,7 @@ module _ (m : Scene) (Q : ℕ → Type 0) (locals : EachReference Q m.frame.loca
       stores : effect_of m.code m.world m.frame (PUTSTATIC id)
           ≡ StoresStatic (record m.frame { operands = x.rest }) r.needed.has.index x.v
       stores =
-          ap (λ (o : Option ℕ). given o (λ field. given (static_place m.code.program field) (λ place.
+          ap (λ (o : Option ℕ). given o (λ field. given (static_index m.code.program field) (λ place.
           pop m.frame (λ value f. StoresStatic f place value)))) r.needed.is
           ∙ (ap (λ (o : Option ℕ). given o (λ place. pop m.frame (λ value f. StoresStatic f place value)))
           r.needed.has.is

@@ -10,7 +10,7 @@ use Rattle.scj_model.specs.State.{Frame, Activity, Job, State, activity_of}
 use Rattle.scj_model.specs.Effects.{Effect, Goes, Prints, Makes, Stores, StoresStatic, SetsHidden, SetsCeiling, Calls, Opens, Leaves, AsksRegistration, AsksRelease, AsksTermination, Faults, Stuck, new_frame}
 use Rattle.scj_model.specs.Steps.{Step}
 use Rattle.scj_model.specs.Apply.{applied}
-use Rattle.scj_model.specs.Run.{environment, place_of_op, effect_at, frame_op}
+use Rattle.scj_model.specs.Run.{environment, position_of_op, effect_at, frame_op}
 use Rattle.scope_flow.specs.Facts.{Facts}
 use Rattle.scope_flow.specs.Signatures.{Signature}
 use Rattle.frame_sound.specs.Places.{World, world_of}
@@ -87,7 +87,7 @@ module _ (code : Code) (facts : Facts code) (rows : List ReadingRow) (s : State)
         | [] ↦ None
         | f ∷ below ↦ elim f.rest [
           | [] ↦ None
-          | op ∷ rest ↦ applied code s job activity below (place_of_op code op) (effect_at code rows s f op rest)
+          | op ∷ rest ↦ applied code s job activity below (position_of_op code op) (effect_at code rows s f op rest)
         ]
       ])
   next_kept [] e fine = record { gives = λ step h. absurd (cc (h)) }
@@ -104,7 +104,7 @@ module _ (code : Code) (facts : Facts code) (rows : List ReadingRow) (s : State)
 
       next : (ops : List Op) → f.rest ≡ ops → AllLead base (elim ops as (λ z. Option Step) [
         | [] ↦ None
-        | op ∷ rest ↦ applied code s job activity below (place_of_op code op) (effect_at code rows s f op rest)
+        | op ∷ rest ↦ applied code s job activity below (position_of_op code op) (effect_at code rows s f op rest)
       ])
       next [] r = record { gives = λ step h. absurd (cc (h)) }
       next (op ∷ rest) r =
@@ -113,7 +113,7 @@ module _ (code : Code) (facts : Facts code) (rows : List ReadingRow) (s : State)
           subst
           (λ ops. Ready code (world_of s) (list_of base (f ∷ below)) fine.0.class fine.0.sig
           (record f { rest = ops }) None) r ready in
-          effect_kept code s job activity is base held f below e (place_of_op code op) rest fine.0.class fine.0.sig
+          effect_kept code s job activity is base held f below e (position_of_op code op) rest fine.0.class fine.0.sig
           (effect_at code rows s f op rest)
           (next_fine code facts (world_of s).areas (environment rows s) (list_of base (f ∷ below)) fine.0.class
           fine.0.sig f

@@ -12,7 +12,7 @@ use Rattle.scj_rules.specs.Definitions.{read}
 use Rattle.scj_rules.specs.Words.{◌>>=◌}
 use Rattle.scj_rules.specs.Layout.{field_literal, static_fields, kind_of_type}
 use Rattle.scj_rules.specs.ScopeRules.{defined_by_chain}
-use Rattle.scj_rules.specs.Bodies.{body_named, class_place}
+use Rattle.scj_rules.specs.Bodies.{body_named, class_position}
 use Rattle.accepted_laws.proofs.Tools.{some_inj}
 use Rattle.scj_model.specs.declared.events.Event.{Event}
 use Rattle.scj_model.specs.declared.events.Event.TheVariants.{Miss}
@@ -28,7 +28,7 @@ use Rattle.scj_model.specs.Registry.{handler_row}
 use Rattle.scj_model.specs.Steps.{Step, silently, telling, opening, fault_in, for_each}
 use Rattle.scj_model.specs.Effects.{new_frame}
 use Rattle.scj_model.specs.Apply.{release_taken}
-use Rattle.scj_model.specs.Sequencer.{innermost, SeqEffect, Continues, TakesSafelet, TakesSequencer, TakesMission, LacksSequencer, LacksMission, BeginsMission, BeginsExecution, SkipsExecution, EndsExecution, ClosesMission, Transition, gone_to, mission_closed, seq_applied, transition_done, after_operation, after_execution, has_started, goes_to, phase_after, place_of_object}
+use Rattle.scj_model.specs.Sequencer.{innermost, SeqEffect, Continues, TakesSafelet, TakesSequencer, TakesMission, LacksSequencer, LacksMission, BeginsMission, BeginsExecution, SkipsExecution, EndsExecution, ClosesMission, Transition, gone_to, mission_closed, seq_applied, transition_done, after_operation, after_execution, has_started, goes_to, phase_after, position_of_object}
 use Rattle.scj_model.specs.Arrivals.{executes_since, arrivals, fired, fired_at, fired_handler, due_handlers, fires_due}
 use Rattle.scj_model.specs.Run.{no_activity, started_with, start_op, first_static, empty_state}
 use Rattle.frame_sound.specs.Places.{world_of}
@@ -64,7 +64,7 @@ module _ (code : Code) (s : State) (base : List ℕ) (held : ReferencesHold s ba
       go : (b : Bool) → ReferencesHold (if b
           then silently
           (with_activity (with_area s scope (innermost s.activity.areas) row.bytes) (ReleaseAt index) begun)
-          else fault_in s (ReleaseAt index) no_activity (class_place code.program row.class) StoreFull).state base
+          else fault_in s (ReleaseAt index) no_activity (class_position code.program row.class) StoreFull).state base
       go true =
           goes_on s base held (ReleaseAt index) (with_area s scope (innermost s.activity.areas) row.bytes) refl refl
           begun
@@ -76,7 +76,7 @@ module _ (code : Code) (s : State) (base : List ℕ) (held : ReferencesHold s ba
           (length s.areas)
           (record (new_frame code body None (Some row.at) (length s.areas) []) { opened = Some (length s.areas) }) refl)
       go false =
-          faults_hold s base held (ReleaseAt index) no_activity (class_place code.program row.class) StoreFull
+          faults_hold s base held (ReleaseAt index) no_activity (class_position code.program row.class) StoreFull
 
   pub start_keeps : (r : Release) → AllLead base (start_op code s index r)
   unfolding start_op
@@ -115,7 +115,7 @@ module _ (code : Code) (s : State) (base : List ℕ) (held : ReferencesHold s ba
       rests s base held (record s { mission = Some r; is_end_asked = false; earlier_releases = length s.releases }) refl
       refl refl refl refl
   effect_keeps (LacksSequencer safelet) =
-      faults_hold s base held TheSequencer s.activity (place_of_object code s safelet) NullPointer
+      faults_hold s base held TheSequencer s.activity (position_of_object code s safelet) NullPointer
   effect_keeps LacksMission = held
   effect_keeps (BeginsMission r) = held
   effect_keeps BeginsExecution =

@@ -7,7 +7,7 @@ use Rattle.scj_base.specs.declared.places.Pos.{Pos}
 use Rattle.scj_base.specs.declared.values.Value.TheVariants.{Null, At}
 use Rattle.scj_rules.specs.declared.views.Body.{Body}
 use Rattle.scj_rules.specs.ScopeRules.{immortal_scope, defined_by_chain}
-use Rattle.scj_rules.specs.Bodies.{body_named, constructor_body, size_of, safelet_class, class_place}
+use Rattle.scj_rules.specs.Bodies.{body_named, constructor_body, size_of, safelet_class, class_position}
 use Rattle.scj_model.specs.declared.operations.SeqOp.{SeqOp}
 use Rattle.scj_model.specs.declared.operations.SeqOp.TheVariants.{OpenImmortal, AllocSafelet, ConstructSafelet, InitializeApplication, GetSequencer, GetNextMission, OpenMission, Initialize, CleanUp, Execute, Finished}
 use Rattle.scj_model.specs.Code.{Code}
@@ -99,11 +99,11 @@ module _ (code : Code) (s : State) (base : List ℕ) (held : ReferencesHold s ba
     sequencer_keeps OpenImmortal =
         any_leads base (safelet_class code.program) _ (λ class.
         any_leads base (size_of code.program class) _ (λ bytes.
-        all_lead base _ (opened_holds (class_place code.program class) immortal_scope bytes)))
+        all_lead base _ (opened_holds (class_position code.program class) immortal_scope bytes)))
     sequencer_keeps AllocSafelet =
         any_leads base (safelet_class code.program) _ (λ class.
         any_leads base (innermost s.activity.areas) _ (λ area.
-        all_lead base _ (made_holds (class_place code.program class) class area)))
+        all_lead base _ (made_holds (class_position code.program class) class area)))
     sequencer_keeps (ConstructSafelet r) =
         any_leads base (object_at s r) _ (λ o.
         any_leads base (constructor_body code.program o.class) _ (λ body. called_holds r body))
@@ -114,7 +114,7 @@ module _ (code : Code) (s : State) (base : List ℕ) (held : ReferencesHold s ba
         any_leads base (object_at s r) _ (λ o.
         any_leads base (defined_by_chain code.program o.class) _ (λ scope.
         any_leads base (size_of code.program o.class) _ (λ bytes.
-        all_lead base _ (opened_holds (class_place code.program o.class) scope bytes))))
+        all_lead base _ (opened_holds (class_position code.program o.class) scope bytes))))
     sequencer_keeps (Initialize r) = method_holds r (codes "initialize")
     sequencer_keeps (CleanUp r) = method_holds r (codes "cleanUp")
     sequencer_keeps Execute = none_leads base

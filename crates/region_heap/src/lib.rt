@@ -13,7 +13,7 @@ pub mod makers;
 pub mod numbers;
 pub mod objects;
 pub mod open_areas;
-mod places;
+mod indices;
 mod reads;
 pub mod rows;
 mod sets;

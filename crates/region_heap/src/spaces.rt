@@ -119,7 +119,7 @@ impl RegionHeap {
         ensures { (s : State) → result ≡ has_room (with_memory s self.now) area count }
     {
         match room_in(&self.areas, area, count) {
-            Ok(_place) => true,
+            Ok(_index) => true,
             Err(_full) => false,
         }
     }

@@ -6,7 +6,7 @@ use Rattle.scj_base.specs.declared.faults.RunFault.{RunFault}
 use Rattle.scj_base.specs.declared.values.Value.{Value}
 use Rattle.scj_rules.specs.Words.{◌>>=◌}
 use Rattle.scj_rules.specs.ScopeRules.{defined_by_chain}
-use Rattle.scj_rules.specs.Bodies.{body_named, class_place}
+use Rattle.scj_rules.specs.Bodies.{body_named, class_position}
 use Rattle.scj_model.specs.declared.operations.Op.{Op}
 use Rattle.scj_model.specs.declared.plans.ReadingRow.{ReadingRow}
 use Rattle.scj_model.specs.declared.events.Event.TheVariants.{Miss}
@@ -21,7 +21,7 @@ use Rattle.scj_model.specs.Effects.{Effect, Goes, Prints, Makes, Stores, StoresS
 use Rattle.scj_model.specs.Apply.{is_full, called, opened_in, frame_left, waiting_of, most_waiting, takes_releases, release_taken, registered, released, termination, termination_asked, with_frame, applied, dropped_release, asks_for_end, ceiling_entered}
 use Rattle.scj_model.specs.Sequencer.{innermost}
 use Rattle.scj_model.specs.Arrivals.{executes_since, due_handlers, fired_handler, fired, arrivals, fired_at, fires_due}
-use Rattle.scj_model.specs.Run.{frame_op, effect_at, place_of_op, start_op, started_with, no_activity, release_op_of, ref_op}
+use Rattle.scj_model.specs.Run.{frame_op, effect_at, position_of_op, start_op, started_with, no_activity, release_op_of, ref_op}
 use Rattle.priority_laws.proofs.AreaLists.{number_cases, get_changed, get_changed_other}
 
 -- ---- lists of releases
@@ -425,11 +425,11 @@ acts_frame : (code : Code) (rows : List ReadingRow) (s : State) (n : ℕ) (activ
 unfolding frame_op
 acts_frame code rows s n activity = go activity.frames
   where
-    act : (f : Frame) (below : List Frame) (ops : List Op) → ActsIf n s (elim ops [ [] ↦ None | op ∷ rest ↦ applied code s (ReleaseAt n) activity below (place_of_op code op) (effect_at code rows s f op rest) ])
+    act : (f : Frame) (below : List Frame) (ops : List Op) → ActsIf n s (elim ops [ [] ↦ None | op ∷ rest ↦ applied code s (ReleaseAt n) activity below (position_of_op code op) (effect_at code rows s f op rest) ])
     act f below [] = acts_none n s
-    act f below (op ∷ rest) = acts_applied code s n activity below (place_of_op code op) (effect_at code rows s f op rest)
+    act f below (op ∷ rest) = acts_applied code s n activity below (position_of_op code op) (effect_at code rows s f op rest)
 
-    go : (fs : List Frame) → ActsIf n s (elim fs [ [] ↦ None | f ∷ below ↦ elim f.rest [ [] ↦ None | op ∷ rest ↦ applied code s (ReleaseAt n) activity below (place_of_op code op) (effect_at code rows s f op rest) ] ])
+    go : (fs : List Frame) → ActsIf n s (elim fs [ [] ↦ None | f ∷ below ↦ elim f.rest [ [] ↦ None | op ∷ rest ↦ applied code s (ReleaseAt n) activity below (position_of_op code op) (effect_at code rows s f op rest) ] ])
     go [] = acts_none n s
     go (f ∷ below) = act f below f.rest
 
@@ -438,7 +438,7 @@ unfolding start_op started_with with_activity
 acts_start code s index r =
     acts_bind index s (handler_row s.registry r.handler) _ (λ row. acts_bind index s (defined_by_chain code.program row.class) _ (λ scope.
     acts_bind index s (body_named code.program row.class (codes "handleAsyncEvent")) _ (λ body.
-    acts_some index s _ (acts_opening s index no_activity (class_place code.program row.class) scope (innermost s.activity.areas) row.bytes _
+    acts_some index s _ (acts_opening s index no_activity (class_position code.program row.class) scope (innermost s.activity.areas) row.bytes _
     (λ t a k. gets index s t _ k)))))
 
 acts_release : (code : Code) (rows : List ReadingRow) (s : State) (index : ℕ) (r : Release) → ActsIf index s (release_op_of code rows s index r)

@@ -7,7 +7,7 @@ use Rattle.scj_base.specs.declared.values.Value.{Value}
 use Rattle.scj_rules.specs.declared.views.Body.{Body}
 use Rattle.scj_rules.specs.Words.{◌>>=◌}
 use Rattle.scj_rules.specs.ScopeRules.{immortal_scope, defined_by_chain}
-use Rattle.scj_rules.specs.Bodies.{body_named, constructor_body, size_of, safelet_class, class_place}
+use Rattle.scj_rules.specs.Bodies.{body_named, constructor_body, size_of, safelet_class, class_position}
 use Rattle.scj_model.specs.declared.events.Event.TheVariants.{Terminate}
 use Rattle.scj_model.specs.declared.operations.Op.{Op}
 use Rattle.scj_model.specs.declared.operations.SeqOp.{SeqOp}
@@ -21,7 +21,7 @@ use Rattle.scj_model.specs.Steps.{Step, silently, telling, job_ended, fault_in, 
 use Rattle.scj_model.specs.Effects.{Effect, Goes, Prints, Makes, Stores, StoresStatic, SetsHidden, SetsCeiling, Calls, Opens, Leaves, AsksRegistration, AsksRelease, AsksTermination, Faults, Stuck}
 use Rattle.scj_model.specs.Apply.{is_full, called, opened_in, frame_left, release_taken, registered, released, termination, termination_asked, with_frame, applied, asks_for_end, ceiling_entered, dropped_release, tell_dropped}
 use Rattle.scj_model.specs.Sequencer.{innermost, area_opened, safelet_made, body_called, sequencer_op}
-use Rattle.scj_model.specs.Run.{frame_op, effect_at, place_of_op, sequencer_turn}
+use Rattle.scj_model.specs.Run.{frame_op, effect_at, position_of_op, sequencer_turn}
 
 -- the same releases, of the same mission
 pub record HasSame (s t : State) : Type 0 where
@@ -166,11 +166,11 @@ same_frame : (code : Code) (rows : List ReadingRow) (s : State) → is_exec s.ph
 unfolding frame_op
 same_frame code rows s e activity = go activity.frames
   where
-    act : (f : Frame) (below : List Frame) (ops : List Op) → SameIf s (elim ops [ [] ↦ None | op ∷ rest ↦ applied code s TheSequencer activity below (place_of_op code op) (effect_at code rows s f op rest) ])
+    act : (f : Frame) (below : List Frame) (ops : List Op) → SameIf s (elim ops [ [] ↦ None | op ∷ rest ↦ applied code s TheSequencer activity below (position_of_op code op) (effect_at code rows s f op rest) ])
     act f below [] = same_none s
-    act f below (op ∷ rest) = same_applied code s e activity below (place_of_op code op) (effect_at code rows s f op rest)
+    act f below (op ∷ rest) = same_applied code s e activity below (position_of_op code op) (effect_at code rows s f op rest)
 
-    go : (fs : List Frame) → SameIf s (elim fs [ [] ↦ None | f ∷ below ↦ elim f.rest [ [] ↦ None | op ∷ rest ↦ applied code s TheSequencer activity below (place_of_op code op) (effect_at code rows s f op rest) ] ])
+    go : (fs : List Frame) → SameIf s (elim fs [ [] ↦ None | f ∷ below ↦ elim f.rest [ [] ↦ None | op ∷ rest ↦ applied code s TheSequencer activity below (position_of_op code op) (effect_at code rows s f op rest) ] ])
     go [] = same_none s
     go (f ∷ below) = act f below f.rest
 
@@ -192,10 +192,10 @@ same_op : (code : Code) (s : State) (op : SeqOp) → SameIf s (sequencer_op code
 unfolding sequencer_op
 same_op code s OpenImmortal =
     same_bind s (safelet_class code.program) _ (λ class. same_bind s (size_of code.program class) _ (λ bytes.
-    same_some s _ (same_area s (class_place code.program class) immortal_scope bytes)))
+    same_some s _ (same_area s (class_position code.program class) immortal_scope bytes)))
 same_op code s AllocSafelet =
     same_bind s (safelet_class code.program) _ (λ class. same_bind s (innermost s.activity.areas) _ (λ area.
-    same_some s _ (same_safelet code s (class_place code.program class) class area)))
+    same_some s _ (same_safelet code s (class_position code.program class) class area)))
 same_op code s (ConstructSafelet r) =
     same_bind s (object_at s r) _ (λ o. same_bind s (constructor_body code.program o.class) _ (λ body. same_body code s r body))
 same_op code s (InitializeApplication r) =
@@ -206,7 +206,7 @@ same_op code s (GetNextMission r) =
     same_bind s (object_at s r) _ (λ o. same_bind s (body_named code.program o.class (codes "getNextMission")) _ (λ body. same_body code s r body))
 same_op code s (OpenMission r) =
     same_bind s (object_at s r) _ (λ o. same_bind s (defined_by_chain code.program o.class) _ (λ scope.
-    same_bind s (size_of code.program o.class) _ (λ bytes. same_some s _ (same_area s (class_place code.program o.class) scope bytes))))
+    same_bind s (size_of code.program o.class) _ (λ bytes. same_some s _ (same_area s (class_position code.program o.class) scope bytes))))
 same_op code s (Initialize r) =
     same_bind s (object_at s r) _ (λ o. same_bind s (body_named code.program o.class (codes "initialize")) _ (λ body. same_body code s r body))
 same_op code s (CleanUp r) =

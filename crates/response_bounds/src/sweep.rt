@@ -20,7 +20,7 @@ const CHUNK: usize = 4_096;
 const HIGHEST_PRIORITY: u8 = 28;
 
 /// How far the next unit is that the gap divides.
-fn first_place(gap: u64, from: u64) -> usize
+fn first_index(gap: u64, from: u64) -> usize
     requires some { 1 ≤ gap }
     requires gap { gap ≤ most_units }
     ensures divides { (from + result) % gap ≡ 0 }
@@ -39,7 +39,7 @@ fn add_row(added: &mut Vec<u64>, row: &Declared, from: u64)
     ensures at_most { (k : ℕ) → slice_index added.new.items k
         ≤ slice_index added.old.items k + added_in row.now (from + k) }
 {
-    let mut index = first_place(row.gap, from);
+    let mut index = first_index(row.gap, from);
     while index < added.len() {
         added[index] = added[index].saturating_add(row.cost);
         index += row.gap as usize;

@@ -12,7 +12,7 @@ use Rattle.run_releases.specs.declared.rows.Release.{Release as StoredRelease}
 use Rattle.run_releases.specs.declared.rows.ReleaseStatus.{ReleaseStatus as StoredStatus}
 use Rattle.run_releases.specs.declared.rows.ReleaseStatus.TheVariants.{Waits, Started, Ended, Dropped}
 use Rattle.run_releases.specs.Rows.{is_live, release_seen, status_seen}
-use Rattle.run_releases.specs.Counts.{live_places, row_is_live}
+use Rattle.run_releases.specs.Counts.{live_indices, row_is_live}
 use Rattle.run_releases.specs.Choosing.{candidate_at, candidate_by, candidates_at, chosen_among, preferred}
 use Rattle.run_releases.proofs.ByPlace.{IsFrom, are_next, from_first, is_first}
 
@@ -33,38 +33,38 @@ preferred_first (Some c) cs = go (most_urgent cs) refl
         ∙ ap (preferred (Some c)) (sym e)
 
 -- none are left behind the last one
-pub none_behind : (registry : List HandlerRow) (rows : List StoredRelease) (places : List ℕ) (left : ℕ) →
-    length places ≤ left →
-    None ≡ most_urgent (candidates_at registry rows (drop left places))
+pub none_behind : (registry : List HandlerRow) (rows : List StoredRelease) (indices : List ℕ) (left : ℕ) →
+    length indices ≤ left →
+    None ≡ most_urgent (candidates_at registry rows (drop left indices))
 unfolding candidates_at most_urgent
-none_behind registry rows places left past =
-    ap (λ ps. most_urgent (candidates_at registry rows ps)) (sym (drop_all left places past))
+none_behind registry rows indices left past =
+    ap (λ ps. most_urgent (candidates_at registry rows ps)) (sym (drop_all left indices past))
 
 -- one more place from the last to the first
-pub one_before : (registry : List HandlerRow) (rows : List StoredRelease) (places : List ℕ) (left after : ℕ)
+pub one_before : (registry : List HandlerRow) (rows : List StoredRelease) (indices : List ℕ) (left after : ℕ)
     (found : Option Candidate) →
-    left < length places → after ≡ left + 1 → found ≡ most_urgent (candidates_at registry rows (drop after places)) →
-    preferred (candidate_at registry rows (slice_index places left)) found ≡ most_urgent
-    (candidates_at registry rows (drop left places))
+    left < length indices → after ≡ left + 1 → found ≡ most_urgent (candidates_at registry rows (drop after indices)) →
+    preferred (candidate_at registry rows (slice_index indices left)) found ≡ most_urgent
+    (candidates_at registry rows (drop left indices))
 unfolding candidates_at
-one_before registry rows places left after found within next e =
-    ap (preferred (candidate_at registry rows (slice_index places left))) e
+one_before registry rows indices left after found within next e =
+    ap (preferred (candidate_at registry rows (slice_index indices left))) e
     ∙ (sym
-    (preferred_first (candidate_at registry rows (slice_index places left))
-    (candidates_at registry rows (drop after places)))
-    ∙ (ap (λ n. most_urgent (candidates_at registry rows (slice_index places left ∷ drop n places))) next
-    ∙ ap (λ ps. most_urgent (candidates_at registry rows ps)) (sym (drop_more places left 0 within))))
+    (preferred_first (candidate_at registry rows (slice_index indices left))
+    (candidates_at registry rows (drop after indices)))
+    ∙ (ap (λ n. most_urgent (candidates_at registry rows (slice_index indices left ∷ drop n indices))) next
+    ∙ ap (λ ps. most_urgent (candidates_at registry rows ps)) (sym (drop_more indices left 0 within))))
 
 -- all places are seen
-pub all_chosen : (registry : List HandlerRow) (rows : List StoredRelease) (places : List ℕ) (left : ℕ)
+pub all_chosen : (registry : List HandlerRow) (rows : List StoredRelease) (indices : List ℕ) (left : ℕ)
     (found : Option Candidate) →
-    left ≤ 0 → found ≡ most_urgent (candidates_at registry rows (drop left places)) →
-    option_map (λ (c : Candidate). c.index) found ≡ chosen_among registry rows places
+    left ≤ 0 → found ≡ most_urgent (candidates_at registry rows (drop left indices)) →
+    option_map (λ (c : Candidate). c.index) found ≡ chosen_among registry rows indices
 unfolding chosen_among
-all_chosen registry rows places left found none e =
+all_chosen registry rows indices left found none e =
     let first : left ≡ 0 = omega arith in
     ap (option_map (λ (c : Candidate). c.index))
-    (e ∙ ap (λ n. most_urgent (candidates_at registry rows (drop n places))) first)
+    (e ∙ ap (λ n. most_urgent (candidates_at registry rows (drop n indices))) first)
 
 -- ---- the candidates of a state
 
@@ -117,9 +117,9 @@ candidates_seen code s rows n (x ∷ xs) h =
         ∙ here rest
 
 pub chosen_seen : (code : Listing) (s : State) (rows : List StoredRelease) →
-    chosen_among s.registry rows (live_places rows) ≡ option_map (λ (c : Candidate). c.index)
+    chosen_among s.registry rows (live_indices rows) ≡ option_map (λ (c : Candidate). c.index)
     (most_urgent (candidates_from s 0 (map (release_seen code) rows)))
-unfolding chosen_among live_places
+unfolding chosen_among live_indices
 chosen_seen code s rows =
     ap (λ cs. option_map (λ (c : Candidate). c.index) (most_urgent cs))
     (candidates_seen code s rows 0 rows (from_first rows))

@@ -11,14 +11,14 @@ use Rattle.run_releases.specs.declared.rows.ReleaseStatus.{ReleaseStatus as Stor
 use Rattle.run_releases.specs.declared.rows.ReleaseStatus.TheVariants.{Waits, Started, Ended, Dropped}
 use Rattle.run_releases.specs.Rows.{dropped_row, dropped_status, emptied_row, emptied_status, is_live, waits, with_status}
 use Rattle.run_releases.specs.Releases.{count_of, is_of, waiting_row, waiting_count, waits_for}
-use Rattle.run_releases.specs.Counts.{AreCounted, is_live_at, live_places, one_less, row_is_live, waiting_handler}
+use Rattle.run_releases.specs.Counts.{AreCounted, is_live_at, live_indices, one_less, row_is_live, waiting_handler}
 use Rattle.run_releases.proofs.Changes.{length_changed, sum_kept}
 use Rattle.run_releases.proofs.Waiting.{waiting_left}
 use Rattle.run_releases.proofs.Counting.{and_false, and_true, count_mapped, count_none, count_push, one_more_at}
 use Rattle.run_releases.proofs.ByPlace.{changed_all, from_first, kept_there, numbers_changed, numbers_ended, numbers_push}
 
 pub nothing_counted : AreCounted [] [] [] 0 []
-unfolding count_of live_places numbers_where waiting_count
+unfolding count_of live_indices numbers_where waiting_count
 nothing_counted =
     record { all_live = refl; each_taken = λ handler. refl; each_waiting = λ handler. refl; behind = omega arith }
 
@@ -44,11 +44,11 @@ pub taken_counted : (live taken waiting : List ℕ) (earlier : ℕ) (rows : List
     AreCounted live taken waiting earlier rows →
     AreCounted (live ++ length rows ∷ []) (slice_set taken handler number) (slice_set waiting handler waits_now) earlier
     (rows ++ waiting_row handler number ∷ [])
-unfolding count_of live_places waiting_count
+unfolding count_of live_indices waiting_count
 taken_counted live taken waiting earlier rows handler number waits_now in_taken in_waiting next more c =
     record {
       all_live =
-          ap (λ places. places ++ length rows ∷ []) c.all_live
+          ap (λ indices. indices ++ length rows ∷ []) c.all_live
           ∙ (ap (λ n. numbers_where row_is_live 0 rows ++ n ∷ []) (let e : length rows ≡ 0 + length rows = omega arith in
           e)
           ∙ sym (numbers_push row_is_live 0 rows (waiting_row handler number) refl));
@@ -102,9 +102,9 @@ over_is_same Dropped over = refl
 
 -- a change at each live place is one of all
 pub dropped_everywhere : (rows : List StoredRelease) →
-    fold (λ (some : List StoredRelease) (index : ℕ). changed dropped_row index some) rows (live_places rows)
+    fold (λ (some : List StoredRelease) (index : ℕ). changed dropped_row index some) rows (live_indices rows)
     ≡ map dropped_row rows
-unfolding live_places
+unfolding live_indices
 dropped_everywhere rows =
     changed_all row_is_live dropped_row 0 [] rows refl
     (λ r over. ap (λ status. with_status status r) (over_is_same r.status over))
@@ -112,7 +112,7 @@ dropped_everywhere rows =
 pub dropped_counted : (live taken waiting : List ℕ) (earlier : ℕ) (rows : List StoredRelease) →
     AreCounted live taken waiting earlier rows →
     AreCounted (filter (is_live_at (map dropped_row rows)) live) taken [] earlier (map dropped_row rows)
-unfolding count_of live_places waiting_count
+unfolding count_of live_indices waiting_count
 dropped_counted live taken waiting earlier rows c =
     record {
       all_live =
@@ -149,7 +149,7 @@ pub put_counted : (live taken waiting : List ℕ) (earlier : ℕ) (rows : List S
     AreCounted live taken waiting earlier rows →
     AreCounted live taken (one_less (waiting_handler rows earlier index) waiting) earlier
     (changed (with_status status) index rows)
-unfolding live_places
+unfolding live_indices
 put_counted live taken waiting earlier rows index status was is none c =
     record {
       all_live =
@@ -167,7 +167,7 @@ pub ended_counted : (live taken waiting : List ℕ) (earlier : ℕ) (rows : List
     AreCounted live taken waiting earlier rows →
     AreCounted (filter (λ other. not (other == index)) live) taken
     (one_less (waiting_handler rows earlier index) waiting) earlier (changed (with_status Ended) index rows)
-unfolding live_places
+unfolding live_indices
 ended_counted live taken waiting earlier rows index c =
     record {
       all_live =
@@ -194,7 +194,7 @@ emptied_live Dropped = refl
 
 pub emptied_counted : (live taken waiting : List ℕ) (earlier : ℕ) (rows : List StoredRelease) (index : ℕ) →
     AreCounted live taken waiting earlier rows → AreCounted live taken waiting earlier (changed emptied_row index rows)
-unfolding live_places waiting_count
+unfolding live_indices waiting_count
 emptied_counted live taken waiting earlier rows index c =
     record {
       all_live = c.all_live ∙ sym (numbers_changed row_is_live emptied_row index rows (λ r e. emptied_live r.status));

@@ -24,7 +24,7 @@ use Rattle.run_releases.specs.declared.rows.ReleaseStatus.{ReleaseStatus as Stor
 use Rattle.run_releases.specs.declared.rows.ReleaseStatus.TheVariants.{Waits, Started, Ended, Dropped}
 use Rattle.run_releases.specs.Rows.{StoredReleases, activity_within, dropped_row, dropped_status, emptied_row, is_live, is_under_way, release_seen, status_seen, waits, with_releases, with_status}
 use Rattle.run_releases.specs.Releases.{activity_in, all_dropped, count_of, emptied_at, is_of, waiting_row, next_number, status_set, taken_in, tell_taken, waiting_count, waits_for}
-use Rattle.run_releases.specs.Counts.{is_under_way_at, live_places, row_is_live, tell_at, tell_row}
+use Rattle.run_releases.specs.Counts.{is_under_way_at, live_indices, row_is_live, tell_at, tell_row}
 use Rattle.run_releases.specs.Choosing.{chosen_among}
 use Rattle.run_releases.specs.OtherReleases.{all_let_go, at_unit, with_list, with_registry}
 use Rattle.run_releases.proofs.Changes.{changed_twice, map_changed}
@@ -199,8 +199,8 @@ all_told code unit (r ∷ rows) = go (all_told code unit rows) (waits r.status)
     go rest false = rest
 
 pub told_seen : (code : Listing) (s : State) (rs : StoredReleases) (unit : ℕ) →
-    flat_map (tell_at rs.rows unit) (live_places rs.rows) ≡ tell_dropped (at_unit (with_releases code s rs) unit)
-unfolding live_places tell_of
+    flat_map (tell_at rs.rows unit) (live_indices rs.rows) ≡ tell_dropped (at_unit (with_releases code s rs) unit)
+unfolding live_indices tell_of
 told_seen code s rs unit =
     told_there row_is_live (tell_row unit) (tell_at rs.rows unit) rs.rows 0 rs.rows (from_first rs.rows)
     (λ r over. ap (λ b. if b then Drop unit r.handler r.number ∷ [] else []) (over_waits_not r.status over))
@@ -266,14 +266,14 @@ any_started_seen code (r ∷ rows) =
     ∙ ap (λ b. is_started (status_seen code r.status) || b) (any_started_seen code rows)
 
 pub has_started_seen : (code : Listing) (s : State) (rs : StoredReleases) →
-    list_any (is_under_way_at rs.rows) (live_places rs.rows) ≡ has_started (with_releases code s rs)
-unfolding live_places
+    list_any (is_under_way_at rs.rows) (live_indices rs.rows) ≡ has_started (with_releases code s rs)
+unfolding live_indices
 has_started_seen code s rs =
     any_there row_is_live (λ (r : StoredRelease). is_under_way r.status) rs.rows 0 rs.rows (from_first rs.rows)
     (λ r over. over_is_not_started r.status over)
     ∙ any_started_seen code rs.rows
 
 pub choice_seen : (code : Listing) (s : State) (rs : StoredReleases) (registry : List HandlerRow) →
-    chosen_among registry rs.rows (live_places rs.rows) ≡ chosen (with_registry (with_releases code s rs) registry)
+    chosen_among registry rs.rows (live_indices rs.rows) ≡ chosen (with_registry (with_releases code s rs) registry)
 unfolding candidates chosen
 choice_seen code s rs registry = chosen_seen code (with_registry (with_releases code s rs) registry) rs.rows

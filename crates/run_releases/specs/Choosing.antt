@@ -28,7 +28,7 @@ candidate_at registry rows index =
     slice_get rows index >>= (λ (r : StoredRelease). candidate_by registry index r.handler r.status)
 
 unfoldable pub candidates_at : List HandlerRow → List StoredRelease → List ℕ → List Candidate
-candidates_at registry rows places = flat_map (λ index. option_to_list (candidate_at registry rows index)) places
+candidates_at registry rows indices = flat_map (λ index. option_to_list (candidate_at registry rows index)) indices
 
 -- the more urgent one of a candidate and of the most urgent one behind it
 abbrev pub preferred : Option Candidate → Option Candidate → Option Candidate
@@ -38,5 +38,5 @@ preferred (Some c) (Some later) = Some (if is_more_urgent later c then later els
 
 -- the place of the most urgent one among those at these places
 unfoldable pub chosen_among : List HandlerRow → List StoredRelease → List ℕ → Option ℕ
-chosen_among registry rows places =
-    option_map (λ (c : Candidate). c.index) (most_urgent (candidates_at registry rows places))
+chosen_among registry rows indices =
+    option_map (λ (c : Candidate). c.index) (most_urgent (candidates_at registry rows indices))

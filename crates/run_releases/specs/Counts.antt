@@ -12,12 +12,12 @@ use Rattle.run_releases.specs.Releases.{count_of, waiting_count}
 abbrev pub row_is_live : StoredRelease → Bool
 row_is_live r = is_live r.status
 
-unfoldable pub live_places : List StoredRelease → List ℕ
-live_places rows = numbers_where row_is_live 0 rows
+unfoldable pub live_indices : List StoredRelease → List ℕ
+live_indices rows = numbers_where row_is_live 0 rows
 
 -- the numbers of each handler are at its place, and 0 beyond the end
 pub record AreCounted (live taken waiting : List ℕ) (earlier : ℕ) (rows : List StoredRelease) : Type 0 where
-  pub all_live : live ≡ live_places rows
+  pub all_live : live ≡ live_indices rows
   pub each_taken : (handler : ℕ) → slice_index taken handler ≡ count_of earlier rows handler
   pub each_waiting : (handler : ℕ) → slice_index waiting handler ≡ waiting_count earlier rows handler
   pub behind : earlier ≤ length rows

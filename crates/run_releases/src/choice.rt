@@ -94,14 +94,14 @@ fn preferred(candidate: Option<Candidate>, later: Option<Candidate>) -> Option<C
 }
 
 /// The place of the most urgent one of the releases at these places, which ascend.
-pub(crate) fn choose(registry: &[HandlerRow], rows: &[Release], places: &[usize]) -> Option<usize>
-    ensures { result ≡ chosen_among registry.now rows.now places.now }
+pub(crate) fn choose(registry: &[HandlerRow], rows: &[Release], indices: &[usize]) -> Option<usize>
+    ensures { result ≡ chosen_among registry.now rows.now indices.now }
 {
     let mut found = None;
-    let mut left = places.len();
+    let mut left = indices.len();
     while left > 0 {
         left -= 1;
-        found = preferred(candidate_there(registry, rows, places[left]), found);
+        found = preferred(candidate_there(registry, rows, indices[left]), found);
     }
     match found {
         Some(candidate) => Some(candidate.index),

@@ -5,7 +5,7 @@
 mod choice;
 mod counts;
 pub mod history;
-mod places;
+mod indices;
 pub mod rows;
 
 pub use history::Releases;

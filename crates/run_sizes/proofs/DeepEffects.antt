@@ -7,7 +7,7 @@ use Rattle.scj_base.specs.declared.values.Value.TheVariants.{At}
 use Rattle.scj_rules.specs.declared.views.Body.{Body}
 use Rattle.scj_rules.specs.Words.{◌>>=◌}
 use Rattle.scj_rules.specs.ScopeRules.{immortal_scope, defined_by_chain}
-use Rattle.scj_rules.specs.Bodies.{body_named, constructor_body, size_of, safelet_class, class_place}
+use Rattle.scj_rules.specs.Bodies.{body_named, constructor_body, size_of, safelet_class, class_position}
 use Rattle.scj_model.specs.declared.operations.Op.{Op}
 use Rattle.scj_model.specs.declared.operations.SeqOp.{SeqOp}
 use Rattle.scj_model.specs.declared.operations.SeqOp.TheVariants.{OpenImmortal, AllocSafelet, ConstructSafelet, InitializeApplication, GetSequencer, GetNextMission, OpenMission, Initialize, CleanUp, Execute, Finished}
@@ -20,7 +20,7 @@ use Rattle.scj_model.specs.Steps.{Step, job_ended, silently}
 use Rattle.scj_model.specs.Effects.{Effect, Goes, Prints, Makes, Stores, StoresStatic, SetsHidden, SetsCeiling, Calls, Opens, Leaves, AsksRegistration, AsksRelease, AsksTermination, Faults, Stuck}
 use Rattle.scj_model.specs.Apply.{applied, asks_for_end, called, ceiling_entered, frame_left, is_full, is_sequencer, most_waiting, opened_in, registered, release_taken, released, releases_of, returned, takes_releases, termination, termination_asked, waiting_of, with_ceiling, with_first, with_frame, without}
 use Rattle.scj_model.specs.Sequencer.{area_opened, body_called, innermost, method_called, safelet_made, sequencer_op}
-use Rattle.scj_model.specs.Run.{effect_at, frame_op, no_activity, place_of_op, ref_op, release_op_of, sequencer_turn, start_op, started_with}
+use Rattle.scj_model.specs.Run.{effect_at, frame_op, no_activity, position_of_op, ref_op, release_op_of, sequencer_turn, start_op, started_with}
 use Rattle.scj_model.proofs.Reaching.{Gives, gives_some}
 use Rattle.run_sizes.proofs.DeepSteps.{FewAfter, FewFrames, few_active, few_after_close, few_allocating, few_fault, few_first, few_framed, few_if, few_job_ended, few_opening, few_option, new_waits, one_more_frame, returned_few, rows_dropped, rows_got, rows_more}
 
@@ -184,18 +184,18 @@ few_frame code rows s job activity h few = go activity.frames few
     act : (f : Frame) (below : List Frame) (ops : List Op) → length below < 64 →
         FewIf (elim ops [
           | [] ↦ None
-          | op ∷ rest ↦ applied code s job activity below (place_of_op code op) (effect_at code rows s f op rest)
+          | op ∷ rest ↦ applied code s job activity below (position_of_op code op) (effect_at code rows s f op rest)
         ])
     act f below [] k = no_step
     act f below (op ∷ rest) k =
-        few_applied code s job activity below (place_of_op code op) (effect_at code rows s f op rest) h k
+        few_applied code s job activity below (position_of_op code op) (effect_at code rows s f op rest) h k
 
     go : (fs : List Frame) → length fs ≤ 64 →
         FewIf (elim fs [
           | [] ↦ None
           | f ∷ below ↦ elim f.rest [
             | [] ↦ None
-            | op ∷ rest ↦ applied code s job activity below (place_of_op code op) (effect_at code rows s f op rest)
+            | op ∷ rest ↦ applied code s job activity below (position_of_op code op) (effect_at code rows s f op rest)
           ]
         ])
     go [] k = no_step
@@ -208,7 +208,7 @@ few_start code s index r h =
     few_bind (defined_by_chain code.program row.class) _ (λ scope f.
     few_bind (body_named code.program row.class (codes "handleAsyncEvent")) _ (λ body g.
     gives_some FewFrames _
-    (few_opening s (ReleaseAt index) no_activity (class_place code.program row.class) scope
+    (few_opening s (ReleaseAt index) no_activity (class_position code.program row.class) scope
     (innermost s.activity.areas) row.bytes _ h (λ t a k. few_first t (ReleaseAt index) _ _ _ k)))))
 
 few_release : (code : Code) (rows : List ReadingRow) (s : State) (index : ℕ) (r : Release) → FewFrames s →
@@ -258,11 +258,11 @@ unfolding sequencer_op
 few_sequencer_op code s OpenImmortal h =
     few_bind (safelet_class code.program) _ (λ class e.
     few_bind (size_of code.program class) _ (λ bytes f.
-    gives_some FewFrames _ (few_area s (class_place code.program class) immortal_scope bytes h)))
+    gives_some FewFrames _ (few_area s (class_position code.program class) immortal_scope bytes h)))
 few_sequencer_op code s AllocSafelet h =
     few_bind (safelet_class code.program) _ (λ class e.
     few_bind (innermost s.activity.areas) _ (λ area f.
-    gives_some FewFrames _ (few_safelet code s (class_place code.program class) class area h)))
+    gives_some FewFrames _ (few_safelet code s (class_position code.program class) class area h)))
 few_sequencer_op code s (ConstructSafelet r) h =
     few_bind (object_at s r) _ (λ o e.
     few_bind (constructor_body code.program o.class) _ (λ body f. few_body code s r body h))
@@ -273,7 +273,7 @@ few_sequencer_op code s (OpenMission r) h =
     few_bind (object_at s r) _ (λ o e.
     few_bind (defined_by_chain code.program o.class) _ (λ scope f.
     few_bind (size_of code.program o.class) _ (λ bytes g.
-    gives_some FewFrames _ (few_area s (class_place code.program o.class) scope bytes h))))
+    gives_some FewFrames _ (few_area s (class_position code.program o.class) scope bytes h))))
 few_sequencer_op code s (Initialize r) h = few_method code s r (codes "initialize") h
 few_sequencer_op code s (CleanUp r) h = few_method code s r (codes "cleanUp") h
 few_sequencer_op code s Execute h = no_step

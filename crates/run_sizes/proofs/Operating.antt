@@ -5,7 +5,7 @@ use Rattle.scj_base.specs.declared.places.Pos.{Pos}
 use Rattle.scj_rules.specs.declared.views.Body.{Body}
 use Rattle.scj_rules.specs.Words.{◌>>=◌}
 use Rattle.scj_rules.specs.ScopeRules.{immortal_scope, defined_by_chain}
-use Rattle.scj_rules.specs.Bodies.{body_named, constructor_body, size_of, safelet_class, class_place}
+use Rattle.scj_rules.specs.Bodies.{body_named, constructor_body, size_of, safelet_class, class_position}
 use Rattle.scj_model.specs.declared.operations.Op.{Op}
 use Rattle.scj_model.specs.declared.operations.SeqOp.{SeqOp}
 use Rattle.scj_model.specs.declared.operations.SeqOp.TheVariants.{OpenImmortal, AllocSafelet, ConstructSafelet, InitializeApplication, GetSequencer, GetNextMission, OpenMission, Initialize, CleanUp, Execute, Finished}
@@ -18,7 +18,7 @@ use Rattle.scj_model.specs.Steps.{Step}
 use Rattle.scj_model.specs.Effects.{Effect, Goes, Prints, Makes, Stores, StoresStatic, SetsHidden, SetsCeiling, Calls, Opens, Leaves, AsksRegistration, AsksRelease, AsksTermination, Faults, Stuck}
 use Rattle.scj_model.specs.Apply.{with_ceiling, with_first, with_frame, applied, is_sequencer}
 use Rattle.scj_model.specs.Sequencer.{innermost, area_opened, safelet_made, body_called, method_called, sequencer_op}
-use Rattle.scj_model.specs.Run.{frame_op, effect_at, place_of_op, start_op, started_with, no_activity, release_op_of, sequencer_turn, ref_op}
+use Rattle.scj_model.specs.Run.{frame_op, effect_at, position_of_op, start_op, started_with, no_activity, release_op_of, sequencer_turn, ref_op}
 use Rattle.run_sizes.proofs.Growing.{GrowsTo, GrowsIf, unchanged, by_one, then_grows, length_changed, grows_active, faulted, grows_called, grows_opening, grows_allocating, grows_opened, grows_left, grows_released, grows_asked, grows_registered}
 
 -- ---- steps that may have no result
@@ -105,18 +105,18 @@ grows_frame code rows s job activity = go activity.frames
     act : (f : Frame) (below : List Frame) (ops : List Op) →
         GrowsIf 1 s (elim ops [
           | [] ↦ None
-          | op ∷ rest ↦ applied code s job activity below (place_of_op code op) (effect_at code rows s f op rest)
+          | op ∷ rest ↦ applied code s job activity below (position_of_op code op) (effect_at code rows s f op rest)
         ])
     act f below [] = none_grows 1 s
     act f below (op ∷ rest) =
-        grows_applied code s job activity below (place_of_op code op) (effect_at code rows s f op rest)
+        grows_applied code s job activity below (position_of_op code op) (effect_at code rows s f op rest)
 
     go : (fs : List Frame) →
         GrowsIf 1 s (elim fs [
           | [] ↦ None
           | f ∷ below ↦ elim f.rest [
             | [] ↦ None
-            | op ∷ rest ↦ applied code s job activity below (place_of_op code op) (effect_at code rows s f op rest)
+            | op ∷ rest ↦ applied code s job activity below (position_of_op code op) (effect_at code rows s f op rest)
           ]
         ])
     go [] = none_grows 1 s
@@ -129,7 +129,7 @@ grows_start code s index r =
     bind_grows 1 s (defined_by_chain code.program row.class) _ (λ scope.
     bind_grows 1 s (body_named code.program row.class (codes "handleAsyncEvent")) _ (λ body.
     some_grows 1 s _
-    (grows_opening s (ReleaseAt index) no_activity (class_place code.program row.class) scope
+    (grows_opening s (ReleaseAt index) no_activity (class_position code.program row.class) scope
     (innermost s.activity.areas) row.bytes _ (λ t a. grows_active t (ReleaseAt index) _)))))
 
 grows_release : (code : Code) (rows : List ReadingRow) (s : State) (index : ℕ) (r : Release) →
@@ -178,11 +178,11 @@ unfolding sequencer_op
 grows_sequencer_op code s OpenImmortal =
     bind_grows 1 s (safelet_class code.program) _ (λ class.
     bind_grows 1 s (size_of code.program class) _ (λ bytes.
-    some_grows 1 s _ (grows_area s (class_place code.program class) immortal_scope bytes)))
+    some_grows 1 s _ (grows_area s (class_position code.program class) immortal_scope bytes)))
 grows_sequencer_op code s AllocSafelet =
     bind_grows 1 s (safelet_class code.program) _ (λ class.
     bind_grows 1 s (innermost s.activity.areas) _ (λ area.
-    some_grows 1 s _ (grows_safelet code s (class_place code.program class) class area)))
+    some_grows 1 s _ (grows_safelet code s (class_position code.program class) class area)))
 grows_sequencer_op code s (ConstructSafelet r) =
     bind_grows 1 s (object_at s r) _ (λ o.
     bind_grows 1 s (constructor_body code.program o.class) _ (λ body. grows_body code s r body))
@@ -193,7 +193,7 @@ grows_sequencer_op code s (OpenMission r) =
     bind_grows 1 s (object_at s r) _ (λ o.
     bind_grows 1 s (defined_by_chain code.program o.class) _ (λ scope.
     bind_grows 1 s (size_of code.program o.class) _ (λ bytes.
-    some_grows 1 s _ (grows_area s (class_place code.program o.class) scope bytes))))
+    some_grows 1 s _ (grows_area s (class_position code.program o.class) scope bytes))))
 grows_sequencer_op code s (Initialize r) = grows_method code s r (codes "initialize")
 grows_sequencer_op code s (CleanUp r) = grows_method code s r (codes "cleanUp")
 grows_sequencer_op code s Execute = none_grows 1 s

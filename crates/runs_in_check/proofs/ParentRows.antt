@@ -88,8 +88,8 @@ without_parents nodes k rows e l =
     none_there (suc k) (suc id) = none_there k id
 
 -- any node
-first_place : Pos
-first_place = record { file = 0; line = 0; col = 0 }
+first_position : Pos
+first_position = record { file = 0; line = 0; col = 0 }
 
 module _ (forest : Forest) (whole : IsForest forest) (rows : List (Option ℕ)) (h : AreParents forest.nodes 0 rows) where
   inside : (id : ℕ) → id < length forest.nodes → lookup None rows id ≡ parent_in forest.nodes id
@@ -100,7 +100,7 @@ module _ (forest : Forest) (whole : IsForest forest) (rows : List (Option ℕ)) 
       lookup None rows id ≡ o
   none_outside id l None e = grind (arith, common_steps, h.whole)
   none_outside id l (Some q) e =
-      let is : IsParent forest whole id q = parent-is forest whole id q e (Empty first_place) in
+      let is : IsParent forest whole id q = parent-is forest whole id q e (Empty first_position) in
       absurd (omega (arith, l, child-less forest whole q id is.node is.there is.among, slice_get_within forest.nodes q is.node is.there))
 
   pub are_parents : (id : ℕ) → lookup None rows id ≡ parent_in forest.nodes id

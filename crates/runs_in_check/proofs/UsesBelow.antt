@@ -79,17 +79,17 @@ module _ (p : Declarations) (types : Types) (id : ℕ) (s u : Scopes) (same : (c
   unfolding AllBelow children use_breaks e1 e2 e3 e4_and_e5 e6 e7 e8 e9 e10
   breaks-same (SuperCall position ids) b = ap (λ (three : ℕ → List Found). found_at (superclass_at p id) three ++ [])
       (λ i class. constructed (this_at p id) ids b class i)
-  breaks-same (New position name_place name ids) b =
+  breaks-same (New position name_position name ids) b =
       ap (λ (three : ℕ → List Found). broken (misfits_new p id name) E1 position
       ++ (found_at (class_number p.names name) three ++ []))
       (λ i class. constructed (scope_of_new p id class) ids b class i)
   breaks-same (Call position name object ids) b = call position name object ids b
   breaks-same (Assign position target value) b = rw (same value b.1.0, same target b.0) refl
-  breaks-same (LocalWithValue position name_place name flags declared_type value) b =
+  breaks-same (LocalWithValue position name_position name flags declared_type value) b =
       rw (same value (below-right id (optional flags) (declared_type ∷ value ∷ []) b).1.0) refl
   breaks-same (Return position None) b = refl
   breaks-same (Return position (Some value)) b = rw (same value b.0) refl
-  breaks-same (Cast position name_place name operand) b = rw (same operand b.0) refl
+  breaks-same (Cast position name_position name operand) b = rw (same operand b.0) refl
   breaks-same _ b = refl
 
 -- with the scopes of the nodes before a node the same is broken there as with those of all nodes

@@ -10,7 +10,7 @@ use Rattle.scj_rules.specs.declared.typing.Scope.{Scope}
 use Rattle.scj_rules.specs.declared.typing.Ty.{Ty}
 use Rattle.scj_rules.specs.declared.views.Declared.{Declared}
 use Rattle.scj_rules.specs.Words.{broken, found_at, holds, ◌>>=◌}
-use Rattle.scj_rules.specs.Views.{place_at}
+use Rattle.scj_rules.specs.Views.{position_at}
 use Rattle.scj_rules.specs.Contexts.{Declarations, declarations_of}
 use Rattle.scj_rules.specs.StaticScopes.{parameter_scope, constructor_parameter_scope, substitute}
 use Rattle.scj_rules.specs.Types.{is_reference, constructor_parameters}
@@ -76,7 +76,7 @@ seen_scope at (Constructor class object) d =
 unfoldable pub argument_breaks : At → Callee → Option Declared → ℕ → List Found
 argument_breaks at callee parameter argument =
     found_at parameter (λ (d : Declared). broken (misfit_scope (scopes at argument) (seen_scope at callee d)) E3
-    (place_at at.facts.now.nodes argument))
+    (position_at at.facts.now.nodes argument))
 
 -- E3 of arguments, from a parameter on
 abbrev pub misfits_from : At → Callee → List Declared → List ℕ → List Found

@@ -13,7 +13,7 @@ ghost use Rattle.runs_in_check.specs.Phase.{parameters_of, seen_scope, argument_
 
 use crate::scopes::{is_other, misfit_scope, receiver_scope, scope_of_call};
 use method_rows::{MethodRef, builtin};
-use node_views::place_at;
+use node_views::position_at;
 use program_facts::{At, Facts};
 use scj_base::ids::{MANAGED_MEMORY_ENTER_PRIVATE_MEMORY, MANAGED_MEMORY_EXECUTE_IN_AREA_OF};
 use scj_base::{ClassId, Found, Memory, MethodId, Name, NodeId, Pos, Rule, ScopeId};
@@ -86,7 +86,7 @@ fn note_argument(
     match &parameter(facts, callee, i) {
         Some(parameter) => {
             let is_wrong = misfit_scope(&value, &seen_scope(at, callee, parameter));
-            let position = place_at(facts.program(), argument);
+            let position = position_at(facts.program(), argument);
             report_if(found, is_wrong, Rule::E3, position)
         }
         None => Ok(()),

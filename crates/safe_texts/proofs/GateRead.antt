@@ -11,7 +11,7 @@ use Rattle.scj_tree.specs.Forest.{Forest, IsForest, forest_of, is_class, all_chi
 use Rattle.scj_tree.specs.Heights.{too_deep, first_too_deep, body_height, super_height, height, node_height, highest, weight}
 use Rattle.scj_tree.specs.Lexemes.{lexemes_of, lexeme_of, part_of}
 use Rattle.scj_tree.specs.Recursion.{bottom_up}
-use Rattle.scj_tree.specs.Shape.{place_of, children}
+use Rattle.scj_tree.specs.Shape.{position_of, children}
 use Rattle.scj_lexer.proofs.Computing.{tokens_from, sound, lexer}
 use Rattle.parser_machine.specs.Machine.{answer, start, parsed}
 use Rattle.machine_laws.proofs.Computing.{parser}
@@ -27,7 +27,7 @@ use Rattle.scj_model.proofs.ProgramCeiling.{ceiling}
 use Rattle.safe_texts.specs.SharedGate.{base_text, gate_text}
 
 unfoldable reading : Unit {0}
-unfolding lexer parser lexemes_of lexeme_of part_of too_deep first_too_deep body_height super_height height node_height highest weight bottom_up place_of children
+unfolding lexer parser lexemes_of lexeme_of part_of too_deep first_too_deep body_height super_height height node_height highest weight bottom_up position_of children
 reading = tt
 
 -- ---- the first text

@@ -7,7 +7,7 @@ use Rattle.scj_base.specs.Vocabulary.{words, signs}
 use Rattle.scj_base.specs.Lexeme.{Lexeme, Piece, value_of}
 use Rattle.scj_base.specs.Lexeme.Lexeme.{name, word, number, text, sign}
 use Rattle.scj_base.specs.Lexeme.Piece.{blank, line_comment, block_comment, lexeme}
-use Rattle.scj_base.specs.Lex.{Lexes, Lex, token_at, place_behind}
+use Rattle.scj_base.specs.Lex.{Lexes, Lex, token_at, position_behind}
 use Rattle.scj_base.specs.Lex.Lexes.{ends, skips, takes}
 use Rattle.scj_base.specs.declared.lexemes.Token.{Token}
 use Rattle.scj_base.specs.declared.lexemes.TokenKind.{TokenKind}
@@ -22,7 +22,7 @@ pub record IsTokenOf (file : ℕ) (bytes : List ℕ) (token : Token) : Type 0 wh
   pub is : Lexeme lexeme rest token.kind
   pub start : token.start ≡ length before
   pub len : token.len ≡ length lexeme
-  pub place : token.pos ≡ place_behind file before
+  pub place : token.pos ≡ position_behind file before
 
 -- the tokens of a text are its lexemes, and the end behind them
 pub record AreTokensOf (file : ℕ) (bytes : List ℕ) (tokens : List Token) : Type 0 where

@@ -7,23 +7,23 @@ use Rattle.scj_base.specs.declared.lexemes.TokenKind.TheVariants.{End}
 use Rattle.scj_base.specs.declared.findings.Rule.{Rule}
 use Rattle.scj_base.specs.Lexeme.{Piece, BreakAt}
 
-abbrev pub place_at : ℕ → ℕ → ℕ → Pos
-place_at file line col = record { file = file; line = line; col = col }
+abbrev pub position_at : ℕ → ℕ → ℕ → Pos
+position_at file line col = record { file = file; line = line; col = col }
 
 -- the place behind a byte: a new line behind a line feed, else one column further
-unfoldable pub place_behind_byte : Pos → ℕ → Pos
-place_behind_byte p b = cond (b == 10) (place_at p.file (p.line + 1) 1) (place_at p.file p.line (p.col + 1))
+unfoldable pub position_behind_byte : Pos → ℕ → Pos
+position_behind_byte p b = cond (b == 10) (position_at p.file (p.line + 1) 1) (position_at p.file p.line (p.col + 1))
 
 -- the place behind bytes that begin a file
-unfoldable pub place_behind : ℕ → List ℕ → Pos
-place_behind file before = fold place_behind_byte (place_at file 1 1) before
+unfoldable pub position_behind : ℕ → List ℕ → Pos
+position_behind file before = fold position_behind_byte (position_at file 1 1) before
 
 -- the place of the byte that has so many bytes of the file before it
-unfoldable pub place_of : ℕ → List ℕ → ℕ → Pos
-place_of file bytes offset = place_behind file (take offset bytes)
+unfoldable pub position_of : ℕ → List ℕ → ℕ → Pos
+position_of file bytes offset = position_behind file (take offset bytes)
 
 abbrev pub token_at : ℕ → List ℕ → TokenKind → ℕ → Token
-token_at file before kind len = record { kind = kind; pos = place_behind file before; start = length before; len = len }
+token_at file before kind len = record { kind = kind; pos = position_behind file before; start = length before; len = len }
 
 -- behind the bytes `before` of a file, the bytes that are left are a row of pieces, and these are the lexemes
 -- among them with their places, and the end

@@ -8,7 +8,7 @@ use Rattle.scj_tree.specs.Files.{FileRead}
 use Rattle.scj_tree.specs.Heights.{too_deep, first_too_deep, body_height, super_height, height, node_height, highest, weight}
 use Rattle.scj_tree.specs.Lexemes.{Lexeme, lexemes_of, lexeme_of, part_of}
 use Rattle.scj_tree.specs.Recursion.{bottom_up}
-use Rattle.scj_tree.specs.Shape.{place_of, children}
+use Rattle.scj_tree.specs.Shape.{position_of, children}
 use Rattle.scj_lexer.proofs.Computing.{tokens_from, sound, lexer}
 use Rattle.parser_machine.specs.Machine.{answer, start, parsed}
 use Rattle.machine_laws.proofs.Computing.{parser}
@@ -38,7 +38,7 @@ unfolding lexer parser lexemes_of lexeme_of part_of
 are_parsed = refl
 
 is_low : too_deep 0 one_safelet.nodes ≡ None
-unfolding too_deep first_too_deep body_height super_height height node_height highest weight bottom_up place_of children
+unfolding too_deep first_too_deep body_height super_height height node_height highest weight bottom_up position_of children
 is_low = refl
 
 is_file : FileRead (forest_of [] []) lexemes one_safelet

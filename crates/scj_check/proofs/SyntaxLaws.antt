@@ -2,7 +2,7 @@
 use Rattle.std.proofs.Common.{◌≡◌, ℕ, List, [], refl, ap, sym, subst, ◌∙◌}
 use Rattle.scj_base.specs.declared.findings.Found.{Found}
 use Rattle.scj_base.specs.declared.lexemes.Token.{Token}
-use Rattle.scj_base.specs.Lex.{Lex, place_of}
+use Rattle.scj_base.specs.Lex.{Lex, position_of}
 use Rattle.scj_tree.specs.Forest.{Forest}
 use Rattle.scj_tree.specs.Lexemes.{Lexeme, lexemes_of}
 use Rattle.scj_lexer.proofs.Whole.{lexes_unique, not_both, breaks_unique}
@@ -42,7 +42,7 @@ one_place : (file : ℕ) (text : List ℕ) (one other : Found) → BreaksLexemes
     BreaksLexemes file text other → one ≡ other
 one_place file text one other a b =
     let both = breaks_unique text one.rule other.rule a.offset b.offset a.broken b.broken in
-    same_found one other both.0 (a.is_place ∙ (ap (λ (n : ℕ). place_of file text n) both.1 ∙ sym b.is_place))
+    same_found one other both.0 (a.is_position ∙ (ap (λ (n : ℕ). position_of file text n) both.1 ∙ sym b.is_position))
 
 one_break_of_lexemes : {file : ℕ} {texts : List (List ℕ)} {one other : Found} → FirstBreakOfLexemes file texts one →
     FirstBreakOfLexemes file texts other → one ≡ other

@@ -4,7 +4,7 @@ use Rattle.std.specs.Prelude.{option_map}
 use Rattle.std.proofs.lemmas.List.{take_at, drop_at}
 use Rattle.scj_base.specs.Vocabulary.{words, signs}
 use Rattle.scj_base.specs.Lexeme.{is_blank, is_letter, is_digit, is_name_byte, is_text_byte, is_line_byte, value_of, opens_comment, has_close}
-use Rattle.scj_base.specs.Lex.{Lexes, Lex, LexBreak, token_at, place_at, place_behind, place_behind_byte, place_of}
+use Rattle.scj_base.specs.Lex.{Lexes, Lex, LexBreak, token_at, position_at, position_behind, position_behind_byte, position_of}
 use Rattle.scj_base.specs.Lex.Lexes.{ends}
 use Rattle.scj_base.specs.Lex.LexBreak.{here}
 use Rattle.scj_base.specs.declared.lexemes.Token.{Token}
@@ -76,6 +76,6 @@ sound (suc n) file before (b ∷ s) tokens e =
 -- one name to unfold where a text is read that is written out
 unfoldable pub lexer : Unit {0}
 unfolding words signs is_blank is_letter is_digit is_name_byte is_text_byte is_line_byte value_of opens_comment
-    has_close place_behind place_behind_byte place_of word_of sign_of only_word_of signs_from first_of name_first
+    has_close position_behind position_behind_byte position_of word_of sign_of only_word_of signs_from first_of name_first
     number_first text_first comment_first sign_first number_of digits_of close_of tokens_from
 lexer = tt

@@ -4,7 +4,7 @@ use Rattle.std.specs.Prelude.{option_map}
 use Rattle.std.proofs.lemmas.List.{take_at, drop_at}
 use Rattle.scj_base.specs.Vocabulary.{words, signs}
 use Rattle.scj_base.specs.Lexeme.{is_blank, is_letter, is_digit, is_name_byte, is_text_byte, is_line_byte, value_of, opens_comment, has_close}
-use Rattle.scj_base.specs.Lex.{Lexes, Lex, LexBreak, token_at, place_at, place_behind, place_behind_byte, place_of}
+use Rattle.scj_base.specs.Lex.{Lexes, Lex, LexBreak, token_at, position_at, position_behind, position_behind_byte, position_of}
 use Rattle.scj_base.specs.Lex.Lexes.{ends}
 use Rattle.scj_base.specs.Lex.LexBreak.{here}
 use Rattle.scj_base.specs.declared.lexemes.Token.{Token}
@@ -21,7 +21,7 @@ use Rattle.scj_lexer.proofs.Whole.{joined, step}
 use Rattle.scj_lexer.proofs.Computing.{tokens_from, sound, lexer}
 
 abbrev token : TokenKind → ℕ → ℕ → ℕ → ℕ → Token
-token kind line col start len = record { kind = kind; pos = place_at 0 line col; start = start; len = len }
+token kind line col start len = record { kind = kind; pos = position_at 0 line col; start = start; len = len }
 
 -- `<<=` is one sign
 shift : Lex 0 (codes "a<<=b") (token Name 1 1 0 1 ∷ token (Sign 44) 1 2 1 3 ∷ token Name 1 5 4 1 ∷ token End 1 6 5 0

@@ -6,7 +6,7 @@ use Rattle.std.proofs.lemmas.Bool.{and_parts, and_from, cases_Bool, false≢true
 use Rattle.std.proofs.lemmas.List.{take_at}
 use Rattle.std.proofs.lemmas.Option.{get_or_from_slice_get}
 use Rattle.scj_base.specs.Vocabulary.{words, signs}
-use Rattle.scj_base.specs.Lex.{place_at, place_behind_byte}
+use Rattle.scj_base.specs.Lex.{position_at, position_behind_byte}
 use Rattle.scj_base.specs.Lexeme.{AllOf, Lexeme, Piece, is_letter, is_digit, is_name_byte, is_text_byte, is_line_byte}
 use Rattle.scj_base.specs.Lexeme.Lexeme.{name, word, number, text, sign}
 use Rattle.scj_base.specs.Lexeme.Piece.{blank, line_comment, block_comment, lexeme}
@@ -82,14 +82,14 @@ told_in_line (b ∷ s) kind len l e t =
     rw same (piece_in_line p.piece p.rest p.kind p.is (rw (kinds, ← same) t))
 
 -- the place behind bytes with no line feed
-pub fold_in_line : (p : Pos) (w : List ℕ) → AllOf is_line_byte w → fold place_behind_byte p w ≡ place_at p.file p.line
+pub fold_in_line : (p : Pos) (w : List ℕ) → AllOf is_line_byte w → fold position_behind_byte p w ≡ position_at p.file p.line
     (p.col + length w)
-unfolding place_behind_byte is_line_byte
-fold_in_line p [] a = ap (place_at p.file p.line) (omega arith)
+unfolding position_behind_byte is_line_byte
+fold_in_line p [] a = ap (position_at p.file p.line) (omega arith)
 fold_in_line p (b ∷ w) a =
     let parts : (not (b == 10) ≡ true) × (list_all is_line_byte w ≡ true) = and_parts _ _ a in
     elim (cases_Bool (b == 10)) [
       | inl e ↦ absurd (false≢true (sym (ap not e) ∙ parts.0))
-      | inr e ↦ rw e (fold_in_line (place_at p.file p.line (p.col + 1)) w parts.1
-          ∙ ap (place_at p.file p.line) (omega arith))
+      | inr e ↦ rw e (fold_in_line (position_at p.file p.line (p.col + 1)) w parts.1
+          ∙ ap (position_at p.file p.line) (omega arith))
     ]

@@ -5,7 +5,7 @@ use Rattle.std.specs.Prelude.{fold, slice_index}
 use Rattle.std.proofs.lemmas.List.{take_at, drop_at, append-nil, length-take-le}
 use Rattle.std.proofs.lemmas.List.Sums.{fold-append}
 use Rattle.scj_base.specs.Lexeme.{Piece, is_blank}
-use Rattle.scj_base.specs.Lex.{Lexes, Lex, LexBreak, place_at, place_behind, place_behind_byte, place_of}
+use Rattle.scj_base.specs.Lex.{Lexes, Lex, LexBreak, position_at, position_behind, position_behind_byte, position_of}
 use Rattle.scj_base.specs.Lex.Lexes.{ends}
 use Rattle.scj_base.specs.Lex.LexBreak.{here, later}
 use Rattle.scj_base.specs.declared.places.Pos.{Pos}
@@ -26,12 +26,12 @@ use Rattle.scj_lexer.proofs.Whole.{step, joined, not_both, piece_len}
 pub record Reached (file : ℕ) (bytes rest : List ℕ) (pos : Pos) (tokens : List Token) : Type 0 where
   pub before : List ℕ
   pub whole : bytes ≡ before ++ rest
-  pub place : pos ≡ place_behind file before
+  pub place : pos ≡ position_behind file before
   pub lexes : (more : List Token) → Lexes file before rest more → Lex file bytes (tokens ++ more)
   pub breaks : (rule : Rule) (offset : ℕ) → LexBreak rest rule offset → LexBreak bytes rule (length before + offset)
 
-pub reached_start : (file : ℕ) (bytes : List ℕ) → Reached file bytes bytes (place_at file 1 1) []
-unfolding place_behind
+pub reached_start : (file : ℕ) (bytes : List ℕ) → Reached file bytes bytes (position_at file 1 1) []
+unfolding position_behind
 reached_start file bytes =
     record {
       before = [];
@@ -43,18 +43,18 @@ reached_start file bytes =
     }
 
 one_more : (file : ℕ) (before w : List ℕ) (kind : Option TokenKind) (more : List Token) →
-    joined file before w kind more ≡ token_of kind (place_behind file before) (length before) (length w) ++ more
+    joined file before w kind more ≡ token_of kind (position_behind file before) (length before) (length w) ++ more
 one_more file before w None more = refl
 one_more file before w (Some kind) more = refl
 
-behind_more : (file : ℕ) (before w : List ℕ) → fold place_behind_byte (place_behind file before) w ≡ place_behind file
+behind_more : (file : ℕ) (before w : List ℕ) → fold position_behind_byte (position_behind file before) w ≡ position_behind file
     (before ++ w)
-unfolding place_behind
-behind_more file before w = sym (fold-append place_behind_byte (place_at file 1 1) before w)
+unfolding position_behind
+behind_more file before w = sym (fold-append position_behind_byte (position_at file 1 1) before w)
 
 pub reached_piece : (file : ℕ) (bytes rest w s : List ℕ) (kind : Option TokenKind) (pos : Pos) (tokens : List Token) →
     Piece w s kind → rest ≡ w ++ s → Reached file bytes rest pos tokens →
-    Reached file bytes s (fold place_behind_byte pos w)
+    Reached file bytes s (fold position_behind_byte pos w)
     (tokens ++ token_of kind pos (length bytes - length rest) (length w))
 reached_piece file bytes rest w s kind pos tokens p e r =
     let start : length bytes - length rest ≡ length r.before =
@@ -62,7 +62,7 @@ reached_piece file bytes rest w s kind pos tokens p e r =
     record {
       before = r.before ++ w;
       whole = r.whole ∙ ap (λ u. r.before ++ u) e ∙ sym (append_assoc r.before w s);
-      place = ap (λ q. fold place_behind_byte q w) r.place ∙ behind_more file r.before w;
+      place = ap (λ q. fold position_behind_byte q w) r.place ∙ behind_more file r.before w;
       lexes = λ more l.
           let whole_more =
           r.lexes (joined file r.before w kind more)
@@ -79,7 +79,7 @@ reached_piece file bytes rest w s kind pos tokens p e r =
 
 reached_found : (file : ℕ) (bytes rest : List ℕ) (pos : Pos) (tokens : List Token) (p : Begins rest) →
     Reached file bytes rest pos tokens →
-    Reached file bytes (drop (length p.piece) rest) (fold place_behind_byte pos (take (length p.piece) rest))
+    Reached file bytes (drop (length p.piece) rest) (fold position_behind_byte pos (take (length p.piece) rest))
     (tokens ++ token_of p.kind pos (length bytes - length rest) (length p.piece))
 reached_found file bytes rest pos tokens p r =
     let front : take (length p.piece) rest ≡ p.piece = ap (take (length p.piece)) p.whole
@@ -90,19 +90,19 @@ reached_found file bytes rest pos tokens p r =
 
 reached_as : (file : ℕ) (bytes rest : List ℕ) (pos : Pos) (tokens : List Token) (p : Begins rest)
     (kind : Option TokenKind) (len : ℕ) → p.kind ≡ kind → length p.piece ≡ len → Reached file bytes rest pos tokens →
-    Reached file bytes (drop len rest) (fold place_behind_byte pos (take len rest))
+    Reached file bytes (drop len rest) (fold position_behind_byte pos (take len rest))
     (tokens ++ token_of kind pos (length bytes - length rest) len)
 reached_as file bytes rest pos tokens p kind len k l r =
-    subst (λ t. Reached file bytes (drop len rest) (fold place_behind_byte pos (take len rest))
+    subst (λ t. Reached file bytes (drop len rest) (fold position_behind_byte pos (take len rest))
     (tokens ++ token_of t pos (length bytes - length rest) len)) k
     (subst
-    (λ n. Reached file bytes (drop n rest) (fold place_behind_byte pos (take n rest))
+    (λ n. Reached file bytes (drop n rest) (fold position_behind_byte pos (take n rest))
     (tokens ++ token_of p.kind pos (length bytes - length rest) n)) l
     (reached_found file bytes rest pos tokens p r))
 
 pub reached_step : (file : ℕ) (bytes rest : List ℕ) (kind : Option TokenKind) (len : ℕ) (pos : Pos)
     (tokens : List Token) → 0 < length rest → first_of rest ≡ Told kind len → Reached file bytes rest pos tokens →
-    Reached file bytes (drop len rest) (fold place_behind_byte pos (take len rest))
+    Reached file bytes (drop len rest) (fold position_behind_byte pos (take len rest))
     (tokens ++ token_of kind pos (length bytes - length rest) len)
 reached_step file bytes [] kind len pos tokens l e r = absurd (omega arith)
 reached_step file bytes (b ∷ s) kind len pos tokens l e r =
@@ -125,14 +125,14 @@ pub reached_end : (file : ℕ) (bytes rest : List ℕ) (pos : Pos) (tokens : Lis
 reached_end file bytes [] pos tokens e r =
     let all : bytes ≡ r.before = r.whole ∙ append-nil r.before in
     rw (all, r.place)
-    (subst (λ u. Lex file u (tokens ++ token_of (Some End) (place_behind file r.before) (length r.before) 0)) all
+    (subst (λ u. Lex file u (tokens ++ token_of (Some End) (position_behind file r.before) (length r.before) 0)) all
     (r.lexes _ (ends file r.before)))
 reached_end file bytes (b ∷ s) pos tokens e r = absurd (omega arith)
 
 pub reached_break : (file : ℕ) (bytes rest : List ℕ) (pos : Pos) (tokens : List Token) (rule : Rule) (found : Found) →
     0 < length rest → first_of rest ≡ Bad rule → found.pos ≡ pos → found.rule ≡ rule →
     Reached file bytes rest pos tokens → IsBreakOf file bytes found
-unfolding place_of
+unfolding position_of
 reached_break file bytes [] pos tokens rule found l e q t r = absurd (omega arith)
 reached_break file bytes (b ∷ s) pos tokens rule found l e q t r =
     let broken : LexBreak bytes rule (length r.before + 0) =
@@ -144,7 +144,7 @@ reached_break file bytes (b ∷ s) pos tokens rule found l e q t r =
       broken = broken_here;
       place =
           q ∙ r.place
-          ∙ ap (place_behind file)
+          ∙ ap (position_behind file)
           (sym (ap (take (length r.before)) r.whole ∙ take_at r.before (b ∷ s) (length r.before) refl));
       no_tokens = λ more. not_both file [] bytes more found.rule (length r.before) broken_here;
     }
@@ -157,27 +157,27 @@ blank_first (b ∷ s) l e = cond-true _ _ _ e
 -- behind a blank
 pub reached_blank : (file : ℕ) (bytes rest : List ℕ) (pos : Pos) (tokens : List Token) → 0 < length rest →
     is_blank (slice_index rest 0) ≡ true → Reached file bytes rest pos tokens →
-    Reached file bytes (drop 1 rest) (place_behind_byte pos (slice_index rest 0)) tokens
+    Reached file bytes (drop 1 rest) (position_behind_byte pos (slice_index rest 0)) tokens
 reached_blank file bytes [] pos tokens l e r = absurd (omega arith)
 reached_blank file bytes (b ∷ s) pos tokens l e r =
-    subst (λ ts. Reached file bytes (drop 1 (b ∷ s)) (place_behind_byte pos b) ts) (append-nil tokens)
+    subst (λ ts. Reached file bytes (drop 1 (b ∷ s)) (position_behind_byte pos b) ts) (append-nil tokens)
     (reached_step file bytes (b ∷ s) None 1 pos tokens l (blank_first (b ∷ s) l e) r)
 
-line_one : (p : Pos) (b : ℕ) → (place_behind_byte p b).line ≤ p.line + 1
-unfolding place_behind_byte
+line_one : (p : Pos) (b : ℕ) → (position_behind_byte p b).line ≤ p.line + 1
+unfolding position_behind_byte
 line_one p b = elim (cases_Bool (b == 10)) [ inl e ↦ rw e (omega arith) | inr e ↦ rw e (omega arith) ]
 
-col_one : (p : Pos) (b : ℕ) → (place_behind_byte p b).col ≤ p.col + 1
-unfolding place_behind_byte
+col_one : (p : Pos) (b : ℕ) → (position_behind_byte p b).col ≤ p.col + 1
+unfolding position_behind_byte
 col_one p b = elim (cases_Bool (b == 10)) [ inl e ↦ rw e (omega arith) | inr e ↦ rw e (omega arith) ]
 
-line_more : (p : Pos) (bytes : List ℕ) → (fold place_behind_byte p bytes).line ≤ p.line + length bytes
+line_more : (p : Pos) (bytes : List ℕ) → (fold position_behind_byte p bytes).line ≤ p.line + length bytes
 line_more p [] = omega arith
-line_more p (b ∷ s) = omega (arith, line_one p b, line_more (place_behind_byte p b) s)
+line_more p (b ∷ s) = omega (arith, line_one p b, line_more (position_behind_byte p b) s)
 
-col_more : (p : Pos) (bytes : List ℕ) → (fold place_behind_byte p bytes).col ≤ p.col + length bytes
+col_more : (p : Pos) (bytes : List ℕ) → (fold position_behind_byte p bytes).col ≤ p.col + length bytes
 col_more p [] = omega arith
-col_more p (b ∷ s) = omega (arith, col_one p b, col_more (place_behind_byte p b) s)
+col_more p (b ∷ s) = omega (arith, col_one p b, col_more (position_behind_byte p b) s)
 
 pub record Small (pos : Pos) (bytes rest : List ℕ) : Type 0 where
   pub line : pos.line + length rest ≤ length bytes + 1
@@ -186,11 +186,11 @@ pub record Small (pos : Pos) (bytes rest : List ℕ) : Type 0 where
 
 pub reached_small : (file : ℕ) (bytes rest : List ℕ) (pos : Pos) (tokens : List Token) →
     Reached file bytes rest pos tokens → Small pos bytes rest
-unfolding place_behind
+unfolding position_behind
 reached_small file bytes rest pos tokens r =
     let sum : length bytes ≡ length r.before + length rest = ap length r.whole ∙ length-append r.before rest in
-    let lines : pos.line ≤ 1 + length r.before = rw r.place (line_more (place_at file 1 1) r.before) in
-    let cols : pos.col ≤ 1 + length r.before = rw r.place (col_more (place_at file 1 1) r.before) in
+    let lines : pos.line ≤ 1 + length r.before = rw r.place (line_more (position_at file 1 1) r.before) in
+    let cols : pos.col ≤ 1 + length r.before = rw r.place (col_more (position_at file 1 1) r.before) in
     record { line = omega arith; col = omega arith; left = omega arith }
 
 pub record PieceFits (bytes rest : List ℕ) (pos : Pos) (len : ℕ) : Type 0 where
@@ -233,8 +233,8 @@ told_memory file bytes (Err e) h = subst (Tells file bytes) (sym h) tt
 -- behind a space
 pub reached_space : (file : ℕ) (bytes rest : List ℕ) (pos : Pos) (tokens : List Token) → 0 < length rest →
     slice_index rest 0 ≡ 32 → Reached file bytes rest pos tokens →
-    Reached file bytes (drop 1 rest) (place_at pos.file pos.line (pos.col + 1)) tokens
-unfolding place_behind_byte is_blank
+    Reached file bytes (drop 1 rest) (position_at pos.file pos.line (pos.col + 1)) tokens
+unfolding position_behind_byte is_blank
 reached_space file bytes [] pos tokens l e r = absurd (omega arith)
 reached_space file bytes (b ∷ s) pos tokens l e r =
     subst (λ p. Reached file bytes s p tokens) (rw e refl) (reached_blank file bytes (b ∷ s) pos tokens l (rw e refl) r)

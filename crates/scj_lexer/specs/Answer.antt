@@ -4,7 +4,7 @@ use Rattle.scj_base.specs.declared.places.Pos.{Pos}
 use Rattle.scj_base.specs.declared.findings.Found.{Found}
 use Rattle.scj_base.specs.declared.lexemes.Token.{Token}
 use Rattle.scj_base.specs.declared.lexemes.TokenKind.{TokenKind}
-use Rattle.scj_base.specs.Lex.{Lex, LexBreak, place_of}
+use Rattle.scj_base.specs.Lex.{Lex, LexBreak, position_of}
 use Rattle.scj_lexer.specs.declared.texts.LexAnswer.{LexAnswer}
 use Rattle.scj_lexer.specs.declared.texts.LexAnswer.TheVariants.{Bad, Memory}
 
@@ -12,7 +12,7 @@ use Rattle.scj_lexer.specs.declared.texts.LexAnswer.TheVariants.{Bad, Memory}
 pub record IsBreakOf (file : ℕ) (bytes : List ℕ) (found : Found) : Type 0 where
   pub offset : ℕ
   pub broken : LexBreak bytes found.rule offset
-  pub place : found.pos ≡ place_of file bytes offset
+  pub place : found.pos ≡ position_of file bytes offset
   pub no_tokens : (tokens : List Token) → Lex file bytes tokens → ⊥
 
 abbrev pub Tells : ℕ → List ℕ → LexAnswer → Type 0

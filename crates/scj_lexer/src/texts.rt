@@ -1,7 +1,7 @@
 //! The tokens of a whole text.
 
 ghost use Rattle.std.specs.Prelude.{◌≡◌, ◌<◌, ◌≤◌, ◌+◌, ◌++◌, ◌^◌, length, fold, true, IfOk, IfErr, OnOk};
-ghost use Rattle.scj_base.specs.Lex.{Lex, place_at, place_behind_byte};
+ghost use Rattle.scj_base.specs.Lex.{Lex, position_at, position_behind_byte};
 ghost use Rattle.scj_base.specs.Lexeme.{AllOf, is_line_byte as line_byte};
 ghost use Rattle.scj_lexer.specs.Places.{stays_in_line};
 ghost use Rattle.scj_lexer.specs.Answer.{Tells, token_of};
@@ -103,7 +103,7 @@ fn behind_piece(pos: Pos, kind: Option<TokenKind>, piece: &[u8]) -> Pos
     requires in_line { stays_in_line kind piece.now ≡ true → AllOf line_byte piece.now }
     requires lines_fit { pos.line + length piece.now < 2 ^ 32 }
     requires columns_fit { pos.col + length piece.now + 1 < 2 ^ 32 }
-    ensures { result ≡ fold place_behind_byte pos piece.now }
+    ensures { result ≡ fold position_behind_byte pos piece.now }
 {
     if is_in_line(kind, piece) {
         return along(pos, piece.len() as u32);
@@ -128,7 +128,7 @@ fn is_in_line(kind: Option<TokenKind>, piece: &[u8]) -> bool
 /// The place so many columns further.
 fn along(pos: Pos, len: u32) -> Pos
     requires { pos.col + len < 2 ^ 32 }
-    ensures { result ≡ place_at pos.file pos.line (pos.col + len) }
+    ensures { result ≡ position_at pos.file pos.line (pos.col + len) }
 {
     Pos {
         file: pos.file,
@@ -141,7 +141,7 @@ fn along(pos: Pos, len: u32) -> Pos
 fn behind(pos: Pos, bytes: &[u8]) -> Pos
     requires lines_fit { pos.line + length bytes.now < 2 ^ 32 }
     requires columns_fit { pos.col + length bytes.now + 1 < 2 ^ 32 }
-    ensures { result ≡ fold place_behind_byte pos bytes.now }
+    ensures { result ≡ fold position_behind_byte pos bytes.now }
 {
     let mut position = pos;
     for byte in bytes {
@@ -151,11 +151,11 @@ fn behind(pos: Pos, bytes: &[u8]) -> Pos
 }
 
 /// The place behind a byte.
-#[tactic(auto, unfolding(scj_base::specs::Lex::place_behind_byte, scj_base::specs::Lexeme::is_line_byte))]
+#[tactic(auto, unfolding(scj_base::specs::Lex::position_behind_byte, scj_base::specs::Lexeme::is_line_byte))]
 fn behind_byte(pos: Pos, byte: u8) -> Pos
     requires line_fits { pos.line + 1 < 2 ^ 32 }
     requires column_fits { pos.col + 1 < 2 ^ 32 }
-    ensures value { result ≡ place_behind_byte pos byte }
+    ensures value { result ≡ position_behind_byte pos byte }
     ensures line { result.line ≤ pos.line + 1 }
     ensures column { result.col ≤ pos.col + 1 }
 {

@@ -7,7 +7,7 @@ use Rattle.scj_base.specs.declared.faults.RunFault.TheVariants.{ScopedCycle, Dep
 use Rattle.scj_base.specs.declared.values.Value.{Value}
 use Rattle.scj_rules.specs.Words.{◌>>=◌, holds}
 use Rattle.scj_rules.specs.ScopeRules.{defined_by_chain}
-use Rattle.scj_rules.specs.Bodies.{body_named, class_place}
+use Rattle.scj_rules.specs.Bodies.{body_named, class_position}
 use Rattle.scj_model.specs.declared.events.Event.TheVariants.{Fault, End}
 use Rattle.scj_model.specs.declared.operations.Op.{Op}
 use Rattle.scj_model.specs.declared.plans.ReadingRow.{ReadingRow}
@@ -19,7 +19,7 @@ use Rattle.scj_model.specs.Steps.{Step, silently, telling, then_do, of_release, 
 use Rattle.scj_model.specs.Effects.{Effect, Goes, Prints, Makes, Stores, StoresStatic, SetsHidden, SetsCeiling, Calls, Opens, Leaves, AsksRegistration, AsksRelease, AsksTermination, Faults, Stuck}
 use Rattle.scj_model.specs.Apply.{is_full, tell_priority, returned, without, ceiling_entered, called, opened_in, frame_left, waiting_of, most_waiting, takes_releases, release_taken, registered, released, asks_for_end, termination, termination_asked, with_frame, applied}
 use Rattle.scj_model.specs.Sequencer.{innermost}
-use Rattle.scj_model.specs.Run.{frame_op, effect_at, place_of_op, start_op, started_with, no_activity, release_op_of, ref_op, with_turn}
+use Rattle.scj_model.specs.Run.{frame_op, effect_at, position_of_op, start_op, started_with, no_activity, release_op_of, ref_op, with_turn}
 
 -- a step that leads to the same state but for the last choice
 abbrev pub as_chosen : Turn → Step → Step
@@ -187,14 +187,14 @@ unfolding frame_op
 frame_same t code rows s n activity = go activity.frames
   where
     act : (f : Frame) (below : List Frame) (ops : List Op) → SameIf t
-        (elim ops as (λ x. Option Step) [ [] ↦ None | op ∷ rest ↦ applied code (with_turn s t) (ReleaseAt n) activity below (place_of_op code op) (effect_at code rows s f op rest) ])
-        (elim ops as (λ x. Option Step) [ [] ↦ None | op ∷ rest ↦ applied code s (ReleaseAt n) activity below (place_of_op code op) (effect_at code rows s f op rest) ])
+        (elim ops as (λ x. Option Step) [ [] ↦ None | op ∷ rest ↦ applied code (with_turn s t) (ReleaseAt n) activity below (position_of_op code op) (effect_at code rows s f op rest) ])
+        (elim ops as (λ x. Option Step) [ [] ↦ None | op ∷ rest ↦ applied code s (ReleaseAt n) activity below (position_of_op code op) (effect_at code rows s f op rest) ])
     act f below [] = refl
-    act f below (op ∷ rest) = applied_same t code s n activity below (place_of_op code op) (effect_at code rows s f op rest)
+    act f below (op ∷ rest) = applied_same t code s n activity below (position_of_op code op) (effect_at code rows s f op rest)
 
     go : (fs : List Frame) → SameIf t
-        (elim fs as (λ x. Option Step) [ [] ↦ None | f ∷ below ↦ elim f.rest [ [] ↦ None | op ∷ rest ↦ applied code (with_turn s t) (ReleaseAt n) activity below (place_of_op code op) (effect_at code rows s f op rest) ] ])
-        (elim fs as (λ x. Option Step) [ [] ↦ None | f ∷ below ↦ elim f.rest [ [] ↦ None | op ∷ rest ↦ applied code s (ReleaseAt n) activity below (place_of_op code op) (effect_at code rows s f op rest) ] ])
+        (elim fs as (λ x. Option Step) [ [] ↦ None | f ∷ below ↦ elim f.rest [ [] ↦ None | op ∷ rest ↦ applied code (with_turn s t) (ReleaseAt n) activity below (position_of_op code op) (effect_at code rows s f op rest) ] ])
+        (elim fs as (λ x. Option Step) [ [] ↦ None | f ∷ below ↦ elim f.rest [ [] ↦ None | op ∷ rest ↦ applied code s (ReleaseAt n) activity below (position_of_op code op) (effect_at code rows s f op rest) ] ])
     go [] = refl
     go (f ∷ below) = act f below f.rest
 
@@ -203,7 +203,7 @@ unfolding start_op started_with with_activity
 start_same t code s index r =
     same_bind t (handler_row s.registry r.handler) _ _ (λ row. same_bind t (defined_by_chain code.program row.class) _ _ (λ scope.
     same_bind t (body_named code.program row.class (codes "handleAsyncEvent")) _ _ (λ body.
-    same_some t _ _ (opening_same t s index no_activity (class_place code.program row.class) scope (innermost s.activity.areas) row.bytes _ (λ u a. record { is = refl })))))
+    same_some t _ _ (opening_same t s index no_activity (class_position code.program row.class) scope (innermost s.activity.areas) row.bytes _ (λ u a. record { is = refl })))))
 
 release_same : (t : Turn) (code : Code) (rows : List ReadingRow) (s : State) (index : ℕ) (r : Release) → SameIf t (release_op_of code rows (with_turn s t) index r) (release_op_of code rows s index r)
 unfolding release_op_of

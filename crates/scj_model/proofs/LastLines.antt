@@ -22,7 +22,7 @@ use Rattle.scj_model.specs.Apply.{tell_priority, called, opened_in, frame_left, 
 use Rattle.scj_model.specs.Sequencer.{innermost, area_opened, safelet_made, body_called, method_called, sequencer_op, after_operation, has_started, after_execution, phase_after, ClosesMission, EndsExecution, Transition, goes_to, seq_applied, transition, transition_done, after_initialize}
 use Rattle.scj_model.specs.Arrivals.{executes_since, due_handlers, fired_handler, fired, arrivals, fired_at, fires_due}
 use Rattle.scj_model.specs.Choice.{Policy}
-use Rattle.scj_model.specs.Run.{tell_turn, turn_taken, turn_acts, acts, next_unit, one_unit, empty_state, RunSoFar, has_ended, continued, one_more_unit, run, told_by, frame_op, effect_at, place_of_op, start_op, started_with, no_activity, release_op_of, sequencer_turn, ref_op, is_same_turn}
+use Rattle.scj_model.specs.Run.{tell_turn, turn_taken, turn_acts, acts, next_unit, one_unit, empty_state, RunSoFar, has_ended, continued, one_more_unit, run, told_by, frame_op, effect_at, position_of_op, start_op, started_with, no_activity, release_op_of, sequencer_turn, ref_op, is_same_turn}
 use Rattle.scj_model.specs.LastLine.{is_last_line, HasNoLastLine, EndsInLastLine}
 use Rattle.scj_model.specs.declared.events.Event.TheVariants.{Miss, Run as RunEvent}
 use Rattle.scj_model.specs.declared.plans.Fire.{Fire}
@@ -34,7 +34,7 @@ use Rattle.scj_model.specs.declared.plans.ReadingRow.{ReadingRow}
 use Rattle.scj_base.specs.declared.values.Value.TheVariants.{Int, Bool as Truth, Null, At}
 use Rattle.scj_rules.specs.Classes.{is_empty}
 use Rattle.scj_rules.specs.ScopeRules.{immortal_scope, defined_by_chain}
-use Rattle.scj_rules.specs.Bodies.{body_named, constructor_body, size_of, safelet_class, class_place}
+use Rattle.scj_rules.specs.Bodies.{body_named, constructor_body, size_of, safelet_class, class_position}
 
 -- the run is not over, and no last line is told
 pub record IsQuiet (r : Step) : Type 0 where
@@ -279,11 +279,11 @@ fine_frame : (code : Code) (rows : List ReadingRow) (s : State) (job : Job) (act
 unfolding frame_op
 fine_frame code rows s job activity h = go activity.frames
   where
-    act : (f : Frame) (below : List Frame) (ops : List Op) → IsFineIf (elim ops [ [] ↦ None | op ∷ rest ↦ applied code s job activity below (place_of_op code op) (effect_at code rows s f op rest) ])
+    act : (f : Frame) (below : List Frame) (ops : List Op) → IsFineIf (elim ops [ [] ↦ None | op ∷ rest ↦ applied code s job activity below (position_of_op code op) (effect_at code rows s f op rest) ])
     act f below [] = fine_none
-    act f below (op ∷ rest) = fine_applied code s job activity below (place_of_op code op) (effect_at code rows s f op rest) h
+    act f below (op ∷ rest) = fine_applied code s job activity below (position_of_op code op) (effect_at code rows s f op rest) h
 
-    go : (fs : List Frame) → IsFineIf (elim fs [ [] ↦ None | f ∷ below ↦ elim f.rest [ [] ↦ None | op ∷ rest ↦ applied code s job activity below (place_of_op code op) (effect_at code rows s f op rest) ] ])
+    go : (fs : List Frame) → IsFineIf (elim fs [ [] ↦ None | f ∷ below ↦ elim f.rest [ [] ↦ None | op ∷ rest ↦ applied code s job activity below (position_of_op code op) (effect_at code rows s f op rest) ] ])
     go [] = fine_none
     go (f ∷ below) = act f below f.rest
 
@@ -292,7 +292,7 @@ unfolding start_op started_with
 fine_start code s index r h =
     fine_bind (handler_row s.registry r.handler) _ (λ row. fine_bind (defined_by_chain code.program row.class) _ (λ scope.
     fine_bind (body_named code.program row.class (codes "handleAsyncEvent")) _ (λ body.
-    fine_some _ (fine_opening s (ReleaseAt index) no_activity (class_place code.program row.class) scope (innermost s.activity.areas) row.bytes _ h
+    fine_some _ (fine_opening s (ReleaseAt index) no_activity (class_position code.program row.class) scope (innermost s.activity.areas) row.bytes _ h
     (λ t a k. quiet t k _ (keeps_activity t (ReleaseAt index) _) refl)))))
 
 fine_release : (code : Code) (rows : List ReadingRow) (s : State) (index : ℕ) (r : Release) → is_over s.phase ≡ false → IsFineIf (release_op_of code rows s index r)

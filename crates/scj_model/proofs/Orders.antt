@@ -8,7 +8,7 @@ use Rattle.scj_base.specs.declared.values.Value.{Value}
 use Rattle.scj_rules.specs.declared.views.Body.{Body}
 use Rattle.scj_rules.specs.Words.{◌>>=◌}
 use Rattle.scj_rules.specs.ScopeRules.{immortal_scope, defined_by_chain}
-use Rattle.scj_rules.specs.Bodies.{body_named, constructor_body, size_of, safelet_class, class_place}
+use Rattle.scj_rules.specs.Bodies.{body_named, constructor_body, size_of, safelet_class, class_position}
 use Rattle.scj_model.specs.declared.operations.Op.{Op}
 use Rattle.scj_model.specs.declared.operations.SeqOp.{SeqOp}
 use Rattle.scj_model.specs.declared.operations.SeqOp.TheVariants.{OpenImmortal, AllocSafelet, ConstructSafelet, InitializeApplication, GetSequencer, GetNextMission, OpenMission, Initialize, CleanUp, Execute, Finished}
@@ -25,7 +25,7 @@ use Rattle.scj_model.specs.Apply.{is_full, called, opened_in, returned, frame_le
 use Rattle.scj_model.specs.Sequencer.{innermost, area_opened, safelet_made, body_called, method_called, sequencer_op, after_operation, has_started, after_execution, phase_after, BeginsExecution, BeginsMission, ClosesMission, Continues, EndsExecution, LacksMission, LacksSequencer, SeqEffect, SkipsExecution, TakesMission, TakesSafelet, TakesSequencer, Transition, goes_to, gone_to, seq_applied, transition_done}
 use Rattle.scj_model.specs.Arrivals.{executes_since, due_handlers, fired_handler, fired, arrivals, fired_at, fires_due}
 use Rattle.scj_model.specs.Choice.{Policy}
-use Rattle.scj_model.specs.Run.{frame_op, effect_at, place_of_op, start_op, started_with, no_activity, release_op_of, sequencer_turn, ref_op, turn_taken, turn_acts, acts, one_unit, empty_state, RunSoFar, has_ended, continued, one_more_unit, run}
+use Rattle.scj_model.specs.Run.{frame_op, effect_at, position_of_op, start_op, started_with, no_activity, release_op_of, sequencer_turn, ref_op, turn_taken, turn_acts, acts, one_unit, empty_state, RunSoFar, has_ended, continued, one_more_unit, run}
 use Rattle.scj_model.specs.Order.{IsOrderly}
 use Rattle.scj_model.specs.declared.events.Event.TheVariants.{Terminate, Miss}
 use Rattle.scj_model.specs.declared.phases.Phase.TheVariants.{Cleanup}
@@ -183,11 +183,11 @@ aside_frame : (code : Code) (rows : List ReadingRow) (s : State) (n : ℕ) (acti
 unfolding frame_op
 aside_frame code rows s n activity = go activity.frames
   where
-    act : (f : Frame) (below : List Frame) (ops : List Op) → AsideIf s (elim ops [ [] ↦ None | op ∷ rest ↦ applied code s (ReleaseAt n) activity below (place_of_op code op) (effect_at code rows s f op rest) ])
+    act : (f : Frame) (below : List Frame) (ops : List Op) → AsideIf s (elim ops [ [] ↦ None | op ∷ rest ↦ applied code s (ReleaseAt n) activity below (position_of_op code op) (effect_at code rows s f op rest) ])
     act f below [] = aside_none s
-    act f below (op ∷ rest) = aside_applied code s n activity below (place_of_op code op) (effect_at code rows s f op rest)
+    act f below (op ∷ rest) = aside_applied code s n activity below (position_of_op code op) (effect_at code rows s f op rest)
 
-    go : (fs : List Frame) → AsideIf s (elim fs [ [] ↦ None | f ∷ below ↦ elim f.rest [ [] ↦ None | op ∷ rest ↦ applied code s (ReleaseAt n) activity below (place_of_op code op) (effect_at code rows s f op rest) ] ])
+    go : (fs : List Frame) → AsideIf s (elim fs [ [] ↦ None | f ∷ below ↦ elim f.rest [ [] ↦ None | op ∷ rest ↦ applied code s (ReleaseAt n) activity below (position_of_op code op) (effect_at code rows s f op rest) ] ])
     go [] = aside_none s
     go (f ∷ below) = act f below f.rest
 
@@ -196,7 +196,7 @@ unfolding start_op started_with with_activity
 aside_start code s index r =
     aside_bind s (handler_row s.registry r.handler) _ (λ row. aside_bind s (defined_by_chain code.program row.class) _ (λ scope.
     aside_bind s (body_named code.program row.class (codes "handleAsyncEvent")) _ (λ body.
-    aside_some s _ (aside_opening s index no_activity (class_place code.program row.class) scope (innermost s.activity.areas) row.bytes _
+    aside_some s _ (aside_opening s index no_activity (class_position code.program row.class) scope (innermost s.activity.areas) row.bytes _
     (λ t a k. record { phase = k.phase; activity = k.activity; outcome = k.outcome })))))
 
 aside_release : (code : Code) (rows : List ReadingRow) (s : State) (index : ℕ) (r : Release) → AsideIf s (release_op_of code rows s index r)
@@ -357,11 +357,11 @@ acted_frame : (code : Code) (rows : List ReadingRow) (s : State) (activity : Act
 unfolding frame_op
 acted_frame code rows s activity h n = go activity.frames
   where
-    act : (f : Frame) (below : List Frame) (ops : List Op) → ActedIf s (elim ops [ [] ↦ None | op ∷ rest ↦ applied code s TheSequencer activity below (place_of_op code op) (effect_at code rows s f op rest) ])
+    act : (f : Frame) (below : List Frame) (ops : List Op) → ActedIf s (elim ops [ [] ↦ None | op ∷ rest ↦ applied code s TheSequencer activity below (position_of_op code op) (effect_at code rows s f op rest) ])
     act f below [] = acted_none s
-    act f below (op ∷ rest) = acted_applied code s activity below (place_of_op code op) (effect_at code rows s f op rest) h n
+    act f below (op ∷ rest) = acted_applied code s activity below (position_of_op code op) (effect_at code rows s f op rest) h n
 
-    go : (fs : List Frame) → ActedIf s (elim fs [ [] ↦ None | f ∷ below ↦ elim f.rest [ [] ↦ None | op ∷ rest ↦ applied code s TheSequencer activity below (place_of_op code op) (effect_at code rows s f op rest) ] ])
+    go : (fs : List Frame) → ActedIf s (elim fs [ [] ↦ None | f ∷ below ↦ elim f.rest [ [] ↦ None | op ∷ rest ↦ applied code s TheSequencer activity below (position_of_op code op) (effect_at code rows s f op rest) ] ])
     go [] = acted_none s
     go (f ∷ below) = act f below f.rest
 

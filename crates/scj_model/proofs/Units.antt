@@ -7,7 +7,7 @@ use Rattle.scj_base.specs.declared.values.Value.{Value}
 use Rattle.scj_rules.specs.declared.views.Body.{Body}
 use Rattle.scj_rules.specs.Words.{◌>>=◌}
 use Rattle.scj_rules.specs.ScopeRules.{immortal_scope, defined_by_chain}
-use Rattle.scj_rules.specs.Bodies.{body_named, constructor_body, size_of, safelet_class, class_place}
+use Rattle.scj_rules.specs.Bodies.{body_named, constructor_body, size_of, safelet_class, class_position}
 use Rattle.scj_model.specs.declared.operations.Op.{Op}
 use Rattle.scj_model.specs.declared.operations.SeqOp.{SeqOp}
 use Rattle.scj_model.specs.declared.operations.SeqOp.TheVariants.{OpenImmortal, AllocSafelet, ConstructSafelet, InitializeApplication, GetSequencer, GetNextMission, OpenMission, Initialize, CleanUp, Execute, Finished}
@@ -26,7 +26,7 @@ use Rattle.scj_model.specs.Apply.{is_full, called, opened_in, frame_left, waitin
 use Rattle.scj_model.specs.Sequencer.{innermost, area_opened, safelet_made, body_called, method_called, sequencer_op, after_operation, has_started, phase_after, BeginsExecution, BeginsMission, ClosesMission, Continues, EndsExecution, LacksMission, LacksSequencer, SeqEffect, SkipsExecution, TakesMission, TakesSafelet, TakesSequencer, Transition, goes_to, gone_to, seq_applied, transition_done}
 use Rattle.scj_model.specs.Arrivals.{executes_since, due_handlers, fired_handler, fired, arrivals, fired_at, fires_due}
 use Rattle.scj_model.specs.Choice.{Policy}
-use Rattle.scj_model.specs.Run.{frame_op, effect_at, place_of_op, start_op, started_with, no_activity, release_op_of, sequencer_turn, ref_op, turn_taken, turn_acts, acts}
+use Rattle.scj_model.specs.Run.{frame_op, effect_at, position_of_op, start_op, started_with, no_activity, release_op_of, sequencer_turn, ref_op, turn_taken, turn_acts, acts}
 
 abbrev pub KeepsUnit : State → Step → Type 0
 KeepsUnit s r = r.state.unit ≡ s.unit
@@ -169,11 +169,11 @@ keeps_frame : (code : Code) (rows : List ReadingRow) (s : State) (job : Job) (ac
 unfolding frame_op
 keeps_frame code rows s job activity = go activity.frames
   where
-    act : (f : Frame) (below : List Frame) (ops : List Op) → KeepsUnitIf s (elim ops [ [] ↦ None | op ∷ rest ↦ applied code s job activity below (place_of_op code op) (effect_at code rows s f op rest) ])
+    act : (f : Frame) (below : List Frame) (ops : List Op) → KeepsUnitIf s (elim ops [ [] ↦ None | op ∷ rest ↦ applied code s job activity below (position_of_op code op) (effect_at code rows s f op rest) ])
     act f below [] = keeps_none s
-    act f below (op ∷ rest) = keeps_applied code s job activity below (place_of_op code op) (effect_at code rows s f op rest)
+    act f below (op ∷ rest) = keeps_applied code s job activity below (position_of_op code op) (effect_at code rows s f op rest)
 
-    go : (fs : List Frame) → KeepsUnitIf s (elim fs [ [] ↦ None | f ∷ below ↦ elim f.rest [ [] ↦ None | op ∷ rest ↦ applied code s job activity below (place_of_op code op) (effect_at code rows s f op rest) ] ])
+    go : (fs : List Frame) → KeepsUnitIf s (elim fs [ [] ↦ None | f ∷ below ↦ elim f.rest [ [] ↦ None | op ∷ rest ↦ applied code s job activity below (position_of_op code op) (effect_at code rows s f op rest) ] ])
     go [] = keeps_none s
     go (f ∷ below) = act f below f.rest
 
@@ -182,7 +182,7 @@ unfolding start_op started_with
 keeps_start code s index r =
     keeps_bind s (handler_row s.registry r.handler) _ (λ row. keeps_bind s (defined_by_chain code.program row.class) _ (λ scope.
     keeps_bind s (body_named code.program row.class (codes "handleAsyncEvent")) _ (λ body.
-    keeps_some s _ (keeps_opening s (ReleaseAt index) no_activity (class_place code.program row.class) scope (innermost s.activity.areas) row.bytes _
+    keeps_some s _ (keeps_opening s (ReleaseAt index) no_activity (class_position code.program row.class) scope (innermost s.activity.areas) row.bytes _
     (λ t a k. unit_active t (ReleaseAt index) _ ∙ k)))))
 
 keeps_release : (code : Code) (rows : List ReadingRow) (s : State) (index : ℕ) (r : Release) → KeepsUnitIf s (release_op_of code rows s index r)
@@ -217,10 +217,10 @@ keeps_sequencer_op : (code : Code) (s : State) (op : SeqOp) → KeepsUnitIf s (s
 unfolding sequencer_op
 keeps_sequencer_op code s OpenImmortal =
     keeps_bind s (safelet_class code.program) _ (λ class. keeps_bind s (size_of code.program class) _ (λ bytes.
-    keeps_some s _ (keeps_area s (class_place code.program class) immortal_scope bytes)))
+    keeps_some s _ (keeps_area s (class_position code.program class) immortal_scope bytes)))
 keeps_sequencer_op code s AllocSafelet =
     keeps_bind s (safelet_class code.program) _ (λ class. keeps_bind s (innermost s.activity.areas) _ (λ area.
-    keeps_some s _ (keeps_safelet code s (class_place code.program class) class area)))
+    keeps_some s _ (keeps_safelet code s (class_position code.program class) class area)))
 keeps_sequencer_op code s (ConstructSafelet r) =
     keeps_bind s (object_at s r) _ (λ o. keeps_bind s (constructor_body code.program o.class) _ (λ body. keeps_body code s r body))
 keeps_sequencer_op code s (InitializeApplication r) = keeps_method code s r (codes "initializeApplication")
@@ -229,7 +229,7 @@ keeps_sequencer_op code s (GetNextMission r) = keeps_method code s r (codes "get
 keeps_sequencer_op code s (OpenMission r) =
     keeps_bind s (object_at s r) _ (λ o. keeps_bind s (defined_by_chain code.program o.class) _ (λ scope.
     keeps_bind s (size_of code.program o.class) _ (λ bytes.
-    keeps_some s _ (keeps_area s (class_place code.program o.class) scope bytes))))
+    keeps_some s _ (keeps_area s (class_position code.program o.class) scope bytes))))
 keeps_sequencer_op code s (Initialize r) = keeps_method code s r (codes "initialize")
 keeps_sequencer_op code s (CleanUp r) = keeps_method code s r (codes "cleanUp")
 keeps_sequencer_op code s Execute = keeps_none s

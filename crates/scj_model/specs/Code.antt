@@ -7,7 +7,7 @@ use Rattle.scj_tree.specs.Recursion.{lookup}
 use Rattle.scj_rules.specs.declared.typing.Binding.{Binding}
 use Rattle.scj_rules.specs.declared.typing.Binding.TheVariants.{Plain}
 use Rattle.scj_rules.specs.Definitions.{read}
-use Rattle.scj_rules.specs.Views.{place_at}
+use Rattle.scj_rules.specs.Views.{position_at}
 use Rattle.scj_rules.specs.Bindings.{bindings_in}
 use Rattle.scj_rules.specs.Contexts.{Declarations, declarations_of}
 
@@ -27,5 +27,5 @@ binding code id = lookup Plain code.bindings id
 abbrev pub part : {A : Type 0} → Code → (Node → Option A) → ℕ → Option A
 part code reading id = read code.program.nodes reading id
 
-abbrev pub place_of_node : Code → ℕ → Pos
-place_of_node code id = place_at code.program.nodes id
+abbrev pub position_of_node : Code → ℕ → Pos
+position_of_node code id = position_at code.program.nodes id

@@ -16,7 +16,7 @@ use Rattle.scj_rules.specs.Words.{holds, ◌>>=◌}
 use Rattle.scj_rules.specs.Views.{variable_at}
 use Rattle.scj_rules.specs.Classes.{is_sub}
 use Rattle.scj_rules.specs.ScopeRules.{defined_by_chain}
-use Rattle.scj_rules.specs.Layout.{kind_of_type, slot_of, static_place, element_kind, literal_written}
+use Rattle.scj_rules.specs.Layout.{kind_of_type, slot_of, static_index, element_kind, literal_written}
 use Rattle.scj_rules.specs.Bodies.{body_named, body_of, constructor_body}
 use Rattle.scj_model.specs.declared.operations.Op.{Op}
 use Rattle.scj_model.specs.declared.operations.Op.TheVariants.{Push as PUSH, This as THIS, Load as LOAD, Get as GET, GetStatic as GETSTATIC, Length as LENGTH, Elem as ELEM, Unary as UNARY, Bin as BIN, And as AND, Or as OR, Alloc as ALLOC, Construct as CONSTRUCT, AllocArray as ALLOCARRAY, Call as CALL, CallStatic as CALLSTATIC, Cast as CAST, Enter as ENTER, ExecuteIn as EXECUTEIN, Same as SAME, SetCeiling as SETCEILING, Print as PRINT, Read as READ, Register as REGISTER, Release as RELEASE, Terminate as TERMINATE, Zero as ZERO, Store as STORE, Put as PUT, PutStatic as PUTSTATIC, PutElem as PUTELEM, If as IF, Loop as LOOP, LeaveWith as LEAVEWITH, Leave as LEAVE, Drop as DROP, Init as INIT, Super as SUPER, Params as PARAMS}
@@ -67,7 +67,7 @@ operator_of _ = None
 -- the node that tells what is assigned: the target of an assignment, and the declaration of a local with a value
 unfoldable pub assigned_node : ℕ → Node → Option ℕ
 assigned_node id (Assign position target value) = Some target
-assigned_node id (LocalWithValue position name_place name flags declared_type value) = Some id
+assigned_node id (LocalWithValue position name_position name flags declared_type value) = Some id
 assigned_node id _ = None
 
 abbrev pub assigned : Code → ℕ → Option Binding
@@ -75,7 +75,7 @@ assigned code id = part code (assigned_node id) id >>= (λ node. Some (binding c
 
 unfoldable pub argument_count : Node → Option ℕ
 argument_count (CallNode position name object arguments) = Some (length arguments)
-argument_count (New position name_place name arguments) = Some (length arguments)
+argument_count (New position name_position name arguments) = Some (length arguments)
 argument_count (SuperCall position arguments) = Some (length arguments)
 argument_count _ = None
 
@@ -114,7 +114,7 @@ get_op code world f id =
 abbrev pub get_static_op : Code → Environment → Frame → ℕ → Effect
 get_static_op code world f id =
     given (bound_static (binding code id)) (λ field.
-    given (static_place code.program field) (λ index. given (slice_get world.statics index) (λ value. pushes f value)))
+    given (static_index code.program field) (λ index. given (slice_get world.statics index) (λ value. pushes f value)))
 
 abbrev pub length_op : Environment → Frame → Effect
 length_op world f =
@@ -353,7 +353,7 @@ put_op code world f id =
 
 abbrev pub put_static_op : Code → Frame → ℕ → Effect
 put_static_op code f id =
-    given (assigned code id >>= bound_static) (λ field. given (static_place code.program field) (λ index.
+    given (assigned code id >>= bound_static) (λ field. given (static_index code.program field) (λ index.
     pop f (λ value f. StoresStatic f index value)))
 
 abbrev pub put_elem_op : Environment → Frame → Effect

@@ -153,12 +153,12 @@ node_ops code ops id (Element position array index) = ops array ++ (ops index ++
 node_ops code ops id (Parenthesized position inner) = ops inner
 node_ops code ops id (Unary position operator operand) = ops operand ++ UNARY id ∷ []
 node_ops code ops id (Binary position operator left right) = binary_ops ops id operator left right
-node_ops code ops id (New position name_place name arguments) = new_ops ops id arguments (binding code id)
+node_ops code ops id (New position name_position name arguments) = new_ops ops id arguments (binding code id)
 node_ops code ops id (NewArray position element length) = ops length ++ ALLOCARRAY id ∷ []
 node_ops code ops id (Call position name object arguments) = call_ops ops id object arguments (binding code id)
-node_ops code ops id (Cast position name_place name operand) = ops operand ++ CAST id ∷ []
+node_ops code ops id (Cast position name_position name operand) = ops operand ++ CAST id ∷ []
 node_ops code ops id (LocalNode position name flags declared_type) = ZERO id ∷ []
-node_ops code ops id (LocalWithValue position name_place name flags declared_type value) = ops value ++ STORE id ∷ []
+node_ops code ops id (LocalWithValue position name_position name flags declared_type value) = ops value ++ STORE id ∷ []
 node_ops code ops id (Assign position target value) =
     elim (slice_get code.program.nodes target) [
       | None ↦ []

@@ -10,7 +10,7 @@ use Rattle.scj_rules.specs.Words.{◌>>=◌, holds}
 use Rattle.scj_rules.specs.Views.{nowhere}
 use Rattle.scj_rules.specs.ScopeRules.{defined_by_chain}
 use Rattle.scj_rules.specs.Layout.{kind_of_type, field_literal, static_fields}
-use Rattle.scj_rules.specs.Bodies.{body_named, class_place}
+use Rattle.scj_rules.specs.Bodies.{body_named, class_position}
 use Rattle.scj_model.specs.declared.events.Event.{Event}
 use Rattle.scj_model.specs.declared.events.Event.TheVariants.{Run as RunEvent, Idle as IdleEvent, Stopped}
 use Rattle.scj_model.specs.declared.handlers.HandlerRow.{HandlerRow}
@@ -18,7 +18,7 @@ use Rattle.scj_model.specs.declared.operations.Op.{Op}
 use Rattle.scj_model.specs.declared.operations.SeqOp.TheVariants.{OpenImmortal}
 use Rattle.scj_model.specs.declared.phases.Phase.TheVariants.{Boot}
 use Rattle.scj_model.specs.declared.plans.ReadingRow.{ReadingRow}
-use Rattle.scj_model.specs.Code.{Code, place_of_node}
+use Rattle.scj_model.specs.Code.{Code, position_of_node}
 use Rattle.scj_model.specs.Reading.{reading}
 use Rattle.scj_model.specs.Plan.{Plan}
 use Rattle.scj_model.specs.State.{Frame, Activity, Waits, Started, Ended, Dropped, Release, Job, TheSequencer, ReleaseAt, State, with_activity, object_at, is_exec, Turn, IdleTurn, TurnOf, is_over}
@@ -40,8 +40,8 @@ environment rows s =
     record { object_at = (λ r. object_at s r); statics = s.statics; reading = (λ port. reading rows port s.unit) }
 
 -- where an operation stands; LEAVE has no place, and no fault
-abbrev pub place_of_op : Code → Op → Pos
-place_of_op code op = elim (node_of op) [ None ↦ nowhere | Some node ↦ place_of_node code node ]
+abbrev pub position_of_op : Code → Op → Pos
+position_of_op code op = elim (node_of op) [ None ↦ nowhere | Some node ↦ position_of_node code node ]
 
 -- what the first operation that a frame has left does
 abbrev pub effect_at : Code → List ReadingRow → State → Frame → Op → List Op → Effect
@@ -54,7 +54,7 @@ frame_op code rows s job activity =
       | [] ↦ None
       | f ∷ below ↦ elim f.rest [
         | [] ↦ None
-        | op ∷ rest ↦ applied code s job activity below (place_of_op code op) (effect_at code rows s f op rest)
+        | op ∷ rest ↦ applied code s job activity below (position_of_op code op) (effect_at code rows s f op rest)
       ]
     ]
 
@@ -66,7 +66,7 @@ no_activity = record { frames = []; areas = []; priority = 0 }
 -- `handleAsyncEvent`; it stands where the handler's class is named
 unfoldable pub started_with : Code → State → ℕ → HandlerRow → ℕ → Body → Step
 started_with code s index row scope body =
-    let at : Pos = class_place code.program row.class in
+    let at : Pos = class_position code.program row.class in
     opening s (ReleaseAt index) no_activity at scope (innermost s.activity.areas) row.bytes (λ t area.
     silently (with_activity t (ReleaseAt index) (record {
       frames = record (new_frame code body None (Some row.at) area []) { opened = Some area } ∷ [];

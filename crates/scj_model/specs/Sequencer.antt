@@ -11,7 +11,7 @@ use Rattle.scj_rules.specs.Words.{◌>>=◌}
 use Rattle.scj_rules.specs.Views.{nowhere}
 use Rattle.scj_rules.specs.ScopeRules.{immortal_scope, defined_by_chain}
 use Rattle.scj_rules.specs.Classes.{is_empty}
-use Rattle.scj_rules.specs.Bodies.{body_named, constructor_body, size_of, safelet_class, class_place}
+use Rattle.scj_rules.specs.Bodies.{body_named, constructor_body, size_of, safelet_class, class_position}
 use Rattle.scj_model.specs.declared.events.Event.TheVariants.{Mission, Exec as ExecEvent, Cleanup as CleanupEvent, Done}
 use Rattle.scj_model.specs.declared.operations.SeqOp.{SeqOp}
 use Rattle.scj_model.specs.declared.operations.SeqOp.TheVariants.{OpenImmortal, AllocSafelet, ConstructSafelet, InitializeApplication, GetSequencer, GetNextMission, OpenMission, Initialize, CleanUp, Execute, Finished}
@@ -65,16 +65,16 @@ method_called code s r name =
     object_at s r >>= (λ o. body_named code.program o.class name >>= body_called code s r)
 
 -- the place of an operation on an object: where its class is named
-abbrev pub place_of_object : Code → State → ℕ → Pos
-place_of_object code s r = elim (object_at s r) [ None ↦ nowhere | Some o ↦ class_place code.program o.class ]
+abbrev pub position_of_object : Code → State → ℕ → Pos
+position_of_object code s r = elim (object_at s r) [ None ↦ nowhere | Some o ↦ class_position code.program o.class ]
 
 unfoldable pub sequencer_op : Code → State → SeqOp → Option Step
 sequencer_op code s OpenImmortal =
     safelet_class code.program >>= (λ class. size_of code.program class >>= (λ bytes.
-    Some (area_opened s (class_place code.program class) immortal_scope bytes)))
+    Some (area_opened s (class_position code.program class) immortal_scope bytes)))
 sequencer_op code s AllocSafelet =
     safelet_class code.program >>= (λ class. innermost s.activity.areas >>= (λ area.
-    Some (safelet_made code s (class_place code.program class) class area)))
+    Some (safelet_made code s (class_position code.program class) class area)))
 sequencer_op code s (ConstructSafelet r) =
     object_at s r >>= (λ o. constructor_body code.program o.class >>= body_called code s r)
 sequencer_op code s (InitializeApplication r) = method_called code s r (codes "initializeApplication")
@@ -82,7 +82,7 @@ sequencer_op code s (GetSequencer r) = method_called code s r (codes "getSequenc
 sequencer_op code s (GetNextMission r) = method_called code s r (codes "getNextMission")
 sequencer_op code s (OpenMission r) =
     object_at s r >>= (λ o. defined_by_chain code.program o.class >>= (λ scope.
-    size_of code.program o.class >>= (λ bytes. Some (area_opened s (class_place code.program o.class) scope bytes))))
+    size_of code.program o.class >>= (λ bytes. Some (area_opened s (class_position code.program o.class) scope bytes))))
 sequencer_op code s (Initialize r) = method_called code s r (codes "initialize")
 sequencer_op code s (CleanUp r) = method_called code s r (codes "cleanUp")
 sequencer_op code s Execute = None
@@ -160,7 +160,7 @@ seq_applied code s (TakesSequencer r) = silently (record s { mission_sequencer =
 seq_applied code s (TakesMission r) =
     silently (record s { mission = Some r; is_end_asked = false; earlier_releases = length s.releases })
 seq_applied code s (LacksSequencer safelet) =
-    fault_in s TheSequencer s.activity (place_of_object code s safelet) NullPointer
+    fault_in s TheSequencer s.activity (position_of_object code s safelet) NullPointer
 seq_applied code s LacksMission = telling s (Done s.unit ∷ [])
 seq_applied code s (BeginsMission r) = telling s (Mission s.unit (class_name_at code s r) ∷ [])
 seq_applied code s BeginsExecution =

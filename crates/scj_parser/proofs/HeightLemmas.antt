@@ -2,7 +2,7 @@
 use Rattle.std.proofs.Common.{◌≡◌, ℕ, ◌+◌, ◌-◌, ◌<◌, ◌≤◌, suc, max, List, [], ◌∷◌, ◌++◌, length, drop, Option, Some, None, slice_get, get_or, drop-cons, add-one, nat_lt, true, false, refl, sym, ap, ◌∙◌, arith, rules, subst, length-append, ⊎_elim}
 use Rattle.scj_tree.specs.Heights.{highest, weight, node_height, height, super_height, body_height, first_too_deep}
 use Rattle.scj_tree.specs.Recursion.{below, lookup}
-use Rattle.scj_tree.specs.Shape.{children, optional, place_of}
+use Rattle.scj_tree.specs.Shape.{children, optional, position_of}
 use Rattle.scj_tree.specs.declared.nodes.Node.{Node}
 use Rattle.scj_tree.specs.declared.nodes.Node.TheVariants.{Method, Constructor}
 use Rattle.scj_tree.proofs.RecursionLemmas.{by_smaller-is, lookup-front, lookup-next}
@@ -132,7 +132,7 @@ module _ (nodes : List Node) (first : ℕ) (rows : List ℕ) (next : ℕ) (g : G
     within = let P : List Node → Type 0 = ChildrenWithin first next in subst P whole g.within
 
     pub gone_deep : 64 < body_height_by (row first rows) node →
-        first_too_deep nodes (drop first nodes) ≡ Some (place_of node)
+        first_too_deep nodes (drop first nodes) ≡ Some (position_of node)
     unfolding first_too_deep ChildrenWithin
     gone_deep h =
         let same = same-body nodes first next rows node g.holds within.0 in

@@ -3,7 +3,7 @@ use Rattle.std.proofs.Common.{◌≡◌, List, [], ◌∷◌, ◌++◌, Option, 
 use Rattle.parser_machine.specs.Machine.{answer, finished, run, step}
 use Rattle.parser_machine.specs.States.{State}
 use Rattle.scj_base.specs.declared.places.Pos.{Pos}
-use Rattle.scj_tree.specs.Lexemes.{Lexeme, place_of_lexeme}
+use Rattle.scj_tree.specs.Lexemes.{Lexeme, position_of_lexeme}
 use Rattle.parser_steps.specs.Outcomes.{to, up_to, way}
 
 -- the state of a way that goes over all lexemes
@@ -14,7 +14,7 @@ way_run st last [] e = (cc, cc)
 way_run st last (t ∷ o) e = go (λ next h. way_run next last o h) (step st t) e
   where
     go : ((next : State) → way next o ≡ to last → (run next o ≡ Some last) × (answer next o ≡ finished last)) →
-        (r : Option State) → elim r [ Some next ↦ way next o | None ↦ up_to (place_of_lexeme t) ] ≡ to last →
+        (r : Option State) → elim r [ Some next ↦ way next o | None ↦ up_to (position_of_lexeme t) ] ≡ to last →
         (elim r [ Some next ↦ run next o | None ↦ None ] ≡ Some last) ×
         (elim r [ Some next ↦ answer next o | None ↦ None ] ≡ finished last)
     go f None e = cc
@@ -29,7 +29,7 @@ pub record IsStopped (st : State) (i : List Lexeme) (p : Pos) : Type 0 where
   pub whole : i ≡ before ++ refused ∷ behind
   pub reached : run st before ≡ Some state
   pub refuses : step state refused ≡ None
-  pub place : place_of_lexeme refused ≡ p
+  pub place : position_of_lexeme refused ≡ p
 
 pub way_stops : (st : State) (i : List Lexeme) (p : Pos) → way st i ≡ up_to p → IsStopped st i p
 unfolding way run
@@ -37,7 +37,7 @@ way_stops st [] p e = cc
 way_stops st (t ∷ o) p e = go (λ next h. way_stops next o p h) (step st t) refl e
   where
     go : ((next : State) → way next o ≡ up_to p → IsStopped next o p) → (r : Option State) → step st t ≡ r →
-        elim r [ Some next ↦ way next o | None ↦ up_to (place_of_lexeme t) ] ≡ up_to p → IsStopped st (t ∷ o) p
+        elim r [ Some next ↦ way next o | None ↦ up_to (position_of_lexeme t) ] ≡ up_to p → IsStopped st (t ∷ o) p
     go f None h e =
         record {
           before = [];

@@ -1,7 +1,7 @@
 //! How deep the bodies of a file nest.
 
 ghost use Rattle.std.specs.Prelude.{ℕ, ◌≡◌, ◌+◌, ◌<◌, ◌≤◌, ◌^◌, drop, length, IfOk};
-ghost use Rattle.scj_tree.specs.Heights.{highest, weight as weight_of, too_deep as place_too_deep};
+ghost use Rattle.scj_tree.specs.Heights.{highest, weight as weight_of, too_deep as position_too_deep};
 ghost use Rattle.scj_tree.specs.Shape.{children, optional};
 ghost use Rattle.scj_parser.specs.HeightRowsSupport.{row, body_height_by, super_height_by, ChildrenWithin};
 
@@ -154,7 +154,7 @@ pub fn too_deep(alloc: Global, nodes: &[Node], first: usize) -> Result<Option<Po
     requires behind { first ≤ length nodes.now }
     requires few { length nodes.now < 2 ^ 32 }
     requires children { ChildrenWithin first first (drop first nodes.now) }
-    ensures { IfOk result (λ position. position ≡ place_too_deep first nodes.now) }
+    ensures { IfOk result (λ position. position ≡ position_too_deep first nodes.now) }
 {
     let mut heights = Heights {
         first,

@@ -1,9 +1,9 @@
 -- All definitions of the rules open, so that small programs compute through them.
 use Rattle.scj_tree.specs.Forest.{joined}
-use Rattle.scj_tree.specs.Shape.{place_of, children}
+use Rattle.scj_tree.specs.Shape.{position_of, children}
 use Rattle.scj_tree.specs.Recursion.{listed, joined_below, bottom_up, top_down}
 use Rattle.scj_builtins.specs.Framework.{parameter_list, framework_classes, framework_methods}
-use Rattle.scj_rules.specs.AnnotationRules.{scoped_variable_at, scoped_declaration_at, a1, a2_place, a2, field_rule, a3_to_a5, seen_in, parameters_differ, scopes_differ, a6_of, a7_and_a8_of, a6_to_a8, a9, annotation_breaks}
+use Rattle.scj_rules.specs.AnnotationRules.{scoped_variable_at, scoped_declaration_at, a1, a2_position, a2, field_rule, a3_to_a5, seen_in, parameters_differ, scopes_differ, a6_of, a7_and_a8_of, a6_to_a8, a9, annotation_breaks}
 use Rattle.scj_rules.specs.Bindings.{array_class, variable_binding, field_binding, meaning_binding, access_binding, class_of_type, second_class, called_on, target, method_binding, binding_of, binding_at, bindings_in}
 use Rattle.scj_rules.specs.ClassRules.{c1, c2, c3, c4, c5, is_same_type, class_written, narrower_kind, is_result_of, has_types_of, c6, abstract_methods, is_left_open, c7, safelets_from, c8_of, c8, c9_type, c9_element, c9, c10, inherits_as, numbers_from, is_framework_method, c11, class_breaks, node_breaks}
 use Rattle.scj_rules.specs.Classes.{user_classes, class_names, class_number, result_written, parameter_written, framework_method, framework_methods_on, framework_row, framework_rows_from, superclass_written, user_row, written_rows, superclasses, classes_above, all_interfaces, is_super, is_sub, own_field, field_named, own_method, method_named as method_named_of_Classes, method_above, framework_row_named, own_instance_fields, instance_fields, hidden_fields, field_nodes, field_number, method_nodes, method_number, kinds_of, more_than_one, is_extended, is_implemented, forbidden_interfaces, forbidden_supers, is_empty, is_well_headed, counted_row, counted_from}
@@ -21,8 +21,8 @@ use Rattle.scj_rules.specs.Views.{modifiers_of, type_of_node, named_super, named
 use Rattle.scj_rules.specs.Words.{along, chain, chain_behind, named_twice}
 
 unfoldable pub computing : Unit {0}
-unfolding joined place_of children listed joined_below bottom_up top_down framework_classes framework_methods
-    scoped_variable_at scoped_declaration_at a1 a2_place a2 field_rule a3_to_a5 seen_in parameters_differ scopes_differ
+unfolding joined position_of children listed joined_below bottom_up top_down framework_classes framework_methods
+    scoped_variable_at scoped_declaration_at a1 a2_position a2 field_rule a3_to_a5 seen_in parameters_differ scopes_differ
     a6_of a7_and_a8_of a6_to_a8 a9 annotation_breaks array_class variable_binding field_binding meaning_binding
     access_binding class_of_type second_class called_on target method_binding binding_of binding_at bindings_in c1 c2 c3
     c4 c5 is_same_type class_written narrower_kind is_result_of has_types_of c6 abstract_methods is_left_open c7

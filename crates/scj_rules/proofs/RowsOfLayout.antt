@@ -10,19 +10,19 @@ use Rattle.scj_rules.specs.declared.views.Declared.{Declared}
 use Rattle.scj_rules.specs.declared.views.SlotKind.TheVariants.{Number, Truth, Reference}
 use Rattle.scj_rules.specs.Words.{◌>>=◌}
 use Rattle.scj_rules.specs.Contexts.{Declarations, declarations_of}
-use Rattle.scj_rules.specs.Layout.{kind_of_type, declared_fields, field_kind, literal_written, field_literal, slots, slot_of, fields_with_literal, declaring_class, size_with_slots, element_kind, class_of_elements, static_fields, static_place, place_of_field}
+use Rattle.scj_rules.specs.Layout.{kind_of_type, declared_fields, field_kind, literal_written, field_literal, slots, slot_of, fields_with_literal, declaring_class, size_with_slots, element_kind, class_of_elements, static_fields, static_index, index_of_field}
 use Rattle.scj_rules.specs.declared.views.Body.TheVariants.{Written as written, Empty as empty}
-use Rattle.scj_rules.specs.Bodies.{method_node, method_name, number_of_method, body_of_method, body_named, invoked_method, body_of, class_of_body, constructor_body, locals, is_synchronized_body, number_literal, number_returned, size_constant, declared_size, size_of, safelet_class, class_place}
+use Rattle.scj_rules.specs.Bodies.{method_node, method_name, number_of_method, body_of_method, body_named, invoked_method, body_of, class_of_body, constructor_body, locals, is_synchronized_body, number_literal, number_returned, size_constant, declared_size, size_of, safelet_class, class_position}
 use Rattle.scj_rules.proofs.Computing.{computing}
 use Rattle.scj_rules.proofs.RowOfUse.{controller}
 use Rattle.scj_rules.proofs.RowOfBindings.{small_program}
 
 unfoldable pub computing_layout : Unit {0}
 unfolding computing kind_of_type declared_fields field_kind literal_written slots slot_of declaring_class
-    fields_with_literal size_with_slots element_kind class_of_elements static_fields static_place place_of_field
+    fields_with_literal size_with_slots element_kind class_of_elements static_fields static_index index_of_field
     method_node method_name number_of_method body_of_method body_named invoked_method body_of class_of_body
     constructor_body is_synchronized_body number_literal number_returned size_constant declared_size size_of
-    safelet_class class_place
+    safelet_class class_position
 computing_layout = tt
 
 abbrev p : Declarations
@@ -100,7 +100,7 @@ classes_of_bodies : map (class_of_body p) (112 ∷ 123 ∷ 15 ∷ []) ≡ Some 1
 unfolding computing_layout
 classes_of_bodies = refl
 
-place_of_sensor : class_place p 22 ≡ record { file = 1; line = 26; col = 55 }
+place_of_sensor : class_position p 22 ≡ record { file = 1; line = 26; col = 55 }
 unfolding computing_layout
 place_of_sensor = refl
 
@@ -119,11 +119,11 @@ slots_of_inherited_fields :
 unfolding computing_layout
 slots_of_inherited_fields = refl
 
-statics : static_place q 1 ∷ static_place q 0 ∷ [] ≡ Some 0 ∷ None ∷ []
+statics : static_index q 1 ∷ static_index q 0 ∷ [] ≡ Some 0 ∷ None ∷ []
 unfolding computing_layout
 statics = refl
 
-places_of_fields : map (place_of_field q) (0 ∷ 1 ∷ 2 ∷ 3 ∷ 5 ∷ []) ≡ Some 0 ∷ Some 0 ∷ Some 1 ∷ Some 2 ∷ None ∷ []
+places_of_fields : map (index_of_field q) (0 ∷ 1 ∷ 2 ∷ 3 ∷ 5 ∷ []) ≡ Some 0 ∷ Some 0 ∷ Some 1 ∷ Some 2 ∷ None ∷ []
 unfolding computing_layout
 places_of_fields = refl
 

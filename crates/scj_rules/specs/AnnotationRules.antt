@@ -35,7 +35,7 @@ scoped_declaration_at p id (Method position name flags result_type parameters bo
     in_class p id (λ class. option_map (λ (m : DeclaredMethod). scoped_result p class m) (method_at p.nodes id))
 scoped_declaration_at p id (Parameter position name flags declared_type) = scoped_variable_at p id
 scoped_declaration_at p id (Local position name flags declared_type) = scoped_variable_at p id
-scoped_declaration_at p id (LocalWithValue position name_place name flags declared_type value) = scoped_variable_at p id
+scoped_declaration_at p id (LocalWithValue position name_position name flags declared_type value) = scoped_variable_at p id
 scoped_declaration_at p id _ = None
 
 -- the rule is broken at the value of an annotation, where there is one of which the test holds
@@ -60,14 +60,14 @@ abbrev pub has_other_scope : Declarations → ℕ → Bool
 has_other_scope p class =
     differs_from_above p (scope_written_in p class) (scope_above p class) (is_implied_immortal p class)
 
-unfoldable pub a2_place : Pos → Option Written → Pos
-a2_place position None = position
-a2_place position (Some w) = w.position
+unfoldable pub a2_position : Pos → Option Written → Pos
+a2_position position None = position
+a2_position position (Some w) = w.position
 
 unfoldable pub a2 : Declarations → ℕ → Node → List Found
 a2 p id (Class position name flags header members) =
     found_at (class_number p.names name)
-    (λ class. broken (has_other_scope p class) A2 (a2_place position (scope_written_in p class)))
+    (λ class. broken (has_other_scope p class) A2 (a2_position position (scope_written_in p class)))
 a2 p id _ = []
 
 -- A3, field scope: in an annotated class neither the class's scope nor an outer one. A4, field of unannotated class:

@@ -98,7 +98,7 @@ method_binding p types r arguments f =
 unfoldable pub binding_of : Declarations → Types → ℕ → Node → Binding
 binding_of p types id (Parameter position name flags declared_type) = variable_binding p id id
 binding_of p types id (Local position name flags declared_type) = variable_binding p id id
-binding_of p types id (LocalWithValue position name_place name flags declared_type value) = variable_binding p id id
+binding_of p types id (LocalWithValue position name_position name flags declared_type value) = variable_binding p id id
 binding_of p types id (Field position name flags declared_type equals value) =
     plain_or (λ (row : FoundField). field_binding p row.field)
     ((context p id).class >>= λ class. accessed_field p (the_class class) name)
@@ -112,11 +112,11 @@ binding_of p types id (FieldAccess position name object) =
 binding_of p types id (Call position name object arguments) =
     plain_or (λ r. plain_or (method_binding p types r arguments) (called_method p r name))
     (call_receiver p types id object)
-binding_of p types id (New position name_place name arguments) =
+binding_of p types id (New position name_position name arguments) =
     if is_form_part p id then Plain else class_binding (class_number p.names name)
 binding_of p types id (NewArray position element length) =
     class_binding (written_type p element >>= array_of >>= array_class p)
-binding_of p types id (Cast position name_place name operand) = class_binding (class_number p.names name)
+binding_of p types id (Cast position name_position name operand) = class_binding (class_number p.names name)
 binding_of p types id _ = Plain
 
 unfoldable pub binding_at : Declarations → Types → ℕ → Binding

@@ -133,5 +133,5 @@ safelet_class p = find (is_concrete_safelet p) (numbers_from 0 p.classes)
 -- ---- places of faults that no node has
 
 -- where a user class is named
-unfoldable pub class_place : Declarations → ℕ → Pos
-class_place p class = elim (user_class_in p.classes class) [ None ↦ nowhere | Some c ↦ c.position ]
+unfoldable pub class_position : Declarations → ℕ → Pos
+class_position p class = elim (user_class_in p.classes class) [ None ↦ nowhere | Some c ↦ c.position ]

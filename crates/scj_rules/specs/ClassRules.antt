@@ -188,11 +188,11 @@ safelets_from rows class (row ∷ more) =
     ]
 
 -- line 1, column 1 of the first file
-abbrev pub first_place : Pos
-first_place = record { file = 0; line = 1; col = 1 }
+abbrev pub first_position : Pos
+first_position = record { file = 0; line = 1; col = 1 }
 
 unfoldable pub c8_of : List WrittenClass → List Found
-c8_of [] = record { pos = first_place; rule = C8 } ∷ []
+c8_of [] = record { pos = first_position; rule = C8 } ∷ []
 c8_of (first ∷ others) = broken_at_each (λ (c : WrittenClass). c.position) C8 others
 
 -- C8, not exactly one safelet: there is none, or there are others after the first (JSR 302, Safelet)
@@ -234,10 +234,10 @@ c9 p (Field position name flags declared_type equals value) = at_node p (c9_type
 c9 p (Method position name flags result_type parameters body) = at_node p (c9_type p) result_type
 c9 p (Parameter position name flags declared_type) = at_node p (c9_type p) declared_type
 c9 p (Local position name flags declared_type) = at_node p (c9_type p) declared_type
-c9 p (LocalWithValue position name_place name flags declared_type value) = at_node p (c9_type p) declared_type
+c9 p (LocalWithValue position name_position name flags declared_type value) = at_node p (c9_type p) declared_type
 c9 p (TypeArgument position name) = broken (names_no_mission p name) C9 position
-c9 p (New position name_place name arguments) = broken (names_no_class p name) C9 name_place
-c9 p (Cast position name_place name operand) = broken (names_no_class p name) C9 name_place
+c9 p (New position name_position name arguments) = broken (names_no_class p name) C9 name_position
+c9 p (Cast position name_position name operand) = broken (names_no_class p name) C9 name_position
 c9 p (NewArray position element length) = at_node p (c9_element p) element
 c9 p _ = []
 
@@ -324,8 +324,8 @@ c11 p id (Parameter position name flags declared_type) =
     broken (is_misplaced_on_variable (modifiers_at p.nodes flags)) C11 position
 c11 p id (Local position name flags declared_type) =
     broken (is_misplaced_on_variable (modifiers_at p.nodes flags)) C11 position
-c11 p id (LocalWithValue position name_place name flags declared_type value) =
-    broken (is_misplaced_on_variable (modifiers_at p.nodes flags)) C11 name_place
+c11 p id (LocalWithValue position name_position name flags declared_type value) =
+    broken (is_misplaced_on_variable (modifiers_at p.nodes flags)) C11 name_position
 c11 p id _ = []
 
 -- the breaks at a user class, and at a node

@@ -36,8 +36,8 @@ unfoldable pub field_kind : Declarations → ℕ → Option SlotKind
 field_kind p field = option_map (λ (f : Declared). kind_of_type f.declared_type) (field_numbered p field)
 
 -- the place of a field among these
-abbrev pub place_among : List Declared → Declared → Option ℕ
-place_among fields f = position (λ (other : Declared). other.node == f.node) fields
+abbrev pub index_among : List Declared → Declared → Option ℕ
+index_among fields f = position (λ (other : Declared). other.node == f.node) fields
 
 -- the node of the literal with which a field is declared, if one is written (JLS 8.3.2)
 unfoldable pub literal_written : Node → Option ℕ
@@ -57,13 +57,13 @@ slots p class = hidden_fields p.classes class + length (instance_fields p.classe
 unfoldable pub slot_of : Declarations → ℕ → ℕ → Option ℕ
 slot_of p class field =
     field_numbered p field >>= (λ f.
-    option_map (λ k. hidden_fields p.classes class + k) (place_among (instance_fields p.classes class) f))
+    option_map (λ k. hidden_fields p.classes class + k) (index_among (instance_fields p.classes class) f))
 
 -- the class that declares a field
 unfoldable pub declaring_class : Declarations → ℕ → Option ℕ
 declaring_class p field =
     field_numbered p field
-    >>= (λ f. position (λ (row : ClassRow). is_some (place_among row.fields f)) p.classes)
+    >>= (λ f. position (λ (row : ClassRow). is_some (index_among row.fields f)) p.classes)
 
 -- the hidden slots of a handler: its priority and its storage; of a periodic one its start and its period too
 abbrev pub priority_slot : ℕ
@@ -115,11 +115,11 @@ unfoldable pub static_fields : Declarations → List Declared
 static_fields p = filter (λ (f : Declared). f.modifiers.is_static) (declared_fields p)
 
 -- the place of a static field among all statics
-unfoldable pub static_place : Declarations → ℕ → Option ℕ
-static_place p field = field_numbered p field >>= place_among (static_fields p)
+unfoldable pub static_index : Declarations → ℕ → Option ℕ
+static_index p field = field_numbered p field >>= index_among (static_fields p)
 
 -- where the value of a field lies: a static field's at its place among all statics, another one's in the slot that the
 -- field has in the objects of the class that declares it. In those of each class under that one it has the same slot
-unfoldable pub place_of_field : Declarations → ℕ → Option ℕ
-place_of_field p field =
-    or_else (static_place p field) (declaring_class p field >>= (λ class. slot_of p class field))
+unfoldable pub index_of_field : Declarations → ℕ → Option ℕ
+index_of_field p field =
+    or_else (static_index p field) (declaring_class p field >>= (λ class. slot_of p class field))

@@ -10,12 +10,12 @@ use Rattle.scj_base.specs.declared.places.Pos.{Pos}
 use Rattle.scj_base.specs.Rule.{number_of}
 
 -- the order of places: by file, line and column
-abbrev pub place_order : Pos → Pos → Ordering
-place_order a b = ordering_then (nat_cmp a.file b.file) (ordering_then (nat_cmp a.line b.line) (nat_cmp a.col b.col))
+abbrev pub position_order : Pos → Pos → Ordering
+position_order a b = ordering_then (nat_cmp a.file b.file) (ordering_then (nat_cmp a.line b.line) (nat_cmp a.col b.col))
 
 -- the order of a report: by place, and at one place by rule
 abbrev pub report_order : Found → Found → Ordering
-report_order a b = ordering_then (place_order a.pos b.pos) (nat_cmp (number_of a.rule) (number_of b.rule))
+report_order a b = ordering_then (position_order a.pos b.pos) (nat_cmp (number_of a.rule) (number_of b.rule))
 
 -- the list has exactly the breaks, sorted and without repetition
 pub record IsReport (breaks : Rule → Pos → Type 0) (found : List Found) : Type 0 where

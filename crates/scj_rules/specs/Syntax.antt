@@ -4,7 +4,7 @@
 use Rattle.std.specs.Prelude.{◌≡◌, ℕ, ◌+◌, List, [], ◌∷◌}
 use Rattle.scj_base.specs.declared.findings.Found.{Found}
 use Rattle.scj_base.specs.declared.lexemes.Token.{Token}
-use Rattle.scj_base.specs.Lex.{Lex, LexBreak, place_of}
+use Rattle.scj_base.specs.Lex.{Lex, LexBreak, position_of}
 use Rattle.scj_tree.specs.Forest.{Forest, forest_of}
 use Rattle.scj_tree.specs.Lexemes.{Lexeme, lexemes_of}
 use Rattle.scj_tree.specs.Files.{FileRead, BreaksGrammar}
@@ -15,7 +15,7 @@ use Rattle.scj_tree.specs.Files.{FileRead, BreaksGrammar}
 pub record BreaksLexemes (file : ℕ) (text : List ℕ) (found : Found) : Type 0 where
   pub offset : ℕ
   pub broken : LexBreak text found.rule offset
-  pub is_place : found.pos ≡ place_of file text offset
+  pub is_position : found.pos ≡ position_of file text offset
 
 -- ---- files one behind the other; `file` is the number of the first
 

@@ -12,7 +12,7 @@ use Rattle.scj_rules.specs.declared.typing.Ty.{Ty}
 use Rattle.scj_rules.specs.declared.typing.Ty.TheVariants.{Int, Bool as Boolean, NullTy, Label, Class as ClassTy}
 use Rattle.scj_rules.specs.Definitions.{read}
 use Rattle.scj_rules.specs.Words.{◌>>=◌, is_among, broken, holds}
-use Rattle.scj_rules.specs.Views.{place_at, type_at, DeclaredConstructor, variable_at}
+use Rattle.scj_rules.specs.Views.{position_at, type_at, DeclaredConstructor, variable_at}
 use Rattle.scj_rules.specs.Classes.{ClassRow, FoundMethod, is_user_class, class_number, superclass_in, all_interfaces, framework_row_named, is_empty}
 use Rattle.scj_rules.specs.ClassRules.{is_same_type}
 use Rattle.scj_rules.specs.Contexts.{Declarations, context, variable_named, has_object}
@@ -69,12 +69,12 @@ type_of p types id (Parenthesized position inner) = types inner
 type_of p types id (Binary position operator left right) =
     types left >>= λ a. types right >>= binary_type p.classes operator a
 type_of p types id (Unary position operator operand) = types operand >>= unary_type operator
-type_of p types id (Cast position name_place name operand) = types operand >>= λ t. class_type_named p name
+type_of p types id (Cast position name_position name operand) = types operand >>= λ t. class_type_named p name
 type_of p types id (FieldAccess position name object) = receiver p types object >>= λ r. access_type p r name
 type_of p types id (Call position name object arguments) =
     call_receiver p types id object >>= λ r. all_types types arguments >>= λ ts. call_type p r name
 type_of p types id (Element position array index) = types array >>= λ a. types index >>= λ i. element_type a
-type_of p types id (New position name_place name arguments) =
+type_of p types id (New position name_position name arguments) =
     if is_form_part p id then None else all_types types arguments >>= λ ts. class_type_named p name
 type_of p types id (NewArray position element length) = types length >>= λ n. written_type p element >>= array_of
 type_of p types id _ = None
@@ -95,8 +95,8 @@ is_declared_already p id name = is_some (variable_named p id name)
 unfoldable pub t2 : Declarations → Types → ℕ → Node → List Found
 t2 p types id (Parameter position name flags declared_type) = broken (is_declared_already p id name) T2 position
 t2 p types id (Local position name flags declared_type) = broken (is_declared_already p id name) T2 position
-t2 p types id (LocalWithValue position name_place name flags declared_type value) =
-    broken (is_declared_already p id name) T2 name_place
+t2 p types id (LocalWithValue position name_position name flags declared_type value) =
+    broken (is_declared_already p id name) T2 name_position
 t2 p types id _ = []
 
 -- T3, operand: an operand, an index, an array's length or a reference has another type than is asked (JLS 15.10 to
@@ -218,7 +218,7 @@ misfits_super_call p types id arguments =
 unfoldable pub t6 : Declarations → Types → ℕ → Node → List Found
 t6 p types id (Call position name object arguments) =
     broken (holds (call_receiver p types id object) (λ r. misfits_method p types r name arguments)) T6 position
-t6 p types id (New position name_place name arguments) = broken (misfits_new p types id name arguments) T6 position
+t6 p types id (New position name_position name arguments) = broken (misfits_new p types id name arguments) T6 position
 t6 p types id (SuperCall position arguments) = broken (misfits_super_call p types id arguments) T6 position
 t6 p types id (Class position name flags header members) =
     broken (holds (class_number p.names name) (misfits_class p)) T6 position
@@ -243,7 +243,7 @@ misfits_initial_value p types declared_type value = misfits_value p (written_typ
 
 unfoldable pub t7 : Declarations → Types → ℕ → Node → List Found
 t7 p types id (Assign position target value) = broken (misfits_assignment p types target value) T7 position
-t7 p types id (LocalWithValue position name_place name flags declared_type value) =
+t7 p types id (LocalWithValue position name_position name flags declared_type value) =
     broken (misfits_initial_value p types declared_type value) T7 position
 t7 p types id (Field position name flags declared_type (Some equals) (Some value)) =
     broken (misfits_initial_value p types declared_type value) T7 equals
@@ -252,7 +252,7 @@ t7 p types id _ = []
 -- T8, condition: not boolean (JLS 14.9, 14.12, 14.14)
 abbrev pub misfits_condition : Declarations → Types → ℕ → List Found
 misfits_condition p types condition =
-    broken (holds (types condition) (λ t. not (is_boolean t))) T8 (place_at p.nodes condition)
+    broken (holds (types condition) (λ t. not (is_boolean t))) T8 (position_at p.nodes condition)
 
 unfoldable pub t8 : Declarations → Types → ℕ → Node → List Found
 t8 p types id (If position condition then_part else_part) = misfits_condition p types condition
@@ -313,7 +313,7 @@ makes_no_object p types name arguments =
     holds (all_types types arguments) (λ ts. holds (class_number p.names name) (kind_is is_never_made p))
 
 unfoldable pub t11 : Declarations → Types → ℕ → Node → List Found
-t11 p types id (New position name_place name arguments) = broken (makes_no_object p types name arguments) T11 position
+t11 p types id (New position name_position name arguments) = broken (makes_no_object p types name arguments) T11 position
 t11 p types id _ = []
 
 -- T12, cast: the types aren't related (JLS 15.16)
@@ -326,7 +326,7 @@ misfits_cast p types name operand =
     (λ t. holds (class_number p.names name) (λ class. not (are_related p.classes t (ClassTy class))))
 
 unfoldable pub t12 : Declarations → Types → ℕ → Node → List Found
-t12 p types id (Cast position name_place name operand) = broken (misfits_cast p types name operand) T12 position
+t12 p types id (Cast position name_position name operand) = broken (misfits_cast p types name operand) T12 position
 t12 p types id _ = []
 
 -- T13, this in static: `this` or an instance member where there is no object (JLS 15.8.3, 8.8.7.1)
@@ -402,7 +402,7 @@ misfits_long p id name result_type body =
 
 -- asked of a form class whatever the arguments or the length are
 unfoldable pub t14 : Declarations → Types → ℕ → Node → List Found
-t14 p types id (New position name_place name arguments) = broken (is_misplaced_form p id name) T14 position
+t14 p types id (New position name_position name arguments) = broken (is_misplaced_form p id name) T14 position
 t14 p types id (NewArray position element length) =
     broken (holds (read p.nodes (element_class p) element) (kind_is is_form p)) T14 position
 t14 p types id (Class position name flags header members) =

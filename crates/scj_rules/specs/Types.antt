@@ -255,7 +255,7 @@ is_form _ = false
 
 -- the arguments of `new class(..)` at this node, where they are so many
 unfoldable pub new_of : Declarations → ℕ → ℕ → Node → Option (List ℕ)
-new_of p class count (New position name_place name arguments) =
+new_of p class count (New position name_position name arguments) =
     if holds (class_number p.names name) (λ c. c == class) && (length arguments == count) then Some arguments else None
 new_of p class count _ = None
 

@@ -14,7 +14,7 @@ use Rattle.scj_rules.specs.declared.typing.Scope.{Scope}
 use Rattle.scj_rules.specs.declared.typing.Scope.TheVariants.{Any, This, Caller, In}
 use Rattle.scj_rules.specs.Definitions.{read}
 use Rattle.scj_rules.specs.Words.{broken, found_at, holds, ◌>>=◌}
-use Rattle.scj_rules.specs.Views.{place_at, DeclaredMethod, method_at}
+use Rattle.scj_rules.specs.Views.{position_at, DeclaredMethod, method_at}
 use Rattle.scj_rules.specs.Classes.{FoundMethod, is_user_class, class_number, method_named}
 use Rattle.scj_rules.specs.Contexts.{Declarations, context, in_class, in_member}
 use Rattle.scj_rules.specs.Types.{meaning, receiver, call_receiver, accessed_field, called_method, method_called, called_builtin, constructor_parameters}
@@ -87,10 +87,10 @@ scope_of p types scopes id (FieldAccess position name object) =
 scope_of p types scopes id (Call position name object arguments) =
     call_receiver p types id object >>= (λ r.
     called_method p r name >>= scope_of_call p (receiver_scope p scopes id object) (current_at p id))
-scope_of p types scopes id (New position name_place name arguments) = class_number p.names name >>= scope_of_new p id
+scope_of p types scopes id (New position name_position name arguments) = class_number p.names name >>= scope_of_new p id
 scope_of p types scopes id (NewArray position element length) = current_at p id
 scope_of p types scopes id (Element position array index) = types array >>= scope_of_element p (scopes array)
-scope_of p types scopes id (Cast position name_place name operand) =
+scope_of p types scopes id (Cast position name_position name operand) =
     class_number p.names name >>= (λ class. scope_in_class p class (scopes operand))
 scope_of p types scopes id _ = None
 
@@ -112,7 +112,7 @@ abbrev pub misfits_new : Declarations → ℕ → List ℕ → Bool
 misfits_new p id name = holds (class_number p.names name) (lies_elsewhere p id)
 
 unfoldable pub e1 : Declarations → Types → Scopes → ℕ → Node → List Found
-e1 p types scopes id (New position name_place name arguments) = broken (misfits_new p id name) E1 position
+e1 p types scopes id (New position name_position name arguments) = broken (misfits_new p id name) E1 position
 e1 p types scopes id _ = []
 
 -- E2, call: the callee runs neither in CALLER, nor in THIS where the receiver lies in the current scope, nor in a named
@@ -146,7 +146,7 @@ misfit_scope value target = holds value (λ s. holds target (λ t. not (fits s t
 unfoldable pub misfit_arguments :
     Declarations → Scopes → (Declared → Option Scope) → List Declared → List ℕ → List Found
 misfit_arguments p scopes parameter (d ∷ ds) (a ∷ rest) =
-    broken (misfit_scope (scopes a) (parameter d)) E3 (place_at p.nodes a)
+    broken (misfit_scope (scopes a) (parameter d)) E3 (position_at p.nodes a)
     ++ misfit_arguments p scopes parameter ds rest
 misfit_arguments p scopes parameter _ _ = []
 
@@ -165,7 +165,7 @@ unfoldable pub e3 : Declarations → Types → Scopes → ℕ → Node → List 
 e3 p types scopes id (Call position name object arguments) =
     found_at (called_user_method p types id object name)
     (e3_of_call p scopes (receiver_scope p scopes id object) (current_at p id) arguments)
-e3 p types scopes id (New position name_place name arguments) =
+e3 p types scopes id (New position name_position name arguments) =
     found_at (class_number p.names name) (λ class. e3_of_constructor p scopes (scope_of_new p id class) arguments class)
 e3 p types scopes id (SuperCall position arguments) =
     found_at (superclass_at p id) (e3_of_constructor p scopes (this_at p id) arguments)
@@ -186,7 +186,7 @@ e4_and_e5 p types scopes id (Assign position target value) =
     found_at (read p.nodes (target_rule p target) target)
     (λ rule.
     broken (misfit_scope (scopes value) (scopes target) && not (is_guarded_store p types id target value)) rule position)
-e4_and_e5 p types scopes id (LocalWithValue position name_place name flags declared_type value) =
+e4_and_e5 p types scopes id (LocalWithValue position name_position name flags declared_type value) =
     broken (misfit_scope (scopes value) (variable_scope_at p id)) E4 position
 e4_and_e5 p types scopes id _ = []
 
@@ -265,7 +265,7 @@ abbrev pub misfits_cast : Declarations → Option Scope → List ℕ → Bool
 misfits_cast p operand name = holds (class_number p.names name) (lies_outside p operand)
 
 unfoldable pub e9 : Declarations → Types → Scopes → ℕ → Node → List Found
-e9 p types scopes id (Cast position name_place name operand) = broken (misfits_cast p (scopes operand) name) E9 position
+e9 p types scopes id (Cast position name_position name operand) = broken (misfits_cast p (scopes operand) name) E9 position
 e9 p types scopes id _ = []
 
 -- E10, array: of a class that is annotated with a scope that is neither the current one, by name, nor outside it

@@ -4,7 +4,7 @@ use Rattle.std.specs.Prelude.{ℕ, Bool, true, false, List, [], slice_get, filte
 use Rattle.scj_base.specs.declared.places.Pos.{Pos}
 use Rattle.scj_tree.specs.declared.nodes.Node.{Node}
 use Rattle.scj_tree.specs.declared.nodes.Node.TheVariants.{Class, Flags, Supers, SuperType, IntType, BooleanType, ClassType, VoidType, LongType, Field, Method, Constructor, Parameters, Parameter, SuperCall, Local, LocalWithValue}
-use Rattle.scj_tree.specs.Shape.{place_of}
+use Rattle.scj_tree.specs.Shape.{position_of}
 use Rattle.scj_rules.specs.declared.scopes.Written.{Written}
 use Rattle.scj_rules.specs.Definitions.{read, written_of}
 use Rattle.scj_rules.specs.Words.{◌>>=◌}
@@ -17,8 +17,8 @@ use Rattle.scj_rules.specs.declared.views.Declared.{Declared}
 abbrev pub nowhere : Pos
 nowhere = record { file = 0; line = 0; col = 0 }
 
-abbrev pub place_at : List Node → ℕ → Pos
-place_at nodes id = elim (slice_get nodes id) [ None ↦ nowhere | Some node ↦ place_of node ]
+abbrev pub position_at : List Node → ℕ → Pos
+position_at nodes id = elim (slice_get nodes id) [ None ↦ nowhere | Some node ↦ position_of node ]
 
 abbrev pub no_modifiers : Modifiers
 no_modifiers =
@@ -84,8 +84,8 @@ unfoldable pub variable_of : List Node → ℕ → Node → Option Declared
 variable_of nodes id (Parameter position name flags declared_type) =
     Some (declared nodes id position name flags declared_type)
 variable_of nodes id (Local position name flags declared_type) = Some (declared nodes id position name flags declared_type)
-variable_of nodes id (LocalWithValue position name_place name flags declared_type value) =
-    Some (declared nodes id name_place name flags declared_type)
+variable_of nodes id (LocalWithValue position name_position name flags declared_type value) =
+    Some (declared nodes id name_position name flags declared_type)
 variable_of nodes id _ = None
 
 abbrev pub variable_at : List Node → ℕ → Option Declared

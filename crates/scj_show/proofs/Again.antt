@@ -2,7 +2,7 @@
 use Rattle.std.proofs.Common.{◌≡◌, ℕ, Bool, false, ◌==◌, List, [], ◌∷◌, ◌++◌, Option, Some, None, slice_get, length, refl, sym, ap, subst, ◌∙◌, append_assoc, append-nil}
 use Rattle.scj_base.specs.Vocabulary.{word_implements, sign_right_parenthesis, sign_comma}
 use Rattle.scj_base.specs.declared.places.Pos.{Pos}
-use Rattle.scj_base.specs.Lex.{place_behind}
+use Rattle.scj_base.specs.Lex.{position_behind}
 use Rattle.scj_tree.specs.declared.nodes.Node.{Node}
 use Rattle.scj_tree.specs.declared.readings.PostKind.{PostKind}
 use Rattle.scj_tree.specs.Lexemes.{Lexeme, a_name as name_at, a_word as word_at, a_number as number_at, a_text as text_at, a_sign as sign_at, the_end}
@@ -125,14 +125,14 @@ each-put W (x ∷ ids) id = ap (λ (t : List Symbol). whole W x ++ t) (each-put 
 
 unfoldable pub laid : ℕ → List ℕ → List Symbol → List Lexeme → List Lexeme
 laid file before [] o = o
-laid file before (s ∷ ss) o = lexeme_at s (place_behind file before) ∷ laid file (before ++ printed s) ss o
+laid file before (s ∷ ss) o = lexeme_at s (position_behind file before) ∷ laid file (before ++ printed s) ss o
 
 pub laid-append : (file : ℕ) (before : List ℕ) (xs ys : List Symbol) (o : List Lexeme) →
     laid file before (xs ++ ys) o ≡ laid file before xs (laid file (before ++ canonical xs) ys o)
 unfolding laid canonical
 laid-append file before [] ys o = ap (λ (t : List ℕ). laid file t ys o) (sym (append-nil before))
 laid-append file before (x ∷ xs) ys o =
-    ap (λ (t : List Lexeme). lexeme_at x (place_behind file before) ∷ t) (laid-append file (before ++ printed x) xs ys o
+    ap (λ (t : List Lexeme). lexeme_at x (position_behind file before) ∷ t) (laid-append file (before ++ printed x) xs ys o
     ∙ ap (λ (t : List ℕ). laid file (before ++ printed x) xs (laid file t ys o))
     (append_assoc before (printed x) (canonical xs)))
 

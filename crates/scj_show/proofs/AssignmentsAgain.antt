@@ -4,7 +4,7 @@ use Rattle.std.specs.Prelude.{if◌then◌else◌, nat_le}
 use Rattle.std.proofs.lemmas.Bool.{false≢true, eqb-true, le-leb}
 use Rattle.scj_base.specs.Vocabulary.{sign_left_parenthesis, sign_right_parenthesis, sign_semicolon, sign_assign, sign_plus, sign_minus, sign_star, sign_slash, sign_percent, sign_and, sign_or, sign_xor, sign_shift_left, sign_shift_right, sign_shift_right_unsigned, sign_plus_plus, sign_minus_minus, sign_plus_assign, sign_minus_assign, sign_star_assign, sign_slash_assign, sign_percent_assign, sign_and_assign, sign_or_assign, sign_xor_assign, sign_shift_left_assign, sign_shift_right_assign, sign_shift_right_unsigned_assign}
 use Rattle.scj_base.specs.declared.places.Pos.{Pos}
-use Rattle.scj_base.specs.Lex.{place_behind}
+use Rattle.scj_base.specs.Lex.{position_behind}
 use Rattle.scj_tree.specs.declared.nodes.Node.{Node}
 use Rattle.scj_tree.specs.declared.nodes.Node.TheVariants.{Assign, Binary, Parenthesized, SimpleName, Number}
 use Rattle.scj_tree.specs.declared.readings.PostKind.{PostKind}
@@ -249,11 +249,11 @@ number_alike n e h = alike e h refl none_alike
 closed_again : (W : List Node) → ChildrenFirst 0 W →
     (file : ℕ) (M : List Node) (b b1 : List ℕ) (o2 : List Lexeme) {N N1 : List Node} {i o : List Lexeme} {id : ℕ} →
     Level 1 N i N1 o id → Front N1 W →
-    Told (Level 1) W M (laid file b (whole W id) (sign_at sign_right_parenthesis (place_behind file b1) ∷ o2))
-    (sign_at sign_right_parenthesis (place_behind file b1) ∷ o2) id
+    Told (Level 1) W M (laid file b (whole W id) (sign_at sign_right_parenthesis (position_behind file b1) ∷ o2))
+    (sign_at sign_right_parenthesis (position_behind file b1) ∷ o2) id
 unfolding begins_unary1 is_unary1_start
 closed_again W first file M b b1 o2 d f = let a =
-    level_again W first file M b (sign_at sign_right_parenthesis (place_behind file b1) ∷ o2) d f (λ c. refl) in
+    level_again W first file M b (sign_at sign_right_parenthesis (position_behind file b1) ∷ o2) d f (λ c. refl) in
     told_of a.nodes a.place a.grown a.read a.alike
 
 pub assignment_again : (W : List Node) → ChildrenFirst 0 W →
@@ -268,12 +268,12 @@ assignment_again W first file M b o2 (assignment {N1 = N1} {N2 = N2} {x = x} {e 
     let b1 : List ℕ = b ++ canonical (whole W x) in
     let b2 : List ℕ = b1 ++ printed (a_sign sign_assign) in
     let t2 : List Lexeme = laid file b2 (whole W e) o2 in
-    let t1 : List Lexeme = sign_at sign_assign (place_behind file b1) ∷ t2 in
+    let t1 : List Lexeme = sign_at sign_assign (position_behind file b1) ∷ t2 in
     let a1 = post_again W first file M b t1 d1 (front-then (level_front d2) (front-put _ _ f)) (λ c. c) in
     let a2 = level_again W first file a1.nodes b2 o2 d2 (front-put _ _ f) (λ c. u) in
     let same : laid file b (bare W (length N2)) o2 ≡ laid file b (whole W x) t1 =
     ap (λ (ss : List Symbol). laid file b ss o2) said ∙ simp laid-append in
-    told_moved same (told_of (put a2.nodes (Assign (place_behind file b1) a1.place a2.place)) (length a2.nodes)
+    told_moved same (told_of (put a2.nodes (Assign (position_behind file b1) a1.place a2.place)) (length a2.nodes)
     (front-then a1.grown (front-then a2.grown (front-one _))) (assignment a1.read.read a2.read)
     (λ V g. assign_alike at (front-at _ _ g) (a1.alike V (front-then a2.grown (front-put _ _ g)))
     (a2.alike V (front-put _ _ g))))
@@ -314,30 +314,30 @@ assignment_again W first file M b o2
     let b4 : List ℕ = b3 ++ printed (a_sign op) in
     let b5 : List ℕ = b4 ++ printed (a_sign sign_left_parenthesis) in
     let b6 : List ℕ = b5 ++ canonical (whole W e) in
-    let t6 : List Lexeme = sign_at sign_right_parenthesis (place_behind file b6) ∷ o2 in
+    let t6 : List Lexeme = sign_at sign_right_parenthesis (position_behind file b6) ∷ o2 in
     let t5 : List Lexeme = laid file b5 (whole W e) t6 in
-    let i2 : List Lexeme = name_at w (place_behind file b) ∷ sign_at sign_assign (place_behind file b1)
-    ∷ name_at w (place_behind file b2) ∷ sign_at op (place_behind file b3)
-    ∷ sign_at sign_left_parenthesis (place_behind file b4) ∷ t5 in
-    let M1 : List Node = put M (SimpleName (place_behind file b) w) in
-    let M2 : List Node = put M1 (SimpleName (place_behind file b2) w) in
+    let i2 : List Lexeme = name_at w (position_behind file b) ∷ sign_at sign_assign (position_behind file b1)
+    ∷ name_at w (position_behind file b2) ∷ sign_at op (position_behind file b3)
+    ∷ sign_at sign_left_parenthesis (position_behind file b4) ∷ t5 in
+    let M1 : List Node = put M (SimpleName (position_behind file b) w) in
+    let M2 : List Node = put M1 (SimpleName (position_behind file b2) w) in
     let a = closed_again W first file M2 b5 b6 o2 d f3 in
-    let paren : UnaryRead M2 (sign_at sign_left_parenthesis (place_behind file b4) ∷ t5)
-    (put a.nodes (Parenthesized (place_behind file b4) a.place)) o2 (length a.nodes) =
+    let paren : UnaryRead M2 (sign_at sign_left_parenthesis (position_behind file b4) ∷ t5)
+    (put a.nodes (Parenthesized (position_behind file b4) a.place)) o2 (length a.nodes) =
     plain_unary
     (post_unary
-    (in_parentheses_read M2 a.nodes t5 o2 a.place (place_behind file b4) (place_behind file b6) _ refl a.read u)) in
-    let M3 : List Node = put a.nodes (Parenthesized (place_behind file b4) a.place) in
-    let made : Node = Binary (place_behind file b3) op (length M1) (length a.nodes) in
+    (in_parentheses_read M2 a.nodes t5 o2 a.place (position_behind file b4) (position_behind file b6) _ refl a.read u)) in
+    let M3 : List Node = put a.nodes (Parenthesized (position_behind file b4) a.place) in
+    let made : Node = Binary (position_behind file b3) op (length M1) (length a.nodes) in
     let opened : laid file b (bare W (length (put P3 (Binary p op (length (put N (SimpleName q w))) (length N1))))) o2
-    ≡ name_at w (place_behind file b) ∷ sign_at sign_assign (place_behind file b1)
-    ∷ name_at w (place_behind file b2) ∷ sign_at op (place_behind file b3)
-    ∷ sign_at sign_left_parenthesis (place_behind file b4)
+    ≡ name_at w (position_behind file b) ∷ sign_at sign_assign (position_behind file b1)
+    ∷ name_at w (position_behind file b2) ∷ sign_at op (position_behind file b3)
+    ∷ sign_at sign_left_parenthesis (position_behind file b4)
     ∷ laid file b5 (whole W e ++ a_sign sign_right_parenthesis ∷ []) o2 =
     ap (λ (ss : List Symbol). laid file b ss o2) said in
     let same : laid file b (bare W (length (put P3 (Binary p op (length (put N (SimpleName q w))) (length N1))))) o2
     ≡ i2 = opened ∙ simp laid-append in
-    told_moved same (told_of (put (put M3 made) (Assign (place_behind file b1) (length M) (length M3)))
+    told_moved same (told_of (put (put M3 made) (Assign (position_behind file b1) (length M) (length M3)))
     (length (put M3 made))
     (front-then (front-one _)
     (front-then (front-one _)
@@ -379,14 +379,14 @@ assignment_again W first file M b o2 (step_assignment {N = N} {w = w} {n = n} {o
     let b2 : List ℕ = b1 ++ printed (a_sign sign_assign) in
     let b3 : List ℕ = b2 ++ printed (a_name w) in
     let b4 : List ℕ = b3 ++ printed (a_sign op) in
-    let M1 : List Node = put M (SimpleName (place_behind file b) w) in
-    let M2 : List Node = put M1 (SimpleName (place_behind file b2) w) in
-    let M3 : List Node = put M2 (Number (place_behind file b4) 1 false) in
-    let one : UnaryRead M2 (number_at 1 (place_behind file b4) ∷ o2) M3 o2 (length M2) =
+    let M1 : List Node = put M (SimpleName (position_behind file b) w) in
+    let M2 : List Node = put M1 (SimpleName (position_behind file b2) w) in
+    let M3 : List Node = put M2 (Number (position_behind file b4) 1 false) in
+    let one : UnaryRead M2 (number_at 1 (position_behind file b4) ∷ o2) M3 o2 (length M2) =
     plain_unary (post_unary (number refl)) in
-    let made : Node = Binary (place_behind file b3) op (length M1) (length M2) in
+    let made : Node = Binary (position_behind file b3) op (length M1) (length M2) in
     told_moved (ap (λ (ss : List Symbol). laid file b ss o2) said)
-    (told_of (put (put M3 made) (Assign (place_behind file b1) (length M) (length M3))) (length (put M3 made))
+    (told_of (put (put M3 made) (Assign (position_behind file b1) (length M) (length M3))) (length (put M3 made))
     (front-then (front-one _)
     (front-then (front-one _) (front-then (front-one _) (front-then (front-one _) (front-one _)))))
     (assignment simple_name (operation op (stepping_operator n op k) simple_read one)) (λ V g.

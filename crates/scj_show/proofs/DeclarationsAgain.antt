@@ -1,7 +1,7 @@
 -- The canonical lexemes of a class's header and of parameters are read as the same.
 use Rattle.std.proofs.Common.{◌≡◌, ℕ, false, List, [], ◌∷◌, ◌++◌, Option, Some, None, slice_get, length, refl, ap, ◌∙◌, append-nil, append_assoc}
 use Rattle.scj_base.specs.Vocabulary.{word_extends, word_implements, sign_left_brace, sign_left_parenthesis, sign_right_parenthesis, sign_comma}
-use Rattle.scj_base.specs.Lex.{place_behind}
+use Rattle.scj_base.specs.Lex.{position_behind}
 use Rattle.scj_tree.specs.declared.nodes.Node.{Node}
 use Rattle.scj_tree.specs.declared.nodes.Node.TheVariants.{Supers, Parameters, Parameter}
 use Rattle.scj_tree.specs.Lexemes.{Lexeme, a_name as name_at, a_word as word_at, a_sign as sign_at}
@@ -59,7 +59,7 @@ interfaces_again W first file M b o2 no_interface_yet f =
 interfaces_again W first file M b o2 (interface_and_comma {ids = ids} {id = id} d1 d2) f =
     let b1 : List ℕ = b ++ canonical (followed W ids) in
     let b2 : List ℕ = b1 ++ canonical (whole W id) in
-    let t2 : List Lexeme = sign_at sign_comma (place_behind file b2) ∷ o2 in
+    let t2 : List Lexeme = sign_at sign_comma (position_behind file b2) ∷ o2 in
     let t1 : List Lexeme = laid file b1 (whole W id) t2 in
     let a1 = interfaces_again W first file M b t1 d1 (front-then (super_front d2) f) in
     let a2 = super_again W first file a1.nodes b1 t2 d2 f in
@@ -84,17 +84,17 @@ header_again W first file M b o2 (extends_header {N1 = N1} {super = super} {p = 
     said0 ∙ ap (λ (ss : List Symbol). a_word word_extends ∷ ss) (append-nil (whole W super)) in
     let b1 : List ℕ = b ++ printed (a_word word_extends) in
     let b2 : List ℕ = b1 ++ canonical (whole W super) in
-    let t2 : List Lexeme = sign_at sign_left_brace (place_behind file b2) ∷ o2 in
+    let t2 : List Lexeme = sign_at sign_left_brace (position_behind file b2) ∷ o2 in
     let t1 : List Lexeme = laid file b1 (whole W super) t2 in
     let a1 = super_again W first file M b1 t2 d (front-put _ _ f) in
     let opened : laid file b (maybe_symbols W (Some (length N1)) ++ a_sign sign_left_brace ∷ []) o2
-    ≡ word_at word_extends (place_behind file b) ∷ laid file b1 (whole W super ++ a_sign sign_left_brace ∷ []) o2 =
+    ≡ word_at word_extends (position_behind file b) ∷ laid file b1 (whole W super ++ a_sign sign_left_brace ∷ []) o2 =
     ap (λ (ss : List Symbol). laid file b (ss ++ a_sign sign_left_brace ∷ []) o2) (append-nil (whole W (length N1))
     ∙ said) in
     let same : laid file b (maybe_symbols W (Some (length N1)) ++ a_sign sign_left_brace ∷ []) o2 ≡ word_at word_extends
-    (place_behind file b) ∷ t1 = opened ∙ simp laid-append in
+    (position_behind file b) ∷ t1 = opened ∙ simp laid-append in
     maybe_told_moved same
-    (maybe_told_of (put a1.nodes (Supers (place_behind file b) (Some a1.place) [])) (Some (length a1.nodes))
+    (maybe_told_of (put a1.nodes (Supers (position_behind file b) (Some a1.place) [])) (Some (length a1.nodes))
     (front-then a1.grown (front-one _)) (extends_header a1.read)
     (λ V g. both_there (alike at (front-at _ _ g) refl (one_alike (a1.alike V (front-put _ _ g)) none_alike))))
 header_again W first file M b o2 (implements_header {N2 = N2} {ids = ids} {id = id} {p = p} d1 d2) f =
@@ -107,17 +107,17 @@ header_again W first file M b o2 (implements_header {N2 = N2} {ids = ids} {id = 
     let b1 : List ℕ = b ++ printed (a_word word_implements) in
     let b2 : List ℕ = b1 ++ canonical (followed W ids) in
     let b3 : List ℕ = b2 ++ canonical (whole W id) in
-    let t3 : List Lexeme = sign_at sign_left_brace (place_behind file b3) ∷ o2 in
+    let t3 : List Lexeme = sign_at sign_left_brace (position_behind file b3) ∷ o2 in
     let t2 : List Lexeme = laid file b2 (whole W id) t3 in
     let t1 : List Lexeme = laid file b1 (followed W ids) t2 in
     let a1 = interfaces_again W first file M b1 t2 d1 (front-then (super_front d2) (front-put _ _ f)) in
     let a2 = super_again W first file a1.nodes b2 t3 d2 (front-put _ _ f) in
     let same : laid file b (maybe_symbols W (Some (length N2)) ++ a_sign sign_left_brace ∷ []) o2
-    ≡ word_at word_implements (place_behind file b) ∷ t1 =
+    ≡ word_at word_implements (position_behind file b) ∷ t1 =
     ap (λ (ss : List Symbol). laid file b (ss ++ a_sign sign_left_brace ∷ []) o2) (append-nil (whole W (length N2))
-    ∙ said) ∙ ap (λ (ss : List Symbol). word_at word_implements (place_behind file b) ∷ laid file b1 ss o2)
+    ∙ said) ∙ ap (λ (ss : List Symbol). word_at word_implements (position_behind file b) ∷ laid file b1 ss o2)
     (append_assoc (followed W ids) (whole W id) (a_sign sign_left_brace ∷ [])) ∙ simp laid-append in
-    maybe_told_moved same (maybe_told_of (put a2.nodes (Supers (place_behind file b) None (a1.places ++ a2.place ∷ [])))
+    maybe_told_moved same (maybe_told_of (put a2.nodes (Supers (position_behind file b) None (a1.places ++ a2.place ∷ [])))
     (Some (length a2.nodes)) (front-then a1.grown (front-then a2.grown (front-one _)))
     (implements_header a1.read a2.read)
     (λ V g. let all = alike-put (a1.alike V (front-then a2.grown (front-put _ _ g))) (a2.alike V (front-put _ _ g))
@@ -137,10 +137,10 @@ header_again W first file M b o2
     let b3 : List ℕ = b2 ++ printed (a_word word_implements) in
     let b4 : List ℕ = b3 ++ canonical (followed W ids) in
     let b5 : List ℕ = b4 ++ canonical (whole W id) in
-    let t5 : List Lexeme = sign_at sign_left_brace (place_behind file b5) ∷ o2 in
+    let t5 : List Lexeme = sign_at sign_left_brace (position_behind file b5) ∷ o2 in
     let t4 : List Lexeme = laid file b4 (whole W id) t5 in
     let t3 : List Lexeme = laid file b3 (followed W ids) t4 in
-    let t2 : List Lexeme = word_at word_implements (place_behind file b2) ∷ t3 in
+    let t2 : List Lexeme = word_at word_implements (position_behind file b2) ∷ t3 in
     let t1 : List Lexeme = laid file b1 (whole W super) t2 in
     let f3 = front-put _ _ f in
     let a0 = super_again W first file M b1 t2 d0 (front-then (interfaces_front d1) (front-then (super_front d2) f3)) in
@@ -152,12 +152,12 @@ header_again W first file M b o2
     append_assoc (whole W super) _ _ ∙ ap (λ (ss : List Symbol). whole W super ++ (a_word word_implements ∷ ss))
     (append_assoc (followed W ids) (whole W id) (a_sign sign_left_brace ∷ [])) in
     let same : laid file b (maybe_symbols W (Some (length N3)) ++ a_sign sign_left_brace ∷ []) o2 ≡ word_at word_extends
-    (place_behind file b) ∷ t1 = ap (λ (ss : List Symbol). laid file b (ss ++ a_sign sign_left_brace ∷ []) o2)
+    (position_behind file b) ∷ t1 = ap (λ (ss : List Symbol). laid file b (ss ++ a_sign sign_left_brace ∷ []) o2)
     (append-nil (whole W (length N3)) ∙ said)
-    ∙ ap (λ (ss : List Symbol). word_at word_extends (place_behind file b) ∷ laid file b1 ss o2) flat
+    ∙ ap (λ (ss : List Symbol). word_at word_extends (position_behind file b) ∷ laid file b1 ss o2) flat
     ∙ simp laid-append in
     maybe_told_moved same
-    (maybe_told_of (put a2.nodes (Supers (place_behind file b) (Some a0.place) (a1.places ++ a2.place ∷ [])))
+    (maybe_told_of (put a2.nodes (Supers (position_behind file b) (Some a0.place) (a1.places ++ a2.place ∷ [])))
     (Some (length a2.nodes)) (front-then a0.grown (front-then a1.grown (front-then a2.grown (front-one _))))
     (extends_implements_header a0.read a1.read a2.read)
     (λ V g. let all = alike-put (a1.alike V (front-then a2.grown (front-put _ _ g))) (a2.alike V (front-put _ _ g))
@@ -181,14 +181,14 @@ parameter_again W first file M b o2 (parameter {N1 = N1} {N2 = N2} {flags = flag
     said0 ∙ symbols_of_parts-append (written W) (maybe fl) (Whole t ∷ Named w ∷ []) in
     let b1 : List ℕ = b ++ canonical (maybe_symbols W fl) in
     let b2 : List ℕ = b1 ++ canonical (whole W t) in
-    let t2 : List Lexeme = name_at w (place_behind file b2) ∷ o2 in
+    let t2 : List Lexeme = name_at w (position_behind file b2) ∷ o2 in
     let t1 : List Lexeme = laid file b1 (whole W t) t2 in
     let a1 = flags_again false W first file M b t1 d1 src (front-then (type_front d2) (front-put _ _ f)) in
     let a2 = type_again W first file (with_flags a1.nodes a1.flags) b1 t2 d2 (front-put _ _ f) in
     let same : laid file b (whole W (length N2)) o2 ≡ laid file b (maybe_symbols W fl) t1 =
     ap (λ (ss : List Symbol). laid file b ss o2) said ∙ simp laid-append in
     told_moved same
-    (told_of (put a2.nodes (Parameter (place_behind file b2) w (flags_number a1.nodes a1.flags) a2.place))
+    (told_of (put a2.nodes (Parameter (position_behind file b2) w (flags_number a1.nodes a1.flags) a2.place))
     (length a2.nodes)
     (front-then a1.grown (front-then (flags_front a1.nodes a1.flags) (front-then a2.grown (front-one _))))
     (parameter a1.read a2.read) (λ V g. let fs = a1.alike V (front-then a2.grown (front-put _ _ g)) in
@@ -205,7 +205,7 @@ parameters_begun_again W first file M b o2 no_parameter_yet src f =
 parameters_begun_again W first file M b o2 (parameter_and_comma {ids = ids} {id = id} d1 d2) src f =
     let b1 : List ℕ = b ++ canonical (followed W ids) in
     let b2 : List ℕ = b1 ++ canonical (whole W id) in
-    let t2 : List Lexeme = sign_at sign_comma (place_behind file b2) ∷ o2 in
+    let t2 : List Lexeme = sign_at sign_comma (position_behind file b2) ∷ o2 in
     let t1 : List Lexeme = laid file b1 (whole W id) t2 in
     let a1 = parameters_begun_again W first file M b t1 d1 src (front-then (parameter_front d2) f) in
     let a2 = parameter_again W first file a1.nodes b1 t2 d2 (parameters_begun_rest d1 src) f in
@@ -237,7 +237,7 @@ parameters_again W first file M b o2 (parameters {N2 = N2} {ids = ids} {id = id}
     let b1 : List ℕ = b ++ printed (a_sign sign_left_parenthesis) in
     let b2 : List ℕ = b1 ++ canonical (followed W ids) in
     let b3 : List ℕ = b2 ++ canonical (whole W id) in
-    let t3 : List Lexeme = sign_at sign_right_parenthesis (place_behind file b3) ∷ o2 in
+    let t3 : List Lexeme = sign_at sign_right_parenthesis (position_behind file b3) ∷ o2 in
     let t2 : List Lexeme = laid file b2 (whole W id) t3 in
     let t1 : List Lexeme = laid file b1 (followed W ids) t2 in
     let a1 =
@@ -245,9 +245,9 @@ parameters_again W first file M b o2 (parameters {N2 = N2} {ids = ids} {id = id}
     in
     let a2 = parameter_again W first file a1.nodes b2 t3 d2 (parameters_begun_rest d1 (behind src)) (front-put _ _ f) in
     let same : laid file b (parameter_symbols W (Some (length N2))) o2 ≡ sign_at sign_left_parenthesis
-    (place_behind file b) ∷ t1 =
+    (position_behind file b) ∷ t1 =
     ap (λ (ss : List Symbol). laid file b ss o2) (append-nil (whole W (length N2)) ∙ said) ∙ simp laid-append in
-    maybe_told_moved same (maybe_told_of (put a2.nodes (Parameters (place_behind file b) (a1.places ++ a2.place ∷ [])))
+    maybe_told_moved same (maybe_told_of (put a2.nodes (Parameters (position_behind file b) (a1.places ++ a2.place ∷ [])))
     (Some (length a2.nodes)) (front-then a1.grown (front-then a2.grown (front-one _))) (parameters a1.read a2.read)
     (λ V g. let all = alike-put (a1.alike V (front-then a2.grown (front-put _ _ g))) (a2.alike V (front-put _ _ g))
     in both_there (alike at (front-at _ _ g) (ap (λ (t : List ℕ). Parameters nowhere t) (counted-same all)) all)))

@@ -2,7 +2,7 @@
 use Rattle.std.proofs.Common.{◌≡◌, ℕ, Bool, true, false, List, [], ◌∷◌, ◌++◌, Some, None, slice_get, length, refl, sym, ap, ◌∙◌}
 use Rattle.scj_base.specs.Vocabulary.{word_boolean, word_false, word_int, word_new, word_null, word_this, word_true, sign_left_parenthesis, sign_right_parenthesis, sign_left_bracket, sign_right_bracket, sign_comma, sign_dot, sign_minus, sign_not, sign_tilde}
 use Rattle.scj_base.specs.declared.places.Pos.{Pos}
-use Rattle.scj_base.specs.Lex.{place_behind}
+use Rattle.scj_base.specs.Lex.{position_behind}
 use Rattle.scj_tree.specs.declared.nodes.Node.{Node}
 use Rattle.scj_tree.specs.declared.nodes.Node.TheVariants.{IntType, BooleanType, ClassType, Binary, Unary, Cast, Parenthesized, SimpleName, FieldAccess, Call, Element, New, NewArray, Text, Number, True, False, Null, This}
 use Rattle.scj_tree.specs.declared.readings.PostKind.{PostKind}
@@ -92,11 +92,11 @@ mutual
       let b1 : List ℕ = b ++ canonical (whole W l) in
       let b2 : List ℕ = b1 ++ printed (a_sign op) in
       let t2 : List Lexeme = laid file b2 (whole W r) o2 in
-      let t1 : List Lexeme = sign_at op (place_behind file b1) ∷ t2 in
+      let t1 : List Lexeme = sign_at op (position_behind file b1) ∷ t2 in
       let t0 : List Lexeme = laid file b (whole W l) t1 in
       let a1 = level_again W first file M b t1 d1 (front-then (level_front d2) (front-put _ _ f)) (λ c. c) in
       let a2 = level_again W first file a1.nodes b2 o2 d2 (front-put _ _ f) h in
-      let made : Node = Binary (place_behind file b1) op a1.place a2.place in
+      let made : Node = Binary (position_behind file b1) op a1.place a2.place in
       let said : whole W (length N2) ≡ whole W l ++ (a_sign op ∷ (whole W r ++ ([]))) = whole_at W _ _ first at in
       let same : laid file b (whole W (length N2)) o2 ≡ t0 = ap (λ (ss : List Symbol). laid file b ss o2) said
       ∙ simp laid-append in
@@ -114,9 +114,9 @@ mutual
       let at : slice_get W (length N1) ≡ Some (Unary p sign_minus e) = front-at _ _ f in
       let b1 : List ℕ = b ++ printed (a_sign sign_minus) in
       let t1 : List Lexeme = laid file b1 (whole W e) o2 in
-      let t0 : List Lexeme = sign_at sign_minus (place_behind file b) ∷ t1 in
+      let t0 : List Lexeme = sign_at sign_minus (position_behind file b) ∷ t1 in
       let a1 = unary_again W first file M b1 o2 d (front-put _ _ f) h in
-      let made : Node = Unary (place_behind file b) sign_minus a1.place in
+      let made : Node = Unary (position_behind file b) sign_minus a1.place in
       let said : whole W (length N1) ≡ a_sign sign_minus ∷ (whole W e ++ ([])) = whole_at W _ _ first at in
       let same : laid file b (whole W (length N1)) o2 ≡ t0 = ap (λ (ss : List Symbol). laid file b ss o2) said
       ∙ simp laid-append in
@@ -137,9 +137,9 @@ mutual
       let at : slice_get W (length N1) ≡ Some (Unary p sign_not e) = front-at _ _ f in
       let b1 : List ℕ = b ++ printed (a_sign sign_not) in
       let t1 : List Lexeme = laid file b1 (whole W e) o2 in
-      let t0 : List Lexeme = sign_at sign_not (place_behind file b) ∷ t1 in
+      let t0 : List Lexeme = sign_at sign_not (position_behind file b) ∷ t1 in
       let a1 = unary_again W first file M b1 o2 d (front-put _ _ f) h in
-      let made : Node = Unary (place_behind file b) sign_not a1.place in
+      let made : Node = Unary (position_behind file b) sign_not a1.place in
       let said : whole W (length N1) ≡ a_sign sign_not ∷ (whole W e ++ ([])) = whole_at W _ _ first at in
       let same : laid file b (whole W (length N1)) o2 ≡ t0 = ap (λ (ss : List Symbol). laid file b ss o2) said
       ∙ simp laid-append in
@@ -150,9 +150,9 @@ mutual
       let at : slice_get W (length N1) ≡ Some (Unary p sign_tilde e) = front-at _ _ f in
       let b1 : List ℕ = b ++ printed (a_sign sign_tilde) in
       let t1 : List Lexeme = laid file b1 (whole W e) o2 in
-      let t0 : List Lexeme = sign_at sign_tilde (place_behind file b) ∷ t1 in
+      let t0 : List Lexeme = sign_at sign_tilde (position_behind file b) ∷ t1 in
       let a1 = unary_again W first file M b1 o2 d (front-put _ _ f) h in
-      let made : Node = Unary (place_behind file b) sign_tilde a1.place in
+      let made : Node = Unary (position_behind file b) sign_tilde a1.place in
       let said : whole W (length N1) ≡ a_sign sign_tilde ∷ (whole W e ++ ([])) = whole_at W _ _ first at in
       let same : laid file b (whole W (length N1)) o2 ≡ t0 = ap (λ (ss : List Symbol). laid file b ss o2) said
       ∙ simp laid-append in
@@ -165,11 +165,11 @@ mutual
       let b2 : List ℕ = b1 ++ printed (a_name w) in
       let b3 : List ℕ = b2 ++ printed (a_sign sign_right_parenthesis) in
       let t3 : List Lexeme = laid file b3 (whole W e) o2 in
-      let t2 : List Lexeme = sign_at sign_right_parenthesis (place_behind file b2) ∷ t3 in
-      let t1 : List Lexeme = name_at w (place_behind file b1) ∷ t2 in
-      let t0 : List Lexeme = sign_at sign_left_parenthesis (place_behind file b) ∷ t1 in
+      let t2 : List Lexeme = sign_at sign_right_parenthesis (position_behind file b2) ∷ t3 in
+      let t1 : List Lexeme = name_at w (position_behind file b1) ∷ t2 in
+      let t0 : List Lexeme = sign_at sign_left_parenthesis (position_behind file b) ∷ t1 in
       let a1 = unary1_again W first file M b3 o2 d (front-put _ _ f) h in
-      let made : Node = Cast (place_behind file b) (place_behind file b1) w a1.place in
+      let made : Node = Cast (position_behind file b) (position_behind file b1) w a1.place in
       let said : whole W (length N1) ≡ a_sign sign_left_parenthesis
       ∷ (a_name w ∷ (a_sign sign_right_parenthesis ∷ (whole W e ++ ([])))) = whole_at W _ _ first at in
       let same : laid file b (whole W (length N1)) o2 ≡ t0 = ap (λ (ss : List Symbol). laid file b ss o2) said
@@ -187,22 +187,22 @@ mutual
       Again (PostHere minimum kind) W M i o (laid file b (whole W id) o2) o2 id
   post_again W first file M b o2 (simple_name {N = N} {w = w} {p = p} {o = o}) f h =
       let at : slice_get W (length N) ≡ Some (SimpleName p w) = front-at _ _ f in
-      let t0 : List Lexeme = name_at w (place_behind file b) ∷ o2 in
-      let made : Node = SimpleName (place_behind file b) w in
+      let t0 : List Lexeme = name_at w (position_behind file b) ∷ o2 in
+      let made : Node = SimpleName (position_behind file b) w in
       let said : whole W (length N) ≡ a_name w ∷ ([]) = whole_at W _ _ first at in
       let same : laid file b (whole W (length N)) o2 ≡ t0 = ap (λ (ss : List Symbol). laid file b ss o2) said in
       moved same
       (again_of (put M made) (length M) (front-one _) (post_here (simple_name)) (refl)
-      (λ s. right_of_heads w p (place_behind file b) o o2 s) (λ V g. alike at (front-at _ _ g) refl none_alike))
+      (λ s. right_of_heads w p (position_behind file b) o o2 s) (λ V g. alike at (front-at _ _ g) refl none_alike))
   post_again W first file M b o2 (simple_call {N1 = N1} {ids = ids} {w = w} {p = p} d) f h =
       let at : slice_get W (length N1) ≡ Some (Call p w None ids) = front-at _ _ f in
       let b1 : List ℕ = b ++ printed (a_name w) in
       let b2 : List ℕ = b1 ++ printed (a_sign sign_left_parenthesis) in
       let t2 : List Lexeme = laid file b2 (arguments_of W ids) o2 in
-      let t1 : List Lexeme = sign_at sign_left_parenthesis (place_behind file b1) ∷ t2 in
-      let t0 : List Lexeme = name_at w (place_behind file b) ∷ t1 in
+      let t1 : List Lexeme = sign_at sign_left_parenthesis (position_behind file b1) ∷ t2 in
+      let t0 : List Lexeme = name_at w (position_behind file b) ∷ t1 in
       let a1 = arguments_again W first file M b2 o2 d (front-put _ _ f) h in
-      let made : Node = Call (place_behind file b) w None a1.places in
+      let made : Node = Call (position_behind file b) w None a1.places in
       let said : whole W (length N1) ≡ a_name w ∷ (a_sign sign_left_parenthesis ∷ (arguments_of W ids)) =
       whole_at W _ _ first at in
       let same : laid file b (whole W (length N1)) o2 ≡ t0 = ap (λ (ss : List Symbol). laid file b ss o2) said in
@@ -215,11 +215,11 @@ mutual
       let at : slice_get W (length N1) ≡ Some (FieldAccess p w e) = front-at _ _ f in
       let b1 : List ℕ = b ++ canonical (whole W e) in
       let b2 : List ℕ = b1 ++ printed (a_sign sign_dot) in
-      let t2 : List Lexeme = name_at w (place_behind file b2) ∷ o2 in
-      let t1 : List Lexeme = sign_at sign_dot (place_behind file b1) ∷ t2 in
+      let t2 : List Lexeme = name_at w (position_behind file b2) ∷ o2 in
+      let t1 : List Lexeme = sign_at sign_dot (position_behind file b1) ∷ t2 in
       let t0 : List Lexeme = laid file b (whole W e) t1 in
       let a1 = post_again W first file M b t1 d (front-put _ _ f) (λ c. c) in
-      let made : Node = FieldAccess (place_behind file b2) w a1.place in
+      let made : Node = FieldAccess (position_behind file b2) w a1.place in
       let said : whole W (length N1) ≡ whole W e ++ (a_sign sign_dot ∷ (a_name w ∷ ([]))) = whole_at W _ _ first at in
       let same : laid file b (whole W (length N1)) o2 ≡ t0 = ap (λ (ss : List Symbol). laid file b ss o2) said
       ∙ simp laid-append in
@@ -233,13 +233,13 @@ mutual
       let b3 : List ℕ = b2 ++ printed (a_name w) in
       let b4 : List ℕ = b3 ++ printed (a_sign sign_left_parenthesis) in
       let t4 : List Lexeme = laid file b4 (arguments_of W ids) o2 in
-      let t3 : List Lexeme = sign_at sign_left_parenthesis (place_behind file b3) ∷ t4 in
-      let t2 : List Lexeme = name_at w (place_behind file b2) ∷ t3 in
-      let t1 : List Lexeme = sign_at sign_dot (place_behind file b1) ∷ t2 in
+      let t3 : List Lexeme = sign_at sign_left_parenthesis (position_behind file b3) ∷ t4 in
+      let t2 : List Lexeme = name_at w (position_behind file b2) ∷ t3 in
+      let t1 : List Lexeme = sign_at sign_dot (position_behind file b1) ∷ t2 in
       let t0 : List Lexeme = laid file b (whole W e) t1 in
       let a1 = post_again W first file M b t1 d1 (front-then (arguments_front d2) (front-put _ _ f)) (λ c. c) in
       let a2 = arguments_again W first file a1.nodes b4 o2 d2 (front-put _ _ f) h in
-      let made : Node = Call (place_behind file b2) w (Some a1.place) a2.places in
+      let made : Node = Call (position_behind file b2) w (Some a1.place) a2.places in
       let said : whole W (length N2) ≡ whole W e
       ++ (a_sign sign_dot ∷ (a_name w ∷ (a_sign sign_left_parenthesis ∷ (arguments_of W ids)))) =
       whole_at W _ _ first at in
@@ -256,13 +256,13 @@ mutual
       let b1 : List ℕ = b ++ canonical (whole W e) in
       let b2 : List ℕ = b1 ++ printed (a_sign sign_left_bracket) in
       let b3 : List ℕ = b2 ++ canonical (whole W x) in
-      let t3 : List Lexeme = sign_at sign_right_bracket (place_behind file b3) ∷ o2 in
+      let t3 : List Lexeme = sign_at sign_right_bracket (position_behind file b3) ∷ o2 in
       let t2 : List Lexeme = laid file b2 (whole W x) t3 in
-      let t1 : List Lexeme = sign_at sign_left_bracket (place_behind file b1) ∷ t2 in
+      let t1 : List Lexeme = sign_at sign_left_bracket (position_behind file b1) ∷ t2 in
       let t0 : List Lexeme = laid file b (whole W e) t1 in
       let a1 = post_again W first file M b t1 d1 (front-then (level_front d2) (front-put _ _ f)) (λ c. c) in
       let a2 = level_again W first file a1.nodes b2 t3 d2 (front-put _ _ f) (λ c. c) in
-      let made : Node = Element (place_behind file b1) a1.place a2.place in
+      let made : Node = Element (position_behind file b1) a1.place a2.place in
       let said : whole W (length N2) ≡ whole W e
       ++ (a_sign sign_left_bracket ∷ (whole W x ++ (a_sign sign_right_bracket ∷ ([])))) = whole_at W _ _ first at in
       let same : laid file b (whole W (length N2)) o2 ≡ t0 = ap (λ (ss : List Symbol). laid file b ss o2) said
@@ -275,8 +275,8 @@ mutual
       (one_alike (a2.alike V (front-put _ _ g)) none_alike))))
   post_again W first file M b o2 (number {N = N} {n = n} {p = p} m) f h =
       let at : slice_get W (length N) ≡ Some (Number p n false) = front-at _ _ f in
-      let t0 : List Lexeme = number_at n (place_behind file b) ∷ o2 in
-      let made : Node = Number (place_behind file b) n false in
+      let t0 : List Lexeme = number_at n (position_behind file b) ∷ o2 in
+      let made : Node = Number (position_behind file b) n false in
       let said : whole W (length N) ≡ a_number n ∷ ([]) = whole_at W _ _ first at in
       let same : laid file b (whole W (length N)) o2 ≡ t0 = ap (λ (ss : List Symbol). laid file b ss o2) said in
       moved same (again_of (put M made) (length M) (front-one _) (post_here (number m)) (refl) (λ s. refl)
@@ -284,41 +284,41 @@ mutual
   post_again W first file M b o2 (minimum_number {N = N} {p = p}) f h =
       let at : slice_get W (length N) ≡ Some (Number p 2147483648 true) = front-at _ _ f in
       let b1 : List ℕ = b ++ printed (a_sign sign_minus) in
-      let t1 : List Lexeme = number_at 2147483648 (place_behind file b1) ∷ o2 in
-      let t0 : List Lexeme = sign_at sign_minus (place_behind file b) ∷ t1 in
-      let made : Node = Number (place_behind file b) 2147483648 true in
+      let t1 : List Lexeme = number_at 2147483648 (position_behind file b1) ∷ o2 in
+      let t0 : List Lexeme = sign_at sign_minus (position_behind file b) ∷ t1 in
+      let made : Node = Number (position_behind file b) 2147483648 true in
       let said : whole W (length N) ≡ a_sign sign_minus ∷ (a_number 2147483648 ∷ ([])) = whole_at W _ _ first at in
       let same : laid file b (whole W (length N)) o2 ≡ t0 = ap (λ (ss : List Symbol). laid file b ss o2) said in
       moved same (again_of (put M made) (length M) (front-one _) (post_here (minimum_number)) (refl) (λ s. refl)
       (λ V g. alike at (front-at _ _ g) refl none_alike))
   post_again W first file M b o2 (true_value {N = N} {p = p}) f h =
       let at : slice_get W (length N) ≡ Some (True p) = front-at _ _ f in
-      let t0 : List Lexeme = word_at word_true (place_behind file b) ∷ o2 in
-      let made : Node = True (place_behind file b) in
+      let t0 : List Lexeme = word_at word_true (position_behind file b) ∷ o2 in
+      let made : Node = True (position_behind file b) in
       let said : whole W (length N) ≡ a_word word_true ∷ ([]) = whole_at W _ _ first at in
       let same : laid file b (whole W (length N)) o2 ≡ t0 = ap (λ (ss : List Symbol). laid file b ss o2) said in
       moved same (again_of (put M made) (length M) (front-one _) (post_here (true_value)) (refl) (λ s. refl)
       (λ V g. alike at (front-at _ _ g) refl none_alike))
   post_again W first file M b o2 (false_value {N = N} {p = p}) f h =
       let at : slice_get W (length N) ≡ Some (False p) = front-at _ _ f in
-      let t0 : List Lexeme = word_at word_false (place_behind file b) ∷ o2 in
-      let made : Node = False (place_behind file b) in
+      let t0 : List Lexeme = word_at word_false (position_behind file b) ∷ o2 in
+      let made : Node = False (position_behind file b) in
       let said : whole W (length N) ≡ a_word word_false ∷ ([]) = whole_at W _ _ first at in
       let same : laid file b (whole W (length N)) o2 ≡ t0 = ap (λ (ss : List Symbol). laid file b ss o2) said in
       moved same (again_of (put M made) (length M) (front-one _) (post_here (false_value)) (refl) (λ s. refl)
       (λ V g. alike at (front-at _ _ g) refl none_alike))
   post_again W first file M b o2 (null_value {N = N} {p = p}) f h =
       let at : slice_get W (length N) ≡ Some (Null p) = front-at _ _ f in
-      let t0 : List Lexeme = word_at word_null (place_behind file b) ∷ o2 in
-      let made : Node = Null (place_behind file b) in
+      let t0 : List Lexeme = word_at word_null (position_behind file b) ∷ o2 in
+      let made : Node = Null (position_behind file b) in
       let said : whole W (length N) ≡ a_word word_null ∷ ([]) = whole_at W _ _ first at in
       let same : laid file b (whole W (length N)) o2 ≡ t0 = ap (λ (ss : List Symbol). laid file b ss o2) said in
       moved same (again_of (put M made) (length M) (front-one _) (post_here (null_value)) (refl) (λ s. refl)
       (λ V g. alike at (front-at _ _ g) refl none_alike))
   post_again W first file M b o2 (this_value {N = N} {p = p}) f h =
       let at : slice_get W (length N) ≡ Some (This p) = front-at _ _ f in
-      let t0 : List Lexeme = word_at word_this (place_behind file b) ∷ o2 in
-      let made : Node = This (place_behind file b) in
+      let t0 : List Lexeme = word_at word_this (position_behind file b) ∷ o2 in
+      let made : Node = This (position_behind file b) in
       let said : whole W (length N) ≡ a_word word_this ∷ ([]) = whole_at W _ _ first at in
       let same : laid file b (whole W (length N)) o2 ≡ t0 = ap (λ (ss : List Symbol). laid file b ss o2) said in
       moved same (again_of (put M made) (length M) (front-one _) (post_here (this_value)) (refl) (λ s. refl)
@@ -327,11 +327,11 @@ mutual
       let at : slice_get W (length N1) ≡ Some (Parenthesized p e) = front-at _ _ f in
       let b1 : List ℕ = b ++ printed (a_sign sign_left_parenthesis) in
       let b2 : List ℕ = b1 ++ canonical (whole W e) in
-      let t2 : List Lexeme = sign_at sign_right_parenthesis (place_behind file b2) ∷ o2 in
+      let t2 : List Lexeme = sign_at sign_right_parenthesis (position_behind file b2) ∷ o2 in
       let t1 : List Lexeme = laid file b1 (whole W e) t2 in
-      let t0 : List Lexeme = sign_at sign_left_parenthesis (place_behind file b) ∷ t1 in
+      let t0 : List Lexeme = sign_at sign_left_parenthesis (position_behind file b) ∷ t1 in
       let a1 = level_again W first file M b1 t2 d (front-put _ _ f) (λ c. c) in
-      let made : Node = Parenthesized (place_behind file b) a1.place in
+      let made : Node = Parenthesized (position_behind file b) a1.place in
       let said : whole W (length N1) ≡ a_sign sign_left_parenthesis
       ∷ (whole W e ++ (a_sign sign_right_parenthesis ∷ ([]))) = whole_at W _ _ first at in
       let same : laid file b (whole W (length N1)) o2 ≡ t0 = ap (λ (ss : List Symbol). laid file b ss o2) said
@@ -345,16 +345,16 @@ mutual
       let b1 : List ℕ = b ++ printed (a_sign sign_left_parenthesis) in
       let b2 : List ℕ = b1 ++ printed (a_name w) in
       let name : whole W (length N) ≡ a_name w ∷ [] = whole_at W _ _ first under in
-      let made : Node = SimpleName (place_behind file b1) w in
+      let made : Node = SimpleName (position_behind file b1) w in
       let said : whole W (length (put N (SimpleName q w))) ≡ a_sign sign_left_parenthesis
       ∷ (whole W (length N) ++ a_sign sign_right_parenthesis ∷ []) = whole_at W _ _ first at in
       let same : laid file b (whole W (length (put N (SimpleName q w)))) o2 ≡ sign_at sign_left_parenthesis
-      (place_behind file b) ∷ name_at w (place_behind file b1)
-      ∷ sign_at sign_right_parenthesis (place_behind file b2) ∷ o2 =
+      (position_behind file b) ∷ name_at w (position_behind file b1)
+      ∷ sign_at sign_right_parenthesis (position_behind file b2) ∷ o2 =
       ap (λ (ss : List Symbol). laid file b ss o2)
       (said ∙ ap (λ (ss : List Symbol). a_sign sign_left_parenthesis ∷ (ss ++ a_sign sign_right_parenthesis ∷ []))
       name) in
-      moved same (again_of (put (put M made) (Parenthesized (place_behind file b) (length M))) (length (put M made))
+      moved same (again_of (put (put M made) (Parenthesized (position_behind file b) (length M))) (length (put M made))
       (front-then (front-one _) (front-one _)) (post_here (parenthesized_name (h m))) refl (λ s. refl)
       (λ V g. alike at (front-at _ _ g) refl
       (one_alike (alike under (front-at _ _ (front-put _ _ g)) refl none_alike) none_alike)))
@@ -364,11 +364,11 @@ mutual
       let b2 : List ℕ = b1 ++ printed (a_name w) in
       let b3 : List ℕ = b2 ++ printed (a_sign sign_left_parenthesis) in
       let t3 : List Lexeme = laid file b3 (arguments_of W ids) o2 in
-      let t2 : List Lexeme = sign_at sign_left_parenthesis (place_behind file b2) ∷ t3 in
-      let t1 : List Lexeme = name_at w (place_behind file b1) ∷ t2 in
-      let t0 : List Lexeme = word_at word_new (place_behind file b) ∷ t1 in
+      let t2 : List Lexeme = sign_at sign_left_parenthesis (position_behind file b2) ∷ t3 in
+      let t1 : List Lexeme = name_at w (position_behind file b1) ∷ t2 in
+      let t0 : List Lexeme = word_at word_new (position_behind file b) ∷ t1 in
       let a1 = arguments_again W first file M b3 o2 d (front-put _ _ f) h in
-      let made : Node = New (place_behind file b) (place_behind file b1) w a1.places in
+      let made : Node = New (position_behind file b) (position_behind file b1) w a1.places in
       let said : whole W (length N1) ≡ a_word word_new
       ∷ (a_name w ∷ (a_sign sign_left_parenthesis ∷ (arguments_of W ids))) = whole_at W _ _ first at in
       let same : laid file b (whole W (length N1)) o2 ≡ t0 = ap (λ (ss : List Symbol). laid file b ss o2) said in
@@ -386,21 +386,21 @@ mutual
       let b2 : List ℕ = b1 ++ printed (a_word word_int) in
       let b3 : List ℕ = b2 ++ printed (a_sign sign_left_bracket) in
       let b4 : List ℕ = b3 ++ canonical (whole W e) in
-      let t4 : List Lexeme = sign_at sign_right_bracket (place_behind file b4) ∷ o2 in
-      let made : Node = IntType (place_behind file b1) false in
+      let t4 : List Lexeme = sign_at sign_right_bracket (position_behind file b4) ∷ o2 in
+      let made : Node = IntType (position_behind file b1) false in
       let a1 = level_again W first file (put M made) b3 t4 d (front-put _ _ f) (λ c. c) in
       let said : whole W (length N1) ≡ a_word word_new
       ∷ (whole W (length N) ++ (a_sign sign_left_bracket ∷ (whole W e ++ a_sign sign_right_bracket ∷ []))) =
       whole_at W _ _ first at in
-      let same : laid file b (whole W (length N1)) o2 ≡ word_at word_new (place_behind file b)
-      ∷ word_at word_int (place_behind file b1) ∷ sign_at sign_left_bracket (place_behind file b2)
+      let same : laid file b (whole W (length N1)) o2 ≡ word_at word_new (position_behind file b)
+      ∷ word_at word_int (position_behind file b1) ∷ sign_at sign_left_bracket (position_behind file b2)
       ∷ laid file b3 (whole W e) t4 =
       ap (λ (ss : List Symbol). laid file b ss o2)
       (said
       ∙ ap (λ (ss : List Symbol). a_word word_new
       ∷ (ss ++ (a_sign sign_left_bracket ∷ (whole W e ++ a_sign sign_right_bracket ∷ [])))) element)
       ∙ simp laid-append in
-      moved same (again_of (put a1.nodes (NewArray (place_behind file b) (length M) a1.place)) (length a1.nodes)
+      moved same (again_of (put a1.nodes (NewArray (position_behind file b) (length M) a1.place)) (length a1.nodes)
       (front-then (front-one _) (front-then a1.grown (front-one _))) (post_here (new_ints a1.read)) refl (λ s. refl)
       (λ V g. alike at (front-at _ _ g) refl
       (one_alike (alike under (front-at _ _ (front-then a1.grown (front-put _ _ g))) refl none_alike)
@@ -414,21 +414,21 @@ mutual
       let b2 : List ℕ = b1 ++ printed (a_word word_boolean) in
       let b3 : List ℕ = b2 ++ printed (a_sign sign_left_bracket) in
       let b4 : List ℕ = b3 ++ canonical (whole W e) in
-      let t4 : List Lexeme = sign_at sign_right_bracket (place_behind file b4) ∷ o2 in
-      let made : Node = BooleanType (place_behind file b1) false in
+      let t4 : List Lexeme = sign_at sign_right_bracket (position_behind file b4) ∷ o2 in
+      let made : Node = BooleanType (position_behind file b1) false in
       let a1 = level_again W first file (put M made) b3 t4 d (front-put _ _ f) (λ c. c) in
       let said : whole W (length N1) ≡ a_word word_new
       ∷ (whole W (length N) ++ (a_sign sign_left_bracket ∷ (whole W e ++ a_sign sign_right_bracket ∷ []))) =
       whole_at W _ _ first at in
-      let same : laid file b (whole W (length N1)) o2 ≡ word_at word_new (place_behind file b)
-      ∷ word_at word_boolean (place_behind file b1) ∷ sign_at sign_left_bracket (place_behind file b2)
+      let same : laid file b (whole W (length N1)) o2 ≡ word_at word_new (position_behind file b)
+      ∷ word_at word_boolean (position_behind file b1) ∷ sign_at sign_left_bracket (position_behind file b2)
       ∷ laid file b3 (whole W e) t4 =
       ap (λ (ss : List Symbol). laid file b ss o2)
       (said
       ∙ ap (λ (ss : List Symbol). a_word word_new
       ∷ (ss ++ (a_sign sign_left_bracket ∷ (whole W e ++ a_sign sign_right_bracket ∷ [])))) element)
       ∙ simp laid-append in
-      moved same (again_of (put a1.nodes (NewArray (place_behind file b) (length M) a1.place)) (length a1.nodes)
+      moved same (again_of (put a1.nodes (NewArray (position_behind file b) (length M) a1.place)) (length a1.nodes)
       (front-then (front-one _) (front-then a1.grown (front-one _))) (post_here (new_booleans a1.read)) refl
       (λ s. refl)
       (λ V g. alike at (front-at _ _ g) refl
@@ -443,21 +443,21 @@ mutual
       let b2 : List ℕ = b1 ++ printed (a_name w) in
       let b3 : List ℕ = b2 ++ printed (a_sign sign_left_bracket) in
       let b4 : List ℕ = b3 ++ canonical (whole W e) in
-      let t4 : List Lexeme = sign_at sign_right_bracket (place_behind file b4) ∷ o2 in
-      let made : Node = ClassType (place_behind file b1) w None false in
+      let t4 : List Lexeme = sign_at sign_right_bracket (position_behind file b4) ∷ o2 in
+      let made : Node = ClassType (position_behind file b1) w None false in
       let a1 = level_again W first file (put M made) b3 t4 d (front-put _ _ f) (λ c. c) in
       let said : whole W (length N1) ≡ a_word word_new
       ∷ (whole W (length N) ++ (a_sign sign_left_bracket ∷ (whole W e ++ a_sign sign_right_bracket ∷ []))) =
       whole_at W _ _ first at in
-      let same : laid file b (whole W (length N1)) o2 ≡ word_at word_new (place_behind file b)
-      ∷ name_at w (place_behind file b1) ∷ sign_at sign_left_bracket (place_behind file b2)
+      let same : laid file b (whole W (length N1)) o2 ≡ word_at word_new (position_behind file b)
+      ∷ name_at w (position_behind file b1) ∷ sign_at sign_left_bracket (position_behind file b2)
       ∷ laid file b3 (whole W e) t4 =
       ap (λ (ss : List Symbol). laid file b ss o2)
       (said
       ∙ ap (λ (ss : List Symbol). a_word word_new
       ∷ (ss ++ (a_sign sign_left_bracket ∷ (whole W e ++ a_sign sign_right_bracket ∷ [])))) element)
       ∙ simp laid-append in
-      moved same (again_of (put a1.nodes (NewArray (place_behind file b) (length M) a1.place)) (length a1.nodes)
+      moved same (again_of (put a1.nodes (NewArray (position_behind file b) (length M) a1.place)) (length a1.nodes)
       (front-then (front-one _) (front-then a1.grown (front-one _))) (post_here (new_references a1.read)) refl
       (λ s. refl)
       (λ V g. alike at (front-at _ _ g) refl
@@ -472,9 +472,9 @@ mutual
       again_of a.nodes a.place a.grown (expression_argument a.read) a.heads a.closes a.alike
   argument_again W first file M b o2 (text_argument {N = N} {w = w} {p = p}) f h =
       let at : slice_get W (length N) ≡ Some (Text p w) = front-at _ _ f in
-      let same : laid file b (whole W (length N)) o2 ≡ text_at w (place_behind file b) ∷ o2 =
+      let same : laid file b (whole W (length N)) o2 ≡ text_at w (position_behind file b) ∷ o2 =
       ap (λ (ss : List Symbol). laid file b ss o2) (whole_at W _ _ first at) in
-      moved same (again_of (put M (Text (place_behind file b) w)) (length M) (front-one _) text_argument refl
+      moved same (again_of (put M (Text (position_behind file b) w)) (length M) (front-one _) text_argument refl
       (λ s. refl) (λ V g. alike at (front-at _ _ g) refl none_alike))
 
   arguments_begun_again : (W : List Node) → ChildrenFirst 0 W →
@@ -485,7 +485,7 @@ mutual
   arguments_begun_again W first file M b o2 (argument_and_comma {ids = ids} {id = id} d1 d2) f =
       let b1 : List ℕ = b ++ canonical (followed W ids) in
       let b2 : List ℕ = b1 ++ canonical (whole W id) in
-      let t2 : List Lexeme = sign_at sign_comma (place_behind file b2) ∷ o2 in
+      let t2 : List Lexeme = sign_at sign_comma (position_behind file b2) ∷ o2 in
       let t1 : List Lexeme = laid file b1 (whole W id) t2 in
       let a1 = arguments_begun_again W first file M b t1 d1 (front-then (argument_front d2) f) in
       let a2 = argument_again W first file a1.nodes b1 t2 d2 f (λ c. c) in
@@ -503,7 +503,7 @@ mutual
   arguments_again W first file M b o2 (arguments {ids = ids} {id = id} d1 d2) f h =
       let b1 : List ℕ = b ++ canonical (followed W ids) in
       let b2 : List ℕ = b1 ++ canonical (whole W id) in
-      let t2 : List Lexeme = sign_at sign_right_parenthesis (place_behind file b2) ∷ o2 in
+      let t2 : List Lexeme = sign_at sign_right_parenthesis (position_behind file b2) ∷ o2 in
       let t1 : List Lexeme = laid file b1 (whole W id) t2 in
       let a1 = arguments_begun_again W first file M b t1 d1 (front-then (argument_front d2) f) in
       let a2 = argument_again W first file a1.nodes b1 t2 d2 f (λ c. c) in

@@ -1,7 +1,7 @@
 -- The canonical text of a file is read as the same tree.
 use Rattle.std.proofs.Common.{append-nil, append_assoc, ◌≡◌, ℕ, List, [], ◌∷◌, ◌++◌, sym, ap, subst, ◌∙◌}
 use Rattle.scj_base.specs.declared.lexemes.Token.{Token}
-use Rattle.scj_base.specs.Lex.{Lex, place_behind}
+use Rattle.scj_base.specs.Lex.{Lex, position_behind}
 use Rattle.scj_tree.specs.declared.nodes.Node.{Node}
 use Rattle.scj_tree.specs.Lexemes.{Lexeme, the_end, lexemes_of}
 use Rattle.scj_tree.specs.Headers.{no_imports}
@@ -19,12 +19,12 @@ use Rattle.scj_show.proofs.NodesLexed.{classes_are}
 use Rattle.scj_show.proofs.MembersLexed.{classes_lexed}
 
 behind-is : (at : ℕ) (before : List ℕ) (ss : List Symbol) →
-    lexemes_behind at before ss ≡ laid at before ss (the_end (place_behind at (before ++ canonical ss)) ∷ [])
+    lexemes_behind at before ss ≡ laid at before ss (the_end (position_behind at (before ++ canonical ss)) ∷ [])
 unfolding lexemes_behind laid canonical
-behind-is at before [] = ap (λ (t : List ℕ). the_end (place_behind at t) ∷ []) (sym (append-nil before))
-behind-is at before (s ∷ ss) = ap (λ (t : List Lexeme). lexeme_at s (place_behind at before) ∷ t)
+behind-is at before [] = ap (λ (t : List ℕ). the_end (position_behind at t) ∷ []) (sym (append-nil before))
+behind-is at before (s ∷ ss) = ap (λ (t : List Lexeme). lexeme_at s (position_behind at before) ∷ t)
     (behind-is at (before ++ printed s) ss
-    ∙ ap (λ (t : List ℕ). laid at (before ++ printed s) ss (the_end (place_behind at t) ∷ []))
+    ∙ ap (λ (t : List ℕ). laid at (before ++ printed s) ss (the_end (position_behind at t) ∷ []))
     (append_assoc before (printed s) (canonical ss)))
 
 -- the nodes that were there before a file was read come first
@@ -40,7 +40,7 @@ classes_read : (W : List Node) → ChildrenFirst 0 W →
     (at : ℕ) (before : List Node) {N N1 : List Node} {i o : List Lexeme} {ids : List ℕ} → ClassesRead N i N1 o ids →
     AreOfSource i → Front N1 W → IsRead W ids (canonical (symbols_of W ids)) at before
 classes_read W first at before {ids = ids} d src f =
-    let ending : List Lexeme = the_end (place_behind at ([] ++ canonical (symbols_of W ids))) ∷ [] in
+    let ending : List Lexeme = the_end (position_behind at ([] ++ canonical (symbols_of W ids))) ∷ [] in
     let a = classes_again W first at before [] ending d src f in
     let same : laid at [] (symbols_of W ids) ending ≡ lexemes_of (canonical (symbols_of W ids))
     (tokens_behind at [] (symbols_of W ids)) =

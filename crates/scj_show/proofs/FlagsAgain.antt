@@ -4,7 +4,7 @@ use Rattle.std.specs.Prelude.{codes, if◌then◌else◌}
 use Rattle.std.proofs.lemmas.Bool.{false≢true, eqb-true}
 use Rattle.scj_base.specs.Vocabulary.{word_public, word_protected, word_private, word_final, word_static, word_abstract, word_synchronized, sign_at as at_sign, sign_left_parenthesis, sign_right_parenthesis, sign_comma, sign_assign}
 use Rattle.scj_base.specs.declared.places.Pos.{Pos}
-use Rattle.scj_base.specs.Lex.{place_behind}
+use Rattle.scj_base.specs.Lex.{position_behind}
 use Rattle.scj_tree.specs.declared.nodes.Node.{Node}
 use Rattle.scj_tree.specs.declared.nodes.Node.TheVariants.{Flags, DefineScope, ScopeName}
 use Rattle.scj_tree.specs.declared.readings.FlagSet.{FlagSet}
@@ -114,19 +114,19 @@ with_scope_again is_local W first file M i2 b t define None not_there row = row
 with_scope_again is_local W first file M i2 b t define (Some id) (is_there s) row =
     let b3 : List ℕ = ((b ++ printed (a_sign at_sign)) ++ printed (a_name (codes "Scope")))
     ++ printed (a_sign sign_left_parenthesis) in
-    let p3 : Pos = place_behind file b3 in
+    let p3 : Pos = position_behind file b3 in
     let made : Node = ScopeName p3 s.name in
-    let ending : List Symbol → List Lexeme = λ ss. sign_at at_sign (place_behind file b)
-    ∷ name_at (codes "Scope") (place_behind file (b ++ printed (a_sign at_sign)))
+    let ending : List Symbol → List Lexeme = λ ss. sign_at at_sign (position_behind file b)
+    ∷ name_at (codes "Scope") (position_behind file (b ++ printed (a_sign at_sign)))
     ∷ sign_at sign_left_parenthesis
-    (place_behind file ((b ++ printed (a_sign at_sign)) ++ printed (a_name (codes "Scope"))))
+    (position_behind file ((b ++ printed (a_sign at_sign)) ++ printed (a_name (codes "Scope"))))
     ∷ laid file b3 (ss ++ a_sign sign_right_parenthesis ∷ []) t in
     let read : FlagRow is_local M i2 row.nodes (ending (a_text s.name ∷ [])) row.flags =
     subst (λ (ss : List Symbol). FlagRow is_local M i2 row.nodes (ending ss) row.flags)
     (scope_said W first id s) row.read in
     record {
       nodes = put row.nodes made;
-      flags = with_scope (length row.nodes) (placed (place_behind file b) row.flags);
+      flags = with_scope (length row.nodes) (placed (position_behind file b) row.flags);
       grown = front-then row.grown (front-one _);
       read = scope_flag read (missing row.same_scope) (quoted_scope s.is);
       same_define = λ V g. row.same_define V (front-put _ _ g);
@@ -146,19 +146,19 @@ with_runs_in_again is_local W first file M i2 b t define scope None not_there ro
 with_runs_in_again is_local W first file M i2 b t define scope (Some id) (is_there s) row =
     let b3 : List ℕ = ((b ++ printed (a_sign at_sign)) ++ printed (a_name (codes "RunsIn")))
     ++ printed (a_sign sign_left_parenthesis) in
-    let p3 : Pos = place_behind file b3 in
+    let p3 : Pos = position_behind file b3 in
     let made : Node = ScopeName p3 s.name in
-    let ending : List Symbol → List Lexeme = λ ss. sign_at at_sign (place_behind file b)
-    ∷ name_at (codes "RunsIn") (place_behind file (b ++ printed (a_sign at_sign)))
+    let ending : List Symbol → List Lexeme = λ ss. sign_at at_sign (position_behind file b)
+    ∷ name_at (codes "RunsIn") (position_behind file (b ++ printed (a_sign at_sign)))
     ∷ sign_at sign_left_parenthesis
-    (place_behind file ((b ++ printed (a_sign at_sign)) ++ printed (a_name (codes "RunsIn"))))
+    (position_behind file ((b ++ printed (a_sign at_sign)) ++ printed (a_name (codes "RunsIn"))))
     ∷ laid file b3 (ss ++ a_sign sign_right_parenthesis ∷ []) t in
     let read : FlagRow is_local M i2 row.nodes (ending (a_text s.name ∷ [])) row.flags =
     subst (λ (ss : List Symbol). FlagRow is_local M i2 row.nodes (ending ss) row.flags)
     (scope_said W first id s) row.read in
     record {
       nodes = put row.nodes made;
-      flags = with_runs_in (length row.nodes) (placed (place_behind file b) row.flags);
+      flags = with_runs_in (length row.nodes) (placed (position_behind file b) row.flags);
       grown = front-then row.grown (front-one _);
       read = runs_in_flag read (missing row.same_runs_in) (quoted_scope s.is);
       same_define = λ V g. row.same_define V (front-put _ _ g);
@@ -201,11 +201,11 @@ definition_again is_local W first file M i2 b t id name parent sn sm said same r
     let b7 : List ℕ = b6 ++ printed (a_sign sign_comma) in
     let b8 : List ℕ = b7 ++ printed (a_name (codes "parent")) in
     let b9 : List ℕ = b8 ++ printed (a_sign sign_assign) in
-    let N2 : List Node = put row.nodes (ScopeName (place_behind file b5) sn.name) in
-    let N3 : List Node = put N2 (ScopeName (place_behind file b9) sm.name) in
+    let N2 : List Node = put row.nodes (ScopeName (position_behind file b5) sn.name) in
+    let N3 : List Node = put N2 (ScopeName (position_behind file b9) sm.name) in
     record {
-      nodes = put N3 (DefineScope (place_behind file b) (length row.nodes) (length N2) false);
-      flags = with_define_scope (length N3) (placed (place_behind file b) row.flags);
+      nodes = put N3 (DefineScope (position_behind file b) (length row.nodes) (length N2) false);
+      flags = with_define_scope (length N3) (placed (position_behind file b) row.flags);
       grown = front-then row.grown (front-then (front-one _) (front-then (front-one _) (front-one _)));
       read = define_scope_flag read (missing row.same_define) (quoted_scope sn.is) (quoted_scope sm.is);
       same_define =
@@ -273,7 +273,7 @@ with_static_again W file M i2 b t define scope runs_in true row =
     ap (λ (s : Bool). if s then None else Some more) row.same_static in
     record {
       nodes = row.nodes;
-      flags = placed (place_behind file b) more;
+      flags = placed (position_behind file b) more;
       grown = row.grown;
       read = modifier row.read
           added;
@@ -314,7 +314,7 @@ with_abstract_again W file M i2 b t define scope runs_in is_static true row =
     ap (λ (s : Bool). if s then None else Some more) row.same_abstract in
     record {
       nodes = row.nodes;
-      flags = placed (place_behind file b) more;
+      flags = placed (position_behind file b) more;
       grown = row.grown;
       read = modifier row.read
           added;
@@ -355,7 +355,7 @@ with_synchronized_again W file M i2 b t define scope runs_in is_static is_abstra
     ap (λ (s : Bool). if s then None else Some more) row.same_synchronized in
     record {
       nodes = row.nodes;
-      flags = placed (place_behind file b) more;
+      flags = placed (position_behind file b) more;
       grown = row.grown;
       read = modifier row.read
           added;

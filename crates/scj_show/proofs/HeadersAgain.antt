@@ -1,7 +1,7 @@
 -- The canonical lexemes of types and of what stands behind a class's name are read as the same.
 use Rattle.std.proofs.Common.{◌≡◌, ℕ, true, false, List, [], ◌∷◌, ◌++◌, Some, None, slice_get, length, refl, ap, ◌∙◌}
 use Rattle.scj_base.specs.Vocabulary.{word_boolean, word_int, word_long, word_void, sign_left_bracket, sign_right_bracket, sign_less, sign_greater}
-use Rattle.scj_base.specs.Lex.{place_behind}
+use Rattle.scj_base.specs.Lex.{position_behind}
 use Rattle.scj_tree.specs.declared.nodes.Node.{Node}
 use Rattle.scj_tree.specs.declared.nodes.Node.TheVariants.{SuperType, TypeArgument, IntType, BooleanType, ClassType, VoidType, LongType}
 use Rattle.scj_tree.specs.Lexemes.{Lexeme}
@@ -47,40 +47,40 @@ type_again W first file M b o2 (int_type {N = N} {p = p}) f =
     let at : slice_get W (length N) ≡ Some (IntType p false) = front-at _ _ f in
     let said : whole W (length N) ≡ a_word word_int ∷ [] = whole_at W _ _ first at in
     told_moved (ap (λ (ss : List Symbol). laid file b ss o2) said)
-    (told_of (put M (IntType (place_behind file b) false)) (length M) (front-one _) (int_type)
+    (told_of (put M (IntType (position_behind file b) false)) (length M) (front-one _) (int_type)
     (λ V g. alike at (front-at _ _ g) refl none_alike))
 type_again W first file M b o2 (int_array {N = N} {p = p}) f =
     let at : slice_get W (length N) ≡ Some (IntType p true) = front-at _ _ f in
     let said : whole W (length N) ≡ a_word word_int ∷ a_sign sign_left_bracket ∷ a_sign sign_right_bracket ∷ [] =
     whole_at W _ _ first at in
     told_moved (ap (λ (ss : List Symbol). laid file b ss o2) said)
-    (told_of (put M (IntType (place_behind file b) true)) (length M) (front-one _) (int_array)
+    (told_of (put M (IntType (position_behind file b) true)) (length M) (front-one _) (int_array)
     (λ V g. alike at (front-at _ _ g) refl none_alike))
 type_again W first file M b o2 (boolean_type {N = N} {p = p}) f =
     let at : slice_get W (length N) ≡ Some (BooleanType p false) = front-at _ _ f in
     let said : whole W (length N) ≡ a_word word_boolean ∷ [] = whole_at W _ _ first at in
     told_moved (ap (λ (ss : List Symbol). laid file b ss o2) said)
-    (told_of (put M (BooleanType (place_behind file b) false)) (length M) (front-one _) (boolean_type)
+    (told_of (put M (BooleanType (position_behind file b) false)) (length M) (front-one _) (boolean_type)
     (λ V g. alike at (front-at _ _ g) refl none_alike))
 type_again W first file M b o2 (boolean_array {N = N} {p = p}) f =
     let at : slice_get W (length N) ≡ Some (BooleanType p true) = front-at _ _ f in
     let said : whole W (length N) ≡ a_word word_boolean ∷ a_sign sign_left_bracket ∷ a_sign sign_right_bracket ∷ [] =
     whole_at W _ _ first at in
     told_moved (ap (λ (ss : List Symbol). laid file b ss o2) said)
-    (told_of (put M (BooleanType (place_behind file b) true)) (length M) (front-one _) (boolean_array)
+    (told_of (put M (BooleanType (position_behind file b) true)) (length M) (front-one _) (boolean_array)
     (λ V g. alike at (front-at _ _ g) refl none_alike))
 type_again W first file M b o2 (class_type {N = N} {w = w} {p = p}) f =
     let at : slice_get W (length N) ≡ Some (ClassType p w None false) = front-at _ _ f in
     let said : whole W (length N) ≡ a_name w ∷ [] = whole_at W _ _ first at in
     told_moved (ap (λ (ss : List Symbol). laid file b ss o2) said)
-    (told_of (put M (ClassType (place_behind file b) w None false)) (length M) (front-one _) (class_type)
+    (told_of (put M (ClassType (position_behind file b) w None false)) (length M) (front-one _) (class_type)
     (λ V g. alike at (front-at _ _ g) refl none_alike))
 type_again W first file M b o2 (class_array {N = N} {w = w} {p = p}) f =
     let at : slice_get W (length N) ≡ Some (ClassType p w None true) = front-at _ _ f in
     let said : whole W (length N) ≡ a_name w ∷ a_sign sign_left_bracket ∷ a_sign sign_right_bracket ∷ [] =
     whole_at W _ _ first at in
     told_moved (ap (λ (ss : List Symbol). laid file b ss o2) said)
-    (told_of (put M (ClassType (place_behind file b) w None true)) (length M) (front-one _) (class_array)
+    (told_of (put M (ClassType (position_behind file b) w None true)) (length M) (front-one _) (class_array)
     (λ V g. alike at (front-at _ _ g) refl none_alike))
 type_again W first file M b o2 (argument_type {N = N} {w = w} {v = v} {p = p} {r = r} h) f =
     let at : slice_get W (length (put N (TypeArgument r v))) ≡ Some (ClassType p w (Some (length N)) false) =
@@ -94,9 +94,9 @@ type_again W first file M b o2 (argument_type {N = N} {w = w} {v = v} {p = p} {r
     (ap (λ (ss : List Symbol). laid file b ss o2)
     (said ∙ ap (λ (ss : List Symbol). a_name w ∷ a_sign sign_less ∷ (ss ++ (a_sign sign_greater ∷ []))) argument))
     (told_of
-    (put (put M (TypeArgument (place_behind file b2) v))
-    (ClassType (place_behind file b) w (Some (length M)) false))
-    (length (put M (TypeArgument (place_behind file b2) v))) (front-then (front-one _) (front-one _))
+    (put (put M (TypeArgument (position_behind file b2) v))
+    (ClassType (position_behind file b) w (Some (length M)) false))
+    (length (put M (TypeArgument (position_behind file b2) v))) (front-then (front-one _) (front-one _))
     (argument_type h)
     (λ V g. alike at (front-at _ _ g) refl
     (one_alike (alike under (front-at _ _ (front-put _ _ g)) refl none_alike) none_alike)))
@@ -115,8 +115,8 @@ type_again W first file M b o2 (argument_array {N = N} {w = w} {v = v} {p = p} {
     ∙ ap (λ (ss : List Symbol). a_name w ∷ a_sign sign_less
     ∷ (ss ++ (a_sign sign_greater ∷ a_sign sign_left_bracket ∷ a_sign sign_right_bracket ∷ []))) argument))
     (told_of
-    (put (put M (TypeArgument (place_behind file b2) v)) (ClassType (place_behind file b) w (Some (length M)) true))
-    (length (put M (TypeArgument (place_behind file b2) v))) (front-then (front-one _) (front-one _))
+    (put (put M (TypeArgument (position_behind file b2) v)) (ClassType (position_behind file b) w (Some (length M)) true))
+    (length (put M (TypeArgument (position_behind file b2) v))) (front-then (front-one _) (front-one _))
     (argument_array h)
     (λ V g. alike at (front-at _ _ g) refl
     (one_alike (alike under (front-at _ _ (front-put _ _ g)) refl none_alike) none_alike)))
@@ -131,13 +131,13 @@ result_again W first file M b o2 (void_result {N = N} {p = p}) f =
     let at : slice_get W (length N) ≡ Some (VoidType p) = front-at _ _ f in
     let said : whole W (length N) ≡ a_word word_void ∷ [] = whole_at W _ _ first at in
     told_moved (ap (λ (ss : List Symbol). laid file b ss o2) said)
-    (told_of (put M (VoidType (place_behind file b))) (length M) (front-one _) (void_result)
+    (told_of (put M (VoidType (position_behind file b))) (length M) (front-one _) (void_result)
     (λ V g. alike at (front-at _ _ g) refl none_alike))
 result_again W first file M b o2 (long_result {N = N} {p = p}) f =
     let at : slice_get W (length N) ≡ Some (LongType p) = front-at _ _ f in
     let said : whole W (length N) ≡ a_word word_long ∷ [] = whole_at W _ _ first at in
     told_moved (ap (λ (ss : List Symbol). laid file b ss o2) said)
-    (told_of (put M (LongType (place_behind file b))) (length M) (front-one _) (long_result)
+    (told_of (put M (LongType (position_behind file b))) (length M) (front-one _) (long_result)
     (λ V g. alike at (front-at _ _ g) refl none_alike))
 
 -- ---- superclasses and interfaces
@@ -151,7 +151,7 @@ super_again W first file M b o2 (super_type {N = N} {w = w} {p = p}) f =
     let at : slice_get W (length N) ≡ Some (SuperType p w None) = front-at _ _ f in
     let said : whole W (length N) ≡ a_name w ∷ [] = whole_at W _ _ first at in
     told_moved (ap (λ (ss : List Symbol). laid file b ss o2) said)
-    (told_of (put M (SuperType (place_behind file b) w None)) (length M) (front-one _) (super_type)
+    (told_of (put M (SuperType (position_behind file b) w None)) (length M) (front-one _) (super_type)
     (λ V g. alike at (front-at _ _ g) refl none_alike))
 super_again W first file M b o2 (super_type_with_argument {N = N} {w = w} {v = v} {p = p} {r = r} h) f =
     let at : slice_get W (length (put N (TypeArgument r v))) ≡ Some (SuperType p w (Some (length N))) =
@@ -165,8 +165,8 @@ super_again W first file M b o2 (super_type_with_argument {N = N} {w = w} {v = v
     (ap (λ (ss : List Symbol). laid file b ss o2)
     (said ∙ ap (λ (ss : List Symbol). a_name w ∷ a_sign sign_less ∷ (ss ++ (a_sign sign_greater ∷ []))) argument))
     (told_of
-    (put (put M (TypeArgument (place_behind file b2) v)) (SuperType (place_behind file b) w (Some (length M))))
-    (length (put M (TypeArgument (place_behind file b2) v))) (front-then (front-one _) (front-one _))
+    (put (put M (TypeArgument (position_behind file b2) v)) (SuperType (position_behind file b) w (Some (length M))))
+    (length (put M (TypeArgument (position_behind file b2) v))) (front-then (front-one _) (front-one _))
     (super_type_with_argument h)
     (λ V g. alike at (front-at _ _ g) refl
     (one_alike (alike under (front-at _ _ (front-put _ _ g)) refl none_alike) none_alike)))

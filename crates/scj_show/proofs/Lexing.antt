@@ -14,7 +14,7 @@ use Rattle.scj_base.specs.declared.lexemes.TokenKind.TheVariants.{Number}
 use Rattle.scj_base.specs.Lexeme.{is_blank, is_letter, is_digit, is_name_byte, IsWordLike, IsNumeral, IsReserved, value_of, opens_comment, Lexeme, is_name}
 use Rattle.scj_base.specs.Lexeme.Lexeme.{name, word, number, text, sign}
 use Rattle.scj_base.specs.Lexeme.Piece.{blank, lexeme}
-use Rattle.scj_base.specs.Lex.{Lexes, token_at, place_behind}
+use Rattle.scj_base.specs.Lex.{Lexes, token_at, position_behind}
 use Rattle.scj_base.specs.Lex.Lexes.{ends, skips, takes}
 use Rattle.scj_tree.specs.Lexemes.{Lexeme as TreeLexeme, part_of, lexeme_of, lexemes_of}
 use Rattle.scj_base.specs.Bytes.{is_one_of, is_same}
@@ -232,11 +232,11 @@ text_behind before w rest = ap (λ (t : List ℕ). part_of t (length before + 1)
 
 one_read : (file : ℕ) (before : List ℕ) (s : Symbol) (rest : List ℕ) →
     lexeme_of (before ++ (bytes_of s ++ rest)) (token_at file before (kind_of s) (length (bytes_of s))) ≡ lexeme_at s
-    (place_behind file before)
+    (position_behind file before)
 unfolding lexeme_of kind_of lexeme_at bytes_of
-one_read file before (a_name w) rest = ap (λ (t : List ℕ). TreeLexeme.a_name t (place_behind file before))
+one_read file before (a_name w) rest = ap (λ (t : List ℕ). TreeLexeme.a_name t (position_behind file before))
     (part_behind before w rest _ _ refl refl)
-one_read file before (a_text w) rest = ap (λ (t : List ℕ). TreeLexeme.a_text t (place_behind file before))
+one_read file before (a_text w) rest = ap (λ (t : List ℕ). TreeLexeme.a_text t (position_behind file before))
     (text_behind before w rest)
 one_read file before (a_word n) rest = refl
 one_read file before (a_sign n) rest = refl
@@ -252,10 +252,10 @@ reads file before (s ∷ ss) =
     ap (λ (t : List ℕ). lexemes_of t (tokens_behind file (before ++ printed s) ss))
     (sym (append_assoc before (printed s) (canonical ss))) ∙ reads file (before ++ printed s) ss in
     let one : lexeme_of (before ++ (printed s ++ canonical ss)) (token_at file before (kind_of s) (length (bytes_of s)))
-    ≡ lexeme_at s (place_behind file before) =
+    ≡ lexeme_at s (position_behind file before) =
     ap (λ (t : List ℕ). lexeme_of (before ++ t) (token_at file before (kind_of s) (length (bytes_of s))))
     (append_assoc (bytes_of s) (separator s ∷ []) (canonical ss))
     ∙ one_read file before s ((separator s ∷ []) ++ canonical ss) in
     ap (λ (t : TreeLexeme). t ∷ lexemes_of (before ++ (printed s ++ canonical ss))
     (tokens_behind file (before ++ printed s) ss)) one
-    ∙ ap (λ (t : List TreeLexeme). lexeme_at s (place_behind file before) ∷ t) more
+    ∙ ap (λ (t : List TreeLexeme). lexeme_at s (position_behind file before) ∷ t) more

@@ -1,7 +1,7 @@
 -- The canonical lexemes of members, classes and files are read as the same.
 use Rattle.std.proofs.Common.{append-nil, append_assoc, ◌≡◌, ℕ, true, false, List, [], ◌∷◌, ◌++◌, Option, Some, None, slice_get, length, refl, sym, ap, ◌∙◌}
 use Rattle.scj_base.specs.Vocabulary.{word_class, word_false, word_null, word_super, word_true, sign_left_brace, sign_right_brace, sign_left_parenthesis, sign_semicolon, sign_assign, sign_minus}
-use Rattle.scj_base.specs.Lex.{place_behind}
+use Rattle.scj_base.specs.Lex.{position_behind}
 use Rattle.scj_tree.specs.declared.nodes.Node.{Node}
 use Rattle.scj_tree.specs.declared.nodes.Node.TheVariants.{Class, Field, Method, Constructor, SuperCall, Block, Number, True, False, Null}
 use Rattle.scj_tree.specs.Lexemes.{Lexeme, a_name as name_at, a_word as word_at, a_sign as sign_at}
@@ -79,31 +79,31 @@ literal_again W first file M b o2 (number_literal {N = N} {n = n} {p = p} h) f =
     let at : slice_get W (length N) ≡ Some (Number p n false) = front-at _ _ f in
     let said : whole W (length N) ≡ a_number n ∷ [] = whole_at W _ _ first at in
     told_moved (ap (λ (ss : List Symbol). laid file b ss o2) said)
-    (told_of (put M (Number (place_behind file b) n false)) (length M) (front-one _) (number_literal h)
+    (told_of (put M (Number (position_behind file b) n false)) (length M) (front-one _) (number_literal h)
     (λ V g. alike at (front-at _ _ g) refl none_alike))
 literal_again W first file M b o2 (negative_literal {N = N} {n = n} {p = p}) f =
     let at : slice_get W (length N) ≡ Some (Number p n true) = front-at _ _ f in
     let said : whole W (length N) ≡ a_sign sign_minus ∷ a_number n ∷ [] = whole_at W _ _ first at in
     told_moved (ap (λ (ss : List Symbol). laid file b ss o2) said)
-    (told_of (put M (Number (place_behind file b) n true)) (length M) (front-one _) (negative_literal)
+    (told_of (put M (Number (position_behind file b) n true)) (length M) (front-one _) (negative_literal)
     (λ V g. alike at (front-at _ _ g) refl none_alike))
 literal_again W first file M b o2 (true_literal {N = N} {p = p}) f =
     let at : slice_get W (length N) ≡ Some (True p) = front-at _ _ f in
     let said : whole W (length N) ≡ a_word word_true ∷ [] = whole_at W _ _ first at in
     told_moved (ap (λ (ss : List Symbol). laid file b ss o2) said)
-    (told_of (put M (True (place_behind file b))) (length M) (front-one _) (true_literal)
+    (told_of (put M (True (position_behind file b))) (length M) (front-one _) (true_literal)
     (λ V g. alike at (front-at _ _ g) refl none_alike))
 literal_again W first file M b o2 (false_literal {N = N} {p = p}) f =
     let at : slice_get W (length N) ≡ Some (False p) = front-at _ _ f in
     let said : whole W (length N) ≡ a_word word_false ∷ [] = whole_at W _ _ first at in
     told_moved (ap (λ (ss : List Symbol). laid file b ss o2) said)
-    (told_of (put M (False (place_behind file b))) (length M) (front-one _) (false_literal)
+    (told_of (put M (False (position_behind file b))) (length M) (front-one _) (false_literal)
     (λ V g. alike at (front-at _ _ g) refl none_alike))
 literal_again W first file M b o2 (null_literal {N = N} {p = p}) f =
     let at : slice_get W (length N) ≡ Some (Null p) = front-at _ _ f in
     let said : whole W (length N) ≡ a_word word_null ∷ [] = whole_at W _ _ first at in
     told_moved (ap (λ (ss : List Symbol). laid file b ss o2) said)
-    (told_of (put M (Null (place_behind file b))) (length M) (front-one _) (null_literal)
+    (told_of (put M (Null (position_behind file b))) (length M) (front-one _) (null_literal)
     (λ V g. alike at (front-at _ _ g) refl none_alike))
 
 pub member_again : (W : List Node) → ChildrenFirst 0 W →
@@ -120,8 +120,8 @@ member_again W first file M b o2 (field {N1 = N1} {N2 = N2} {flags = flags} {t =
     let b1 : List ℕ = b ++ canonical (maybe_symbols W (flags_number N1 flags)) in
     let b2 : List ℕ = b1 ++ canonical (whole W t) in
     let b3 : List ℕ = b2 ++ printed (a_name w) in
-    let t3 : List Lexeme = sign_at sign_semicolon (place_behind file b3) ∷ o2 in
-    let t2 : List Lexeme = name_at w (place_behind file b2) ∷ t3 in
+    let t3 : List Lexeme = sign_at sign_semicolon (position_behind file b3) ∷ o2 in
+    let t2 : List Lexeme = name_at w (position_behind file b2) ∷ t3 in
     let t1 : List Lexeme = laid file b1 (whole W t) t2 in
     let t0 : List Lexeme = laid file b (maybe_symbols W (flags_number N1 flags)) t1 in
     let a1 = flags_again false W first file M b t1 d0 src (front-then (type_front d1) (front-put _ _ f)) in
@@ -133,7 +133,7 @@ member_again W first file M b o2 (field {N1 = N1} {N2 = N2} {flags = flags} {t =
     let same : laid file b (whole W (length (N2))) o2 ≡ t0 = ap (λ (ss : List Symbol). laid file b ss o2) said
     ∙ simp laid-append in
     told_moved same
-    (told_of (put a2.nodes (Field (place_behind file b2) w (flags_number a1.nodes a1.flags) a2.place None None))
+    (told_of (put a2.nodes (Field (position_behind file b2) w (flags_number a1.nodes a1.flags) a2.place None None))
     (length a2.nodes)
     (front-then a1.grown (front-then (flags_front a1.nodes a1.flags) (front-then a2.grown (front-one _))))
     (field a1.read a2.read) (λ V g. let fs = a1.alike V (front-then a2.grown (front-put _ _ g)) in
@@ -152,10 +152,10 @@ member_again W first file M b o2
     let b3 : List ℕ = b2 ++ printed (a_name w) in
     let b4 : List ℕ = b3 ++ printed (a_sign sign_assign) in
     let b5 : List ℕ = b4 ++ canonical (whole W v) in
-    let t5 : List Lexeme = sign_at sign_semicolon (place_behind file b5) ∷ o2 in
+    let t5 : List Lexeme = sign_at sign_semicolon (position_behind file b5) ∷ o2 in
     let t4 : List Lexeme = laid file b4 (whole W v) t5 in
-    let t3 : List Lexeme = sign_at sign_assign (place_behind file b3) ∷ t4 in
-    let t2 : List Lexeme = name_at w (place_behind file b2) ∷ t3 in
+    let t3 : List Lexeme = sign_at sign_assign (position_behind file b3) ∷ t4 in
+    let t2 : List Lexeme = name_at w (position_behind file b2) ∷ t3 in
     let t1 : List Lexeme = laid file b1 (whole W t) t2 in
     let t0 : List Lexeme = laid file b (maybe_symbols W (flags_number N1 flags)) t1 in
     let a1 =
@@ -174,7 +174,7 @@ member_again W first file M b o2
     told_moved same
     (told_of
     (put a3.nodes
-    (Field (place_behind file b2) w (flags_number a1.nodes a1.flags) a2.place (Some (place_behind file b3))
+    (Field (position_behind file b2) w (flags_number a1.nodes a1.flags) a2.place (Some (position_behind file b3))
     (Some a3.place))) (length a3.nodes)
     (front-then a1.grown
     (front-then (flags_front a1.nodes a1.flags) (front-then a2.grown (front-then a3.grown (front-one _)))))
@@ -196,9 +196,9 @@ member_again W first file M b o2
     let b2 : List ℕ = b1 ++ canonical (whole W t) in
     let b3 : List ℕ = b2 ++ printed (a_name w) in
     let b4 : List ℕ = b3 ++ canonical (parameter_symbols W ps) in
-    let t4 : List Lexeme = sign_at sign_semicolon (place_behind file b4) ∷ o2 in
+    let t4 : List Lexeme = sign_at sign_semicolon (position_behind file b4) ∷ o2 in
     let t3 : List Lexeme = laid file b3 (parameter_symbols W ps) t4 in
-    let t2 : List Lexeme = name_at w (place_behind file b2) ∷ t3 in
+    let t2 : List Lexeme = name_at w (position_behind file b2) ∷ t3 in
     let t1 : List Lexeme = laid file b1 (whole W t) t2 in
     let t0 : List Lexeme = laid file b (maybe_symbols W (flags_number N1 flags)) t1 in
     let a1 =
@@ -217,7 +217,7 @@ member_again W first file M b o2
     ∙ simp laid-append in
     told_moved same
     (told_of
-    (put a3.nodes (Method (place_behind file b2) w (flags_number a1.nodes a1.flags) a2.place a3.place None))
+    (put a3.nodes (Method (position_behind file b2) w (flags_number a1.nodes a1.flags) a2.place a3.place None))
     (length a3.nodes)
     (front-then a1.grown
     (front-then (flags_front a1.nodes a1.flags) (front-then a2.grown (front-then a3.grown (front-one _)))))
@@ -253,11 +253,11 @@ member_again W first file M b o2
     let b4 : List ℕ = b3 ++ canonical (parameter_symbols W ps) in
     let b5 : List ℕ = b4 ++ printed (a_sign sign_left_brace) in
     let b6 : List ℕ = b5 ++ canonical (symbols_of W ids) in
-    let t6 : List Lexeme = sign_at sign_right_brace (place_behind file b6) ∷ o2 in
+    let t6 : List Lexeme = sign_at sign_right_brace (position_behind file b6) ∷ o2 in
     let t5 : List Lexeme = laid file b5 (symbols_of W ids) t6 in
-    let t4 : List Lexeme = sign_at sign_left_brace (place_behind file b4) ∷ t5 in
+    let t4 : List Lexeme = sign_at sign_left_brace (position_behind file b4) ∷ t5 in
     let t3 : List Lexeme = laid file b3 (parameter_symbols W ps) t4 in
-    let t2 : List Lexeme = name_at w (place_behind file b2) ∷ t3 in
+    let t2 : List Lexeme = name_at w (position_behind file b2) ∷ t3 in
     let t1 : List Lexeme = laid file b1 (whole W t) t2 in
     let t0 : List Lexeme = laid file b (maybe_symbols W (flags_number N1 flags)) t1 in
     let f4 = front-put _ _ (front-put _ _ f) in
@@ -269,7 +269,7 @@ member_again W first file M b o2
     let a4 =
     statements_again W first file a3.nodes b5 t6 d3
     (behind (parameters_rest d2 (behind (result_rest d1 (row_rest d0 src))))) f4 (λ c. refl) in
-    let M4 : List Node = put a4.nodes (Block (place_behind file b4) a4.places) in
+    let M4 : List Node = put a4.nodes (Block (position_behind file b4) a4.places) in
     let said : whole W (length (put N4 (Block q ids))) ≡ maybe_symbols W (flags_number N1 flags)
     ++ (whole W t
     ++ (a_name w
@@ -281,7 +281,7 @@ member_again W first file M b o2
     ap (λ (ss : List Symbol). laid file b ss o2) said ∙ simp laid-append in
     told_moved same
     (told_of
-    (put M4 (Method (place_behind file b2) w (flags_number a1.nodes a1.flags) a2.place a3.place
+    (put M4 (Method (position_behind file b2) w (flags_number a1.nodes a1.flags) a2.place a3.place
     (Some (length a4.nodes)))) (length M4)
     (front-then a1.grown
     (front-then (flags_front a1.nodes a1.flags)
@@ -318,11 +318,11 @@ member_again W first file M b o2
     let b3 : List ℕ = b2 ++ canonical (parameter_symbols W ps) in
     let b4 : List ℕ = b3 ++ printed (a_sign sign_left_brace) in
     let b5 : List ℕ = b4 ++ canonical (symbols_of W ids) in
-    let t5 : List Lexeme = sign_at sign_right_brace (place_behind file b5) ∷ o2 in
+    let t5 : List Lexeme = sign_at sign_right_brace (position_behind file b5) ∷ o2 in
     let t4 : List Lexeme = laid file b4 (symbols_of W ids) t5 in
-    let t3 : List Lexeme = sign_at sign_left_brace (place_behind file b3) ∷ t4 in
+    let t3 : List Lexeme = sign_at sign_left_brace (position_behind file b3) ∷ t4 in
     let t2 : List Lexeme = laid file b2 (parameter_symbols W ps) t3 in
-    let t1 : List Lexeme = name_at w (place_behind file b1) ∷ t2 in
+    let t1 : List Lexeme = name_at w (position_behind file b1) ∷ t2 in
     let t0 : List Lexeme = laid file b (maybe_symbols W (flags_number N1 flags)) t1 in
     let f4 = front-put _ _ (front-put _ _ f) in
     let f3 = front-then (statements_front d3) f4 in
@@ -330,7 +330,7 @@ member_again W first file M b o2
     let a3 = parameters_again W first file (with_flags a1.nodes a1.flags) b2 t3 d2 (behind (row_rest d0 src)) f3 in
     let a4 = statements_again W first file a3.nodes b4 t5 d3 (behind (parameters_rest d2 (behind (row_rest d0 src)))) f4
     (λ c. refl) in
-    let M4 : List Node = put a4.nodes (Block (place_behind file b3) a4.places) in
+    let M4 : List Node = put a4.nodes (Block (position_behind file b3) a4.places) in
     let said : whole W (length (put N3 (Block q ids))) ≡ maybe_symbols W (flags_number N1 flags)
     ++ (a_name w
     ∷ (parameter_symbols W ps
@@ -341,7 +341,7 @@ member_again W first file M b o2
     ap (λ (ss : List Symbol). laid file b ss o2) said ∙ simp laid-append in
     told_moved same
     (told_of
-    (put M4 (Constructor (place_behind file b1) w (flags_number a1.nodes a1.flags) a3.place None (length a4.nodes)))
+    (put M4 (Constructor (position_behind file b1) w (flags_number a1.nodes a1.flags) a3.place None (length a4.nodes)))
     (length M4)
     (front-then a1.grown
     (front-then (flags_front a1.nodes a1.flags)
@@ -392,15 +392,15 @@ member_again W first file M b o2
     let b7 : List ℕ = b6 ++ canonical (arguments_of W args) in
     let b8 : List ℕ = b7 ++ printed (a_sign sign_semicolon) in
     let b9 : List ℕ = b8 ++ canonical (symbols_of W ids) in
-    let t9 : List Lexeme = sign_at sign_right_brace (place_behind file b9) ∷ o2 in
+    let t9 : List Lexeme = sign_at sign_right_brace (position_behind file b9) ∷ o2 in
     let t8 : List Lexeme = laid file b8 (symbols_of W ids) t9 in
-    let t7 : List Lexeme = sign_at sign_semicolon (place_behind file b7) ∷ t8 in
+    let t7 : List Lexeme = sign_at sign_semicolon (position_behind file b7) ∷ t8 in
     let t6 : List Lexeme = laid file b6 (arguments_of W args) t7 in
-    let t5 : List Lexeme = sign_at sign_left_parenthesis (place_behind file b5) ∷ t6 in
-    let t4 : List Lexeme = word_at word_super (place_behind file b4) ∷ t5 in
-    let t3 : List Lexeme = sign_at sign_left_brace (place_behind file b3) ∷ t4 in
+    let t5 : List Lexeme = sign_at sign_left_parenthesis (position_behind file b5) ∷ t6 in
+    let t4 : List Lexeme = word_at word_super (position_behind file b4) ∷ t5 in
+    let t3 : List Lexeme = sign_at sign_left_brace (position_behind file b3) ∷ t4 in
     let t2 : List Lexeme = laid file b2 (parameter_symbols W ps) t3 in
-    let t1 : List Lexeme = name_at w (place_behind file b1) ∷ t2 in
+    let t1 : List Lexeme = name_at w (position_behind file b1) ∷ t2 in
     let t0 : List Lexeme = laid file b (maybe_symbols W (flags_number N1 flags)) t1 in
     let f4 = front-put _ _ (front-put _ _ f) in
     let fc = front-then (statements_front d3) f4 in
@@ -409,11 +409,11 @@ member_again W first file M b o2
     let a1 = flags_again false W first file M b t1 d0 src (front-then (parameters_front d2) f3) in
     let a3 = parameters_again W first file (with_flags a1.nodes a1.flags) b2 t3 d2 (behind (row_rest d0 src)) f3 in
     let a5 = arguments_again W first file a3.nodes b6 t7 d4 fa (λ c. c) in
-    let M5 : List Node = put a5.nodes (SuperCall (place_behind file b4) a5.places) in
+    let M5 : List Node = put a5.nodes (SuperCall (position_behind file b4) a5.places) in
     let a4 =
     statements_again W first file M5 b8 t9 d3
     (behind (arguments_rest d4 (behind3 (parameters_rest d2 (behind (row_rest d0 src)))))) f4 (λ c. refl) in
-    let M4 : List Node = put a4.nodes (Block (place_behind file b3) a4.places) in
+    let M4 : List Node = put a4.nodes (Block (position_behind file b3) a4.places) in
     let said : whole W (length (put N4 (Block q ids))) ≡ maybe_symbols W (flags_number N1 flags)
     ++ (a_name w
     ∷ (parameter_symbols W ps
@@ -434,7 +434,7 @@ member_again W first file M b o2
     ap (λ (ss : List Symbol). laid file b ss o2) said ∙ simp laid-append in
     told_moved same
     (told_of
-    (put M4 (Constructor (place_behind file b1) w (flags_number a1.nodes a1.flags) a3.place (Some (length a5.nodes))
+    (put M4 (Constructor (position_behind file b1) w (flags_number a1.nodes a1.flags) a3.place (Some (length a5.nodes))
     (length a4.nodes))) (length M4)
     (front-then a1.grown
     (front-then (flags_front a1.nodes a1.flags)
@@ -496,11 +496,11 @@ class_again W first file M b o2
     let b3 : List ℕ = b2 ++ printed (a_name w) in
     let b4 : List ℕ = b3 ++ canonical ((maybe_symbols W header ++ a_sign sign_left_brace ∷ [])) in
     let b5 : List ℕ = b4 ++ canonical (symbols_of W ids) in
-    let t5 : List Lexeme = sign_at sign_right_brace (place_behind file b5) ∷ o2 in
+    let t5 : List Lexeme = sign_at sign_right_brace (position_behind file b5) ∷ o2 in
     let t4 : List Lexeme = laid file b4 (symbols_of W ids) t5 in
     let t3 : List Lexeme = laid file b3 ((maybe_symbols W header ++ a_sign sign_left_brace ∷ [])) t4 in
-    let t2 : List Lexeme = name_at w (place_behind file b2) ∷ t3 in
-    let t1 : List Lexeme = word_at word_class (place_behind file b1) ∷ t2 in
+    let t2 : List Lexeme = name_at w (position_behind file b2) ∷ t3 in
+    let t1 : List Lexeme = word_at word_class (position_behind file b1) ∷ t2 in
     let t0 : List Lexeme = laid file b (maybe_symbols W (flags_number N1 flags)) t1 in
     let a1 =
     flags_again false W first file M b t1 d0 src
@@ -523,21 +523,21 @@ class_again W first file M b o2
     ++ (a_word word_class ∷ a_name w
     ∷ ((maybe_symbols W header ++ a_sign sign_left_brace ∷ [])
     ++ (symbols_of W ids ++ a_sign sign_right_brace ∷ [])))) o2 ≡ laid file b
-    (maybe_symbols W (flags_number N1 flags)) (word_at word_class (place_behind file b1)
-    ∷ name_at w (place_behind file b2)
+    (maybe_symbols W (flags_number N1 flags)) (word_at word_class (position_behind file b1)
+    ∷ name_at w (position_behind file b2)
     ∷ laid file b3 ((maybe_symbols W header ++ a_sign sign_left_brace ∷ [])
     ++ (symbols_of W ids ++ a_sign sign_right_brace ∷ [])) o2) = laid-append file b
     (maybe_symbols W (flags_number N1 flags)) _ o2 in
     let same : laid file b (whole W (length (N3))) o2 ≡ t0 = ap (λ (ss : List Symbol). laid file b ss o2) said ∙ opening
     ∙ ap
     (λ (x : List Lexeme). laid file b (maybe_symbols W (flags_number N1 flags))
-    (word_at word_class (place_behind file b1) ∷ name_at w (place_behind file b2) ∷ x))
+    (word_at word_class (position_behind file b1) ∷ name_at w (position_behind file b2) ∷ x))
     (laid-append file b3 (maybe_symbols W header ++ a_sign sign_left_brace ∷ [])
     (symbols_of W ids ++ a_sign sign_right_brace ∷ []) o2
     ∙ ap (λ (x : List Lexeme). laid file b3 (maybe_symbols W header ++ a_sign sign_left_brace ∷ []) x)
     (laid-append file b4 (symbols_of W ids) (a_sign sign_right_brace ∷ []) o2)) in
     told_moved same
-    (told_of (put a3.nodes (Class (place_behind file b2) w (flags_number a1.nodes a1.flags) a2.place a3.places))
+    (told_of (put a3.nodes (Class (position_behind file b2) w (flags_number a1.nodes a1.flags) a2.place a3.places))
     (length a3.nodes)
     (front-then a1.grown
     (front-then (flags_front a1.nodes a1.flags) (front-then a2.grown (front-then a3.grown (front-one _)))))

@@ -4,7 +4,7 @@ use Rattle.std.specs.Prelude.{if◌then◌else◌}
 use Rattle.std.proofs.lemmas.Bool.{false≢true, eqb-true}
 use Rattle.scj_base.specs.Vocabulary.{word_else, word_final, word_for, word_if, word_return, word_while, sign_left_brace, sign_right_brace, sign_left_parenthesis, sign_right_parenthesis, sign_semicolon, sign_assign}
 use Rattle.scj_base.specs.declared.places.Pos.{Pos}
-use Rattle.scj_base.specs.Lex.{place_behind}
+use Rattle.scj_base.specs.Lex.{position_behind}
 use Rattle.scj_tree.specs.declared.nodes.Node.{Node}
 use Rattle.scj_tree.specs.declared.nodes.Node.TheVariants.{Block, Empty, Local, LocalWithValue, ExpressionStatement, If, While, For, Return}
 use Rattle.scj_tree.specs.declared.readings.FlagSet.{FlagSet}
@@ -252,11 +252,11 @@ mutual
       ∷ symbols_of_parts (written W) (each ids ++ Sign sign_right_brace ∷ []) = whole_at W _ _ first at in
       let b1 : List ℕ = b ++ printed (a_sign sign_left_brace) in
       let b2 : List ℕ = b1 ++ canonical (symbols_of W ids) in
-      let t2 : List Lexeme = sign_at sign_right_brace (place_behind file b2) ∷ o2 in
+      let t2 : List Lexeme = sign_at sign_right_brace (position_behind file b2) ∷ o2 in
       let t1 : List Lexeme = laid file b1 (symbols_of W ids) t2 in
-      let t0 : List Lexeme = sign_at sign_left_brace (place_behind file b) ∷ t1 in
+      let t0 : List Lexeme = sign_at sign_left_brace (position_behind file b) ∷ t1 in
       let a1 = statements_again W first file M b1 t2 d (behind src) (front-put _ _ f) (λ c. refl) in
-      let made : Node = Block (place_behind file b) a1.places in
+      let made : Node = Block (position_behind file b) a1.places in
       let said : whole W (length N1) ≡ a_sign sign_left_brace ∷ (symbols_of W ids ++ (a_sign sign_right_brace ∷ ([]))) =
       opened ∙ ap (λ (ss : List Symbol). a_sign sign_left_brace ∷ ss)
       (symbols_of_parts-append (written W) (each ids) (Sign sign_right_brace ∷ [])) in
@@ -267,8 +267,8 @@ mutual
       alike at (front-at _ _ g) (ap (λ (t : List ℕ). Block nowhere t) (counted-same all)) all))
   statement_again W first file M b o2 (empty {N = N} {p = p}) src f h =
       let at : slice_get W (length N) ≡ Some (Empty p) = front-at _ _ f in
-      let t0 : List Lexeme = sign_at sign_semicolon (place_behind file b) ∷ o2 in
-      let made : Node = Empty (place_behind file b) in
+      let t0 : List Lexeme = sign_at sign_semicolon (position_behind file b) ∷ o2 in
+      let made : Node = Empty (position_behind file b) in
       let said : whole W (length N) ≡ a_sign sign_semicolon ∷ ([]) = whole_at W _ _ first at in
       let same : laid file b (whole W (length N)) o2 ≡ t0 = ap (λ (ss : List Symbol). laid file b ss o2) said in
       told_moved same
@@ -280,12 +280,12 @@ mutual
       let b1 : List ℕ = b ++ canonical (maybe_symbols W flags) in
       let b2 : List ℕ = b1 ++ canonical (whole W t) in
       let b3 : List ℕ = b2 ++ printed (a_name w) in
-      let t3 : List Lexeme = sign_at sign_semicolon (place_behind file b3) ∷ o2 in
-      let t2 : List Lexeme = name_at w (place_behind file b2) ∷ t3 in
+      let t3 : List Lexeme = sign_at sign_semicolon (position_behind file b3) ∷ o2 in
+      let t2 : List Lexeme = name_at w (position_behind file b2) ∷ t3 in
       let t1 : List Lexeme = laid file b1 (whole W t) t2 in
       let t0 : List Lexeme = laid file b (maybe_symbols W flags) t1 in
       let a1 = local_type_again W first file M b t2 d src (front-put _ _ f) in
-      let made : Node = Local (place_behind file b2) w a1.number a1.place in
+      let made : Node = Local (position_behind file b2) w a1.number a1.place in
       let said : whole W (length N1) ≡ maybe_symbols W flags
       ++ (whole W t ++ (a_name w ∷ (a_sign sign_semicolon ∷ ([])))) =
       opened ∙ symbols_of_parts-append (written W) (maybe flags) (Whole t ∷ Named w ∷ Sign sign_semicolon ∷ []) in
@@ -306,15 +306,15 @@ mutual
       let b3 : List ℕ = b2 ++ printed (a_name w) in
       let b4 : List ℕ = b3 ++ printed (a_sign sign_assign) in
       let b5 : List ℕ = b4 ++ canonical (whole W e) in
-      let t5 : List Lexeme = sign_at sign_semicolon (place_behind file b5) ∷ o2 in
+      let t5 : List Lexeme = sign_at sign_semicolon (position_behind file b5) ∷ o2 in
       let t4 : List Lexeme = laid file b4 (whole W e) t5 in
-      let t3 : List Lexeme = sign_at sign_assign (place_behind file b3) ∷ t4 in
-      let t2 : List Lexeme = name_at w (place_behind file b2) ∷ t3 in
+      let t3 : List Lexeme = sign_at sign_assign (position_behind file b3) ∷ t4 in
+      let t2 : List Lexeme = name_at w (position_behind file b2) ∷ t3 in
       let t1 : List Lexeme = laid file b1 (whole W t) t2 in
       let t0 : List Lexeme = laid file b (maybe_symbols W flags) t1 in
       let a1 = local_type_again W first file M b t2 d1 src (front-then (level_front d2) (front-put _ _ f)) in
       let a2 = level_again W first file a1.nodes b4 t5 d2 (front-put _ _ f) (λ c. c) in
-      let made : Node = LocalWithValue (place_behind file b3) (place_behind file b2) w a1.number a1.place a2.place in
+      let made : Node = LocalWithValue (position_behind file b3) (position_behind file b2) w a1.number a1.place a2.place in
       let said : whole W (length N2) ≡ maybe_symbols W flags
       ++ (whole W t ++ (a_name w ∷ (a_sign sign_assign ∷ (whole W e ++ (a_sign sign_semicolon ∷ ([])))))) =
       opened ∙ symbols_of_parts-append (written W) (maybe flags) (Whole t ∷ Named w ∷ Sign sign_assign ∷ Whole e
@@ -330,7 +330,7 @@ mutual
       (one_alike (a2.alike V (front-put _ _ g)) none_alike)))))
   statement_again W first file M b o2 (assign_statement {id = id} d) src f h =
       let b1 : List ℕ = b ++ canonical (bare W id) in
-      let t1 : List Lexeme = sign_at sign_semicolon (place_behind file b1) ∷ o2 in
+      let t1 : List Lexeme = sign_at sign_semicolon (position_behind file b1) ∷ o2 in
       let a = assignment_again W first file M b t1 d f refl in
       let same : laid file b (whole W id) o2 ≡ laid file b (bare W id) t1 =
       ap (λ (ss : List Symbol). laid file b ss o2) (assignment_statement first d f) ∙ simp laid-append in
@@ -338,7 +338,7 @@ mutual
   statement_again W first file M b o2 (call_statement {N1 = N1} {e = e} {p = p} d) src f h =
       let at : slice_get W (length N1) ≡ Some (ExpressionStatement p e) = front-at _ _ f in
       let b1 : List ℕ = b ++ canonical (whole W e) in
-      let t1 : List Lexeme = sign_at sign_semicolon (place_behind file b1) ∷ o2 in
+      let t1 : List Lexeme = sign_at sign_semicolon (position_behind file b1) ∷ o2 in
       let t0 : List Lexeme = laid file b (whole W e) t1 in
       let a1 = post_again W first file M b t1 d (front-put _ _ f) (λ c. c) in
       let made : Node = ExpressionStatement a1.read.at a1.place in
@@ -356,14 +356,14 @@ mutual
       let b3 : List ℕ = b2 ++ canonical (whole W c) in
       let b4 : List ℕ = b3 ++ printed (a_sign sign_right_parenthesis) in
       let t4 : List Lexeme = laid file b4 (whole W s) o2 in
-      let t3 : List Lexeme = sign_at sign_right_parenthesis (place_behind file b3) ∷ t4 in
+      let t3 : List Lexeme = sign_at sign_right_parenthesis (position_behind file b3) ∷ t4 in
       let t2 : List Lexeme = laid file b2 (whole W c) t3 in
-      let t1 : List Lexeme = sign_at sign_left_parenthesis (place_behind file b1) ∷ t2 in
-      let t0 : List Lexeme = word_at word_if (place_behind file b) ∷ t1 in
+      let t1 : List Lexeme = sign_at sign_left_parenthesis (position_behind file b1) ∷ t2 in
+      let t0 : List Lexeme = word_at word_if (position_behind file b) ∷ t1 in
       let a1 = level_again W first file M b2 t3 d1 (front-then (statement_front d2) (front-put _ _ f)) (λ c. c) in
       let a2 = statement_again W first file a1.nodes b4 o2 d2 (behind (level_rest d1 (behind2 src))) (front-put _ _ f) h
       in
-      let made : Node = If (place_behind file b) a1.place a2.place None in
+      let made : Node = If (position_behind file b) a1.place a2.place None in
       let said : whole W (length N2) ≡ a_word word_if
       ∷ (a_sign sign_left_parenthesis ∷ (whole W c ++ (a_sign sign_right_parenthesis ∷ (whole W s ++ ([]))))) =
       whole_at W _ _ first at in
@@ -385,12 +385,12 @@ mutual
       let b5 : List ℕ = b4 ++ canonical (whole W s) in
       let b6 : List ℕ = b5 ++ printed (a_word word_else) in
       let t6 : List Lexeme = laid file b6 (whole W e) o2 in
-      let t5 : List Lexeme = word_at word_else (place_behind file b5) ∷ t6 in
+      let t5 : List Lexeme = word_at word_else (position_behind file b5) ∷ t6 in
       let t4 : List Lexeme = laid file b4 (whole W s) t5 in
-      let t3 : List Lexeme = sign_at sign_right_parenthesis (place_behind file b3) ∷ t4 in
+      let t3 : List Lexeme = sign_at sign_right_parenthesis (position_behind file b3) ∷ t4 in
       let t2 : List Lexeme = laid file b2 (whole W c) t3 in
-      let t1 : List Lexeme = sign_at sign_left_parenthesis (place_behind file b1) ∷ t2 in
-      let t0 : List Lexeme = word_at word_if (place_behind file b) ∷ t1 in
+      let t1 : List Lexeme = sign_at sign_left_parenthesis (position_behind file b1) ∷ t2 in
+      let t0 : List Lexeme = word_at word_if (position_behind file b) ∷ t1 in
       let a1 =
       level_again W first file M b2 t3 d1
       (front-then (statement_front d2) (front-then (statement_front d3) (front-put _ _ f))) (λ c. c) in
@@ -399,7 +399,7 @@ mutual
       let a3 =
       statement_again W first file a2.nodes b6 o2 d3
       (behind (statement_rest d2 (behind (level_rest d1 (behind2 src))))) (front-put _ _ f) h in
-      let made : Node = If (place_behind file b) a1.place a2.place (Some a3.place) in
+      let made : Node = If (position_behind file b) a1.place a2.place (Some a3.place) in
       let said : whole W (length N3) ≡ a_word word_if
       ∷ (a_sign sign_left_parenthesis
       ∷ (whole W c ++ (a_sign sign_right_parenthesis ∷ (whole W s ++ (a_word word_else ∷ (whole W e ++ ([]))))))) =
@@ -421,14 +421,14 @@ mutual
       let b3 : List ℕ = b2 ++ canonical (whole W c) in
       let b4 : List ℕ = b3 ++ printed (a_sign sign_right_parenthesis) in
       let t4 : List Lexeme = laid file b4 (whole W s) o2 in
-      let t3 : List Lexeme = sign_at sign_right_parenthesis (place_behind file b3) ∷ t4 in
+      let t3 : List Lexeme = sign_at sign_right_parenthesis (position_behind file b3) ∷ t4 in
       let t2 : List Lexeme = laid file b2 (whole W c) t3 in
-      let t1 : List Lexeme = sign_at sign_left_parenthesis (place_behind file b1) ∷ t2 in
-      let t0 : List Lexeme = word_at word_while (place_behind file b) ∷ t1 in
+      let t1 : List Lexeme = sign_at sign_left_parenthesis (position_behind file b1) ∷ t2 in
+      let t0 : List Lexeme = word_at word_while (position_behind file b) ∷ t1 in
       let a1 = level_again W first file M b2 t3 d1 (front-then (statement_front d2) (front-put _ _ f)) (λ c. c) in
       let a2 = statement_again W first file a1.nodes b4 o2 d2 (behind (level_rest d1 (behind2 src))) (front-put _ _ f) h
       in
-      let made : Node = While (place_behind file b) a1.place a2.place in
+      let made : Node = While (position_behind file b) a1.place a2.place in
       let said : whole W (length N2) ≡ a_word word_while
       ∷ (a_sign sign_left_parenthesis ∷ (whole W c ++ (a_sign sign_right_parenthesis ∷ (whole W s ++ ([]))))) =
       whole_at W _ _ first at in
@@ -477,22 +477,22 @@ mutual
       let b10 : List ℕ = b9 ++ canonical (bare W u) in
       let b11 : List ℕ = b10 ++ printed (a_sign sign_right_parenthesis) in
       let t11 : List Lexeme = laid file b11 (whole W s) o2 in
-      let t10 : List Lexeme = sign_at sign_right_parenthesis (place_behind file b10) ∷ t11 in
+      let t10 : List Lexeme = sign_at sign_right_parenthesis (position_behind file b10) ∷ t11 in
       let t9 : List Lexeme = laid file b9 (bare W u) t10 in
-      let t8 : List Lexeme = sign_at sign_semicolon (place_behind file b8) ∷ t9 in
+      let t8 : List Lexeme = sign_at sign_semicolon (position_behind file b8) ∷ t9 in
       let t7 : List Lexeme = laid file b7 (whole W c) t8 in
-      let t6 : List Lexeme = sign_at sign_semicolon (place_behind file b6) ∷ t7 in
+      let t6 : List Lexeme = sign_at sign_semicolon (position_behind file b6) ∷ t7 in
       let t5 : List Lexeme = laid file b5 (whole W e) t6 in
-      let t4 : List Lexeme = sign_at sign_assign (place_behind file b4) ∷ t5 in
-      let t3 : List Lexeme = name_at w (place_behind file b3) ∷ t4 in
+      let t4 : List Lexeme = sign_at sign_assign (position_behind file b4) ∷ t5 in
+      let t3 : List Lexeme = name_at w (position_behind file b3) ∷ t4 in
       let t2 : List Lexeme = laid file b2 (whole W t) t3 in
-      let t1 : List Lexeme = sign_at sign_left_parenthesis (place_behind file b1) ∷ t2 in
-      let t0 : List Lexeme = word_at word_for (place_behind file b) ∷ t1 in
+      let t1 : List Lexeme = sign_at sign_left_parenthesis (position_behind file b1) ∷ t2 in
+      let t0 : List Lexeme = word_at word_for (position_behind file b) ∷ t1 in
       let a1 = type_again W first file M b2 t3 d1 (front-then (level_front d2) (front-put _ _ ff)) in
       let a2 = level_again W first file a1.nodes b5 t6 d2 (front-put _ _ ff) (λ c. c) in
       let a3 =
       level_again W first file
-      (put a2.nodes (LocalWithValue (place_behind file b4) (place_behind file b3) w None a1.place a2.place)) b7 t8
+      (put a2.nodes (LocalWithValue (position_behind file b4) (position_behind file b3) w None a1.place a2.place)) b7 t8
       d3 (front-then (assignment_front d4) (front-then (statement_front d5) (front-put _ _ f))) (λ c. c) in
       let a4 = assignment_again W first file a3.nodes b9 t10 d4 (front-then (statement_front d5) (front-put _ _ f)) refl
       in
@@ -501,7 +501,7 @@ mutual
       (behind
       (assignment_rest d4 (behind (level_rest d3 (behind (level_rest d2 (behind2 (type_rest d1 (behind2 src)))))))))
       (front-put _ _ f) h in
-      let made : Node = For (place_behind file b) (length a2.nodes) a3.place a4.place a5.place in
+      let made : Node = For (position_behind file b) (length a2.nodes) a3.place a4.place a5.place in
       let said : whole W (length N5) ≡ a_word word_for
       ∷ (a_sign sign_left_parenthesis
       ∷ (whole W t
@@ -526,7 +526,7 @@ mutual
       (front-then (front-one _) (front-then a3.grown (front-then a4.grown (front-then a5.grown (front-one _)))))))
       (for_local a1.read a2.read a3.read a4.read a5.read)
       (λ V g. let g2 : Front
-      (put a2.nodes (LocalWithValue (place_behind file b4) (place_behind file b3) w None a1.place a2.place)) V =
+      (put a2.nodes (LocalWithValue (position_behind file b4) (position_behind file b3) w None a1.place a2.place)) V =
       (front-then a3.grown (front-then a4.grown (front-then a5.grown (front-put _ _ g)))) in
       alike at (front-at _ _ g) refl
       (one_alike
@@ -558,14 +558,14 @@ mutual
       let b7 : List ℕ = b6 ++ canonical (bare W u) in
       let b8 : List ℕ = b7 ++ printed (a_sign sign_right_parenthesis) in
       let t8 : List Lexeme = laid file b8 (whole W s) o2 in
-      let t7 : List Lexeme = sign_at sign_right_parenthesis (place_behind file b7) ∷ t8 in
+      let t7 : List Lexeme = sign_at sign_right_parenthesis (position_behind file b7) ∷ t8 in
       let t6 : List Lexeme = laid file b6 (bare W u) t7 in
-      let t5 : List Lexeme = sign_at sign_semicolon (place_behind file b5) ∷ t6 in
+      let t5 : List Lexeme = sign_at sign_semicolon (position_behind file b5) ∷ t6 in
       let t4 : List Lexeme = laid file b4 (whole W c) t5 in
-      let t3 : List Lexeme = sign_at sign_semicolon (place_behind file b3) ∷ t4 in
+      let t3 : List Lexeme = sign_at sign_semicolon (position_behind file b3) ∷ t4 in
       let t2 : List Lexeme = laid file b2 (bare W z) t3 in
-      let t1 : List Lexeme = sign_at sign_left_parenthesis (place_behind file b1) ∷ t2 in
-      let t0 : List Lexeme = word_at word_for (place_behind file b) ∷ t1 in
+      let t1 : List Lexeme = sign_at sign_left_parenthesis (position_behind file b1) ∷ t2 in
+      let t0 : List Lexeme = word_at word_for (position_behind file b) ∷ t1 in
       let a1 =
       assignment_again W first file M b2 t3 d1
       (front-then (level_front d2)
@@ -579,7 +579,7 @@ mutual
       statement_again W first file a3.nodes b8 o2 d4
       (behind (assignment_rest d3 (behind (level_rest d2 (behind (assignment_rest d1 (behind2 src)))))))
       (front-put _ _ f) h in
-      let made : Node = For (place_behind file b) a1.place a2.place a3.place a4.place in
+      let made : Node = For (position_behind file b) a1.place a2.place a3.place a4.place in
       let said : whole W (length N4) ≡ a_word word_for
       ∷ (a_sign sign_left_parenthesis
       ∷ (bare W z
@@ -606,9 +606,9 @@ mutual
   statement_again W first file M b o2 (return_alone {N = N} {p = p}) src f h =
       let at : slice_get W (length N) ≡ Some (Return p None) = front-at _ _ f in
       let b1 : List ℕ = b ++ printed (a_word word_return) in
-      let t1 : List Lexeme = sign_at sign_semicolon (place_behind file b1) ∷ o2 in
-      let t0 : List Lexeme = word_at word_return (place_behind file b) ∷ t1 in
-      let made : Node = Return (place_behind file b) None in
+      let t1 : List Lexeme = sign_at sign_semicolon (position_behind file b1) ∷ o2 in
+      let t0 : List Lexeme = word_at word_return (position_behind file b) ∷ t1 in
+      let made : Node = Return (position_behind file b) None in
       let said : whole W (length N) ≡ a_word word_return ∷ (a_sign sign_semicolon ∷ ([])) = whole_at W _ _ first at in
       let same : laid file b (whole W (length N)) o2 ≡ t0 = ap (λ (ss : List Symbol). laid file b ss o2) said in
       told_moved same
@@ -618,11 +618,11 @@ mutual
       let at : slice_get W (length N1) ≡ Some (Return p (Some e)) = front-at _ _ f in
       let b1 : List ℕ = b ++ printed (a_word word_return) in
       let b2 : List ℕ = b1 ++ canonical (whole W e) in
-      let t2 : List Lexeme = sign_at sign_semicolon (place_behind file b2) ∷ o2 in
+      let t2 : List Lexeme = sign_at sign_semicolon (position_behind file b2) ∷ o2 in
       let t1 : List Lexeme = laid file b1 (whole W e) t2 in
-      let t0 : List Lexeme = word_at word_return (place_behind file b) ∷ t1 in
+      let t0 : List Lexeme = word_at word_return (position_behind file b) ∷ t1 in
       let a1 = level_again W first file M b1 t2 d (front-put _ _ f) (λ c. c) in
-      let made : Node = Return (place_behind file b) (Some a1.place) in
+      let made : Node = Return (position_behind file b) (Some a1.place) in
       let said : whole W (length N1) ≡ a_word word_return ∷ (whole W e ++ (a_sign sign_semicolon ∷ ([]))) =
       whole_at W _ _ first at in
       let same : laid file b (whole W (length N1)) o2 ≡ t0 = ap (λ (ss : List Symbol). laid file b ss o2) said

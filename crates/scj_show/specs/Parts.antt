@@ -171,7 +171,7 @@ parts_of (Block position statements) = (Sign sign_left_brace ∷ []) ++ block_en
 parts_of (Empty position) = Sign sign_semicolon ∷ []
 parts_of (Local position name flags declared_type) =
     maybe flags ++ (Whole declared_type ∷ Named name ∷ Sign sign_semicolon ∷ [])
-parts_of (LocalWithValue position name_place name flags declared_type value) =
+parts_of (LocalWithValue position name_position name flags declared_type value) =
     maybe flags ++ (Whole declared_type ∷ Named name ∷ Sign sign_assign ∷ Whole value ∷ Sign sign_semicolon ∷ [])
 parts_of (Assign position target value) = Whole target ∷ Sign sign_assign ∷ Whole value ∷ Sign sign_semicolon ∷ []
 parts_of (ExpressionStatement position expression) = Whole expression ∷ Sign sign_semicolon ∷ []
@@ -185,14 +185,14 @@ parts_of (For position first condition step body) = Word word_for ∷ Sign sign_
 parts_of (Return position value) = return_parts value
 parts_of (Binary position operator left right) = Whole left ∷ Sign operator ∷ Whole right ∷ []
 parts_of (Unary position operator operand) = Sign operator ∷ Whole operand ∷ []
-parts_of (Cast position name_place name operand) = Sign sign_left_parenthesis ∷ Named name ∷ Sign sign_right_parenthesis
+parts_of (Cast position name_position name operand) = Sign sign_left_parenthesis ∷ Named name ∷ Sign sign_right_parenthesis
     ∷ Whole operand ∷ []
 parts_of (Parenthesized position inner) = Sign sign_left_parenthesis ∷ Whole inner ∷ Sign sign_right_parenthesis ∷ []
 parts_of (SimpleName position name) = Named name ∷ []
 parts_of (FieldAccess position name object) = Whole object ∷ Sign sign_dot ∷ Named name ∷ []
 parts_of (Call position name object arguments) = call_parts name object arguments
 parts_of (Element position array index) = Whole array ∷ Sign sign_left_bracket ∷ Whole index ∷ Sign sign_right_bracket ∷ []
-parts_of (New position name_place name arguments) = (Word word_new ∷ Named name ∷ []) ++ in_parentheses arguments
+parts_of (New position name_position name arguments) = (Word word_new ∷ Named name ∷ []) ++ in_parentheses arguments
 parts_of (NewArray position element length) = Word word_new ∷ Whole element ∷ Sign sign_left_bracket ∷ Whole length
     ∷ Sign sign_right_bracket ∷ []
 parts_of (Text position text) = []

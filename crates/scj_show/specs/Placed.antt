@@ -5,7 +5,7 @@ use Rattle.scj_base.specs.declared.lexemes.Token.{Token}
 use Rattle.scj_base.specs.declared.lexemes.TokenKind.{TokenKind}
 use Rattle.scj_base.specs.declared.lexemes.TokenKind.TheVariants.{Name, Word, Number, Text, Sign, End}
 use Rattle.scj_base.specs.Lexeme.{AllOf, is_text_byte, is_name}
-use Rattle.scj_base.specs.Lex.{place_behind, token_at}
+use Rattle.scj_base.specs.Lex.{position_behind, token_at}
 use Rattle.scj_tree.specs.Lexemes.{Lexeme, a_name as name_at, a_word as word_at, a_number as number_at, a_text as text_at, a_sign as sign_at, the_end}
 use Rattle.scj_show.specs.Symbols.{Symbol, a_name, a_text, a_word, a_sign, a_number, bytes_of, separator}
 
@@ -46,6 +46,6 @@ tokens_behind file before (s ∷ ss) = token_at file before (kind_of s) (length 
     ∷ tokens_behind file (before ++ printed s) ss
 
 unfoldable pub lexemes_behind : ℕ → List ℕ → List Symbol → List Lexeme
-lexemes_behind file before [] = the_end (place_behind file before) ∷ []
-lexemes_behind file before (s ∷ ss) = lexeme_at s (place_behind file before)
+lexemes_behind file before [] = the_end (position_behind file before) ∷ []
+lexemes_behind file before (s ∷ ss) = lexeme_at s (position_behind file before)
     ∷ lexemes_behind file (before ++ printed s) ss

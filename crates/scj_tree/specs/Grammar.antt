@@ -4,7 +4,7 @@ use Rattle.scj_base.specs.declared.places.Pos.{Pos}
 use Rattle.scj_base.specs.Vocabulary.{word_class, word_false, word_null, word_package, word_super, word_true, sign_left_brace, sign_right_brace, sign_left_parenthesis, sign_semicolon, sign_assign, sign_minus}
 use Rattle.scj_tree.specs.declared.nodes.Node.{Node}
 use Rattle.scj_tree.specs.declared.nodes.Node.TheVariants.{Class, Field, Method, Constructor, SuperCall, Block, Number, True, False, Null}
-use Rattle.scj_tree.specs.Lexemes.{Lexeme, a_name, a_word, a_number, a_sign, the_end, place_of_lexeme}
+use Rattle.scj_tree.specs.Lexemes.{Lexeme, a_name, a_word, a_number, a_sign, the_end, position_of_lexeme}
 use Rattle.scj_tree.specs.Nodes.{put, next}
 use Rattle.scj_tree.specs.Terminals.{is_minimum, with_flags, flags_number}
 use Rattle.scj_tree.specs.Headers.{Dotted, Imports, FlagRow, TypeRead, ResultRead, ParametersRead, HeaderRead}
@@ -98,4 +98,4 @@ pub record RefusedAt (N : List Node) (tokens : List Lexeme) (p : Pos) : Type 0 w
   pub whole : tokens ≡ before ++ refused ∷ behind
   pub begins : BeginsFile N before
   pub ends : BeginsFile N (before ++ refused ∷ []) → Prim.⊥
-  pub place : place_of_lexeme refused ≡ p
+  pub place : position_of_lexeme refused ≡ p

@@ -4,7 +4,7 @@ use Rattle.scj_base.specs.declared.places.Pos.{Pos}
 use Rattle.scj_tree.specs.declared.nodes.Node.{Node}
 use Rattle.scj_tree.specs.declared.nodes.Node.TheVariants.{Method, Constructor, Block, Empty, Local, LocalWithValue, Assign, ExpressionStatement, If, While, For, Return, Binary, Unary, Cast, Parenthesized, SimpleName, FieldAccess, Call, Element, New, NewArray, Number, True, False, Null, This}
 use Rattle.scj_tree.specs.Recursion.{by_smaller}
-use Rattle.scj_tree.specs.Shape.{place_of, children}
+use Rattle.scj_tree.specs.Shape.{position_of, children}
 
 -- ---- heights
 
@@ -13,7 +13,7 @@ unfoldable pub weight : Node → ℕ
 weight (Block position statements) = 1
 weight (Empty position) = 1
 weight (Local position name flags declared_type) = 1
-weight (LocalWithValue position name_place name flags declared_type value) = 1
+weight (LocalWithValue position name_position name flags declared_type value) = 1
 weight (Assign position target value) = 1
 weight (ExpressionStatement position expression) = 1
 weight (If position condition then_part else_part) = 1
@@ -22,13 +22,13 @@ weight (For position first condition step body) = 1
 weight (Return position value) = 1
 weight (Binary position operator left right) = 1
 weight (Unary position operator operand) = 1
-weight (Cast position name_place name operand) = 1
+weight (Cast position name_position name operand) = 1
 weight (Parenthesized position inner) = 1
 weight (SimpleName position name) = 1
 weight (FieldAccess position name object) = 1
 weight (Call position name object arguments) = 1
 weight (Element position array index) = 1
-weight (New position name_place name arguments) = 1
+weight (New position name_position name arguments) = 1
 weight (NewArray position element length) = 1
 weight (Number position value is_negative) = 1
 weight (True position) = 1
@@ -66,7 +66,7 @@ body_height nodes _ = 0
 unfoldable pub first_too_deep : List Node → List Node → Option Pos
 first_too_deep nodes [] = None
 first_too_deep nodes (node ∷ more) =
-    if nat_lt 64 (body_height nodes node) then Some (place_of node) else first_too_deep nodes more
+    if nat_lt 64 (body_height nodes node) then Some (position_of node) else first_too_deep nodes more
 
 -- in a file that was read from the first n nodes on
 unfoldable pub too_deep : ℕ → List Node → Option Pos

@@ -31,10 +31,10 @@ unfoldable pub lexemes_of : List ℕ → List Token → List Lexeme
 lexemes_of bytes tokens = map (lexeme_of bytes) tokens
 
 -- where a lexeme begins
-unfoldable pub place_of_lexeme : Lexeme → Pos
-place_of_lexeme (a_name w p) = p
-place_of_lexeme (a_word w p) = p
-place_of_lexeme (a_number n p) = p
-place_of_lexeme (a_text w p) = p
-place_of_lexeme (a_sign n p) = p
-place_of_lexeme (the_end p) = p
+unfoldable pub position_of_lexeme : Lexeme → Pos
+position_of_lexeme (a_name w p) = p
+position_of_lexeme (a_word w p) = p
+position_of_lexeme (a_number n p) = p
+position_of_lexeme (a_text w p) = p
+position_of_lexeme (a_sign n p) = p
+position_of_lexeme (the_end p) = p

@@ -150,10 +150,10 @@ pub enum Node {
         flags: Option<NodeId>,
         declared_type: NodeId,
     },
-    /// A local with a value; `place` is the `=` and `name_place` the name.
+    /// A local with a value; `place` is the `=` and `name_position` the name.
     LocalWithValue {
         position: Pos,
-        name_place: Pos,
+        name_position: Pos,
         name: SharedName,
         flags: Option<NodeId>,
         declared_type: NodeId,
@@ -212,7 +212,7 @@ pub enum Node {
     /// A cast to a class (JLS 15.16); `place` is the `(`.
     Cast {
         position: Pos,
-        name_place: Pos,
+        name_position: Pos,
         name: SharedName,
         operand: NodeId,
     },
@@ -248,7 +248,7 @@ pub enum Node {
     /// `new Name(..)` (JLS 15.9); `place` is the word `new`.
     New {
         position: Pos,
-        name_place: Pos,
+        name_position: Pos,
         name: SharedName,
         arguments: NodeList,
     },
@@ -288,12 +288,12 @@ pub enum Node {
 }
 
 impl Node {
-    ghost use Rattle.scj_tree.specs.Shape.{place_of};
+    ghost use Rattle.scj_tree.specs.Shape.{position_of};
 
     /// Where reports name the node.
-    #[tactic(auto, unfolding(crate::specs::Shape::place_of))]
+    #[tactic(auto, unfolding(crate::specs::Shape::position_of))]
     pub fn position(&self) -> Pos
-        ensures { result ≡ place_of self.now }
+        ensures { result ≡ position_of self.now }
     {
         match self {
             Node::Class { position, .. } => *position,

@@ -2,7 +2,7 @@
 
 ghost use Rattle.std.specs.Prelude.{◌≡◌, ◌<◌, ◌≤◌, [], ◌∷◌, ◌++◌, length, take, IfOk, OnOk, OnErr, slice_get, Some, option_copied, option_map, map};
 ghost use Rattle.scj_tree.specs.Kinds.{kind_of};
-ghost use Rattle.scj_tree.specs.Shape.{place_of};
+ghost use Rattle.scj_tree.specs.Shape.{position_of};
 
 use crate::arenas::Arena;
 use crate::kinds::NodeKind;
@@ -119,7 +119,7 @@ impl Program {
     /// Where reports name the node of a number.
     pub fn position(&self, id: NodeId) -> Pos
         requires { id < length self.now.nodes }
-        ensures { option_map place_of (slice_get self.now.nodes id) ≡ Some result }
+        ensures { option_map position_of (slice_get self.now.nodes id) ≡ Some result }
     {
         self.node(id).position()
     }

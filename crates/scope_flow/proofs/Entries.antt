@@ -55,11 +55,11 @@ module _ (code : Code) (facts : Facts code) (b c : ℕ) (sig : Signature) (body 
   same_below id [] l = refl
   same_below id (x ∷ xs) l = cc (below_lt [] id (ops_of code) x l.0, same_below id xs l.1)
 
-  form_ops : (x : ℕ) (position name_place : _) (name xs : List ℕ) →
-      slice_get code.program.nodes x ≡ Some (New position name_place name xs) → binding code x ≡ Plain → AreSmaller x xs →
+  form_ops : (x : ℕ) (position name_position : _) (name xs : List ℕ) →
+      slice_get code.program.nodes x ≡ Some (New position name_position name xs) → binding code x ≡ Plain → AreSmaller x xs →
       ops_of code x ≡ flat_map (ops_of code) xs
   unfolding node_ops new_ops
-  form_ops x position name_place name xs there plain l =
+  form_ops x position name_position name xs there plain l =
       ops_at code x _ there
       ∙ ap (λ (y : Binding). new_ops (below [] x (ops_of code)) x xs y) plain ∙ same_below x xs l
 
@@ -72,8 +72,8 @@ module _ (code : Code) (facts : Facts code) (b c : ℕ) (sig : Signature) (body 
           F (ops_of code x ++ os) ls s
       numbers_flow x _ (one_number inside judged set) ls am os s a =
           value_flows code facts b c sig body x (Some number) inside judged ls (among_trans _ known ls set am) os s a
-      numbers_flow _ _ (form_part {x} {n} {position} {name_place} {name} {xs} there plain l all) ls am os s a =
-          subst (λ ys. F (ys ++ os) ls s) (sym (form_ops x position name_place name xs there plain l))
+      numbers_flow _ _ (form_part {x} {n} {position} {name_position} {name} {xs} there plain l all) ls am os s a =
+          subst (λ ys. F (ys ++ os) ls s) (sym (form_ops x position name_position name xs there plain l))
           (all_numbers_flow xs n all ls am os s a)
 
       all_numbers_flow : (xs : List ℕ) (n : ℕ) → AllNumbers code b c known xs n → (ls : List ℕ) → Among known ls →

@@ -312,11 +312,11 @@ module _ (code : Code) (b c : ℕ) (sig : Signature) (id : ℕ) (sub : ℕ → L
       IsScopeOfExpression code.program id sig.runs_in
   new_is class e = array_is (ClassTy class) e
 
-  pub new_flow : (position name_place : _) (name xs : List ℕ) → Inside code.program b c id →
-      slice_get code.program.nodes id ≡ Some (New position name_place name xs) → NewFact code b c sig id xs o →
+  pub new_flow : (position name_position : _) (name xs : List ℕ) → Inside code.program b c id →
+      slice_get code.program.nodes id ≡ Some (New position name_position name xs) → NewFact code b c sig id xs o →
       F (new_ops sub id xs (binding code id) ++ os) ls s
   unfolding new_ops bound_class argument_count
-  new_flow position name_place name xs inside there r =
+  new_flow position name_position name xs inside there r =
       by_binding (new_ops sub id xs) _ r.is
       (record {
         out = fresh r.class sig.runs_in ∷ s;

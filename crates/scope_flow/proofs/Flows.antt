@@ -67,11 +67,11 @@ module _ (code : Code) (b c : ℕ) (sig : Signature) (id : ℕ) (sub : ℕ → L
       unary_flow code b c sig id sub hyp o j ls am os s a position operator operand there r
   expression_node inside (Binary position operator left right) there o j r ls am os s a =
       operator_flow code b c sig id sub hyp o j ls am os s a position operator left right there r
-  expression_node inside (New position name_place name xs) there o j r ls am os s a =
-      new_flow code b c sig id sub hyp o j ls am os s a position name_place name xs inside there r
+  expression_node inside (New position name_position name xs) there o j r ls am os s a =
+      new_flow code b c sig id sub hyp o j ls am os s a position name_position name xs inside there r
   expression_node inside (NewArray position element count) there o j r ls am os s a =
       new_array_flow code b c sig id sub hyp o j ls am os s a count r
-  expression_node inside (Cast position name_place name operand) there o j r ls am os s a =
+  expression_node inside (Cast position name_position name operand) there o j r ls am os s a =
       cast_flow code b c sig id sub hyp o j ls am os s a operand r
   expression_node inside (Call position name object xs) there o j r ls am os s a =
       call_flow code b c sig id sub hyp o j ls am os s a position name object xs there r

@@ -121,7 +121,7 @@ module _ (code : Code) (b c : ℕ) (sig : Signature) (id : ℕ) (sub : ℕ → L
             then_ code b c sig id ls os s (returns_at code.program id _ there) k (id ∷ ls) (among_more ls id)
             (λ h. among_first ls id);
       }
-  statement_node (LocalWithValue position name_place name flags declared_type v) there me r ls am os s k =
+  statement_node (LocalWithValue position name_position name flags declared_type v) there me r ls am os s k =
       join2 code b c sig id sub hyp (sub v) (STORE id ∷ []) os ls s
       (value code b c sig id sub hyp v r.fits.kind r.fits.value_is ls am (STORE id ∷ os) s (λ ms m. record {
         local = r.declared.local;

@@ -197,9 +197,9 @@ ExpressionFact code b c sig id (Unary position operator operand) o = UnaryFact c
 ExpressionFact code b c sig id (Binary position operator left right) o =
     ((is_among operator conditional_operators ≡ true) × ShortFact code.program b c id left right o)
     ⊎ BinaryFact code.program b c id operator left right o
-ExpressionFact code b c sig id (New position name_place name arguments) o = NewFact code b c sig id arguments o
+ExpressionFact code b c sig id (New position name_position name arguments) o = NewFact code b c sig id arguments o
 ExpressionFact code b c sig id (NewArray position element count) o = NewArrayFact code b c sig id count o
-ExpressionFact code b c sig id (Cast position name_place name operand) o = CastFact code b c id operand o
+ExpressionFact code b c sig id (Cast position name_position name operand) o = CastFact code b c id operand o
 ExpressionFact code b c sig id (Call position name object arguments) o =
     CallFact code b c sig id object arguments o
     ⊎ (StaticCallFact code b c sig id arguments o ⊎ BuiltinFact code b c sig id object arguments o)

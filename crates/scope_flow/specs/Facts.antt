@@ -44,8 +44,8 @@ mutual
   pub data Numbers (code : Code) (b c : ℕ) (known : List ℕ) : ℕ → ℕ → Type 0 where
     one_number : {x : ℕ} → Inside code.program b c x → Judged code.program x (Some number) →
         Among (known_variables code.program x) known → Numbers code b c known x 1
-    form_part : {x n : ℕ} {position name_place : Pos} {name xs : List ℕ} →
-        slice_get code.program.nodes x ≡ Some (New position name_place name xs) → binding code x ≡ Plain →
+    form_part : {x n : ℕ} {position name_position : Pos} {name xs : List ℕ} →
+        slice_get code.program.nodes x ≡ Some (New position name_position name xs) → binding code x ≡ Plain →
         AreSmaller x xs → AllNumbers code b c known xs n → Numbers code b c known x n
 
   pub data AllNumbers (code : Code) (b c : ℕ) (known : List ℕ) : List ℕ → ℕ → Type 0 where

@@ -10,7 +10,7 @@ use Rattle.scj_rules.specs.declared.views.SlotKind.TheVariants.{Number as Number
 use Rattle.scj_rules.specs.Words.{◌>>=◌}
 use Rattle.scj_rules.specs.Classes.{is_sub, hidden_fields, instance_fields}
 use Rattle.scj_rules.specs.Contexts.{Declarations}
-use Rattle.scj_rules.specs.Layout.{slots, slot_of, element_kind, class_of_elements, static_fields, static_place}
+use Rattle.scj_rules.specs.Layout.{slots, slot_of, element_kind, class_of_elements, static_fields, static_index}
 use Rattle.scj_rules.specs.ScopeRules.{immortal_scope}
 use Rattle.scj_rules.specs.StaticScopes.{this_in}
 use Rattle.accepted_laws.specs.Kinds.{Kind, number, truth, yes, reference, fresh, kind_of_field}
@@ -81,7 +81,7 @@ kind_of_static p index = slice_get (static_fields p) index >>= kind_of_field p
 
 pub record HasStatic (p : Declarations) (field : ℕ) : Type 0 where
   pub index : ℕ
-  pub is : static_place p field ≡ Some index
+  pub is : static_index p field ≡ Some index
   pub kind : Kind
   pub holds : kind_of_static p index ≡ Some kind
   pub is_immortal : IsImmortal kind

@@ -150,7 +150,7 @@ StatementFact code b c sig id (Block position statements) =
     HaveStatements code.program b c id (known_variables code.program id) statements
 StatementFact code b c sig id (EmptyStatement position) = Unit {0}
 StatementFact code b c sig id (LocalNode position name flags declared_type) = DeclaredFact code b id
-StatementFact code b c sig id (LocalWithValue position name_place name flags declared_type value) =
+StatementFact code b c sig id (LocalWithValue position name_position name flags declared_type value) =
     InitialValueFact code b c id value
 StatementFact code b c sig id (Assign position target value) = AssignFact code b c id target value
 StatementFact code b c sig id (ExpressionStatement position expression) = InvocationFact code b c id expression

@@ -5,7 +5,7 @@ use Rattle.scj_base.specs.declared.places.Pos.{Pos}
 use Rattle.scj_rules.specs.declared.views.Body.{Body}
 use Rattle.scj_rules.specs.Words.{◌>>=◌}
 use Rattle.scj_rules.specs.ScopeRules.{immortal_scope, defined_by_chain}
-use Rattle.scj_rules.specs.Bodies.{body_named, constructor_body, size_of, safelet_class, class_place}
+use Rattle.scj_rules.specs.Bodies.{body_named, constructor_body, size_of, safelet_class, class_position}
 use Rattle.scj_model.specs.declared.operations.SeqOp.{SeqOp}
 use Rattle.scj_model.specs.declared.operations.SeqOp.TheVariants.{OpenImmortal, AllocSafelet, ConstructSafelet, InitializeApplication, GetSequencer, GetNextMission, OpenMission, Initialize, CleanUp, Execute, Finished}
 use Rattle.scj_model.specs.declared.plans.ReadingRow.{ReadingRow}
@@ -74,18 +74,18 @@ module _ (s : State) (goes_on : is_over s.phase ≡ false) where
   unfolding sequencer_op
   sequencer_halts code OpenImmortal =
       bound (safelet_class code.program) (λ class. size_of code.program class >>= (λ bytes.
-      Some (area_opened s (class_place code.program class) immortal_scope bytes))) (λ class.
+      Some (area_opened s (class_position code.program class) immortal_scope bytes))) (λ class.
       bound (size_of code.program class)
-      (λ bytes. Some (area_opened s (class_place code.program class) immortal_scope bytes))
-      (λ bytes. some (area_opened s (class_place code.program class) immortal_scope bytes)
-      (opened_stays (class_place code.program class) immortal_scope bytes)))
+      (λ bytes. Some (area_opened s (class_position code.program class) immortal_scope bytes))
+      (λ bytes. some (area_opened s (class_position code.program class) immortal_scope bytes)
+      (opened_stays (class_position code.program class) immortal_scope bytes)))
   sequencer_halts code AllocSafelet =
       bound (safelet_class code.program) (λ class. innermost s.activity.areas >>= (λ area.
-      Some (safelet_made code s (class_place code.program class) class area))) (λ class.
+      Some (safelet_made code s (class_position code.program class) class area))) (λ class.
       bound (innermost s.activity.areas)
-      (λ area. Some (safelet_made code s (class_place code.program class) class area))
-      (λ area. some (safelet_made code s (class_place code.program class) class area)
-      (made_stays code (class_place code.program class) class area)))
+      (λ area. Some (safelet_made code s (class_position code.program class) class area))
+      (λ area. some (safelet_made code s (class_position code.program class) class area)
+      (made_stays code (class_position code.program class) class area)))
   sequencer_halts code (ConstructSafelet r) =
       bound (object_at s r) (λ o. constructor_body code.program o.class >>= body_called code s r)
       (λ o. bound (constructor_body code.program o.class) (body_called code s r) (called_halts code r))
@@ -95,13 +95,13 @@ module _ (s : State) (goes_on : is_over s.phase ≡ false) where
   sequencer_halts code (OpenMission r) =
       bound (object_at s r) (λ o. defined_by_chain code.program o.class >>= (λ scope.
       size_of code.program o.class >>= (λ bytes.
-      Some (area_opened s (class_place code.program o.class) scope bytes)))) (λ o.
+      Some (area_opened s (class_position code.program o.class) scope bytes)))) (λ o.
       bound (defined_by_chain code.program o.class) (λ scope. size_of code.program o.class >>= (λ bytes.
-      Some (area_opened s (class_place code.program o.class) scope bytes))) (λ scope.
+      Some (area_opened s (class_position code.program o.class) scope bytes))) (λ scope.
       bound (size_of code.program o.class)
-      (λ bytes. Some (area_opened s (class_place code.program o.class) scope bytes))
-      (λ bytes. some (area_opened s (class_place code.program o.class) scope bytes)
-      (opened_stays (class_place code.program o.class) scope bytes))))
+      (λ bytes. Some (area_opened s (class_position code.program o.class) scope bytes))
+      (λ bytes. some (area_opened s (class_position code.program o.class) scope bytes)
+      (opened_stays (class_position code.program o.class) scope bytes))))
   sequencer_halts code (Initialize r) = method_halts code r (codes "initialize")
   sequencer_halts code (CleanUp r) = method_halts code r (codes "cleanUp")
   sequencer_halts code Execute = record { is = λ step e. absurd (cc (e)) }

@@ -9,7 +9,7 @@ ghost use Rattle.scj_tree.specs.Forest.{IsForest};
 ghost use Rattle.program_facts.specs.Tables.{IsNaming, entered, scope_named};
 
 use class_rows::ClassTable;
-use node_views::{class_modifiers, class_place, scope_written};
+use node_views::{class_modifiers, class_position, scope_written};
 use program_facts::ScopeNames;
 use scj_base::{ClassId, Memory, Name, NodeId, Pos, ScopeId};
 use scj_rules::{Definition, Modifiers};
@@ -91,12 +91,12 @@ pub fn modifiers_in(classes: &ClassTable, class: ClassId) -> Option<Modifiers>
 
 /// Where a user class is named.
 #[tactic(auto, using(class_rows::proofs::UserLemmas::written_stays))]
-pub fn place_in(classes: &ClassTable, class: ClassId) -> Option<Pos>
+pub fn position_in(classes: &ClassTable, class: ClassId) -> Option<Pos>
     ensures { result ≡ option_map (λ (c : WrittenClass). c.position)
         (user_class_in (declarations_of classes.now).classes class) }
 {
     let program = classes.program();
-    class_place(program, classes.class_node(class)?)
+    class_position(program, classes.class_node(class)?)
 }
 
 /// Whether no class can define a scope of this name.

@@ -9,7 +9,7 @@ ghost use Rattle.scj_rules.specs.Phases.{BreaksScopeRules, at_class, scope_phase
 ghost use Rattle.scj_rules.specs.Report.{IsReport};
 ghost use Rattle.scj_rules.specs.ScopeRules.{definition_breaks, definition_in, has_wrong_parent, is_defined_already, is_handler, is_wrong_class, lacks_scope, lies_in_parent, makes_scope, misfits_parent, needs_scope, s1, s2, s3, s4, s5, s6, scope_breaks, scope_written_on_chain, user_class_in};
 
-use crate::names::{definition_in, is_reserved, modifiers_in, place_in};
+use crate::names::{definition_in, is_reserved, modifiers_in, position_in};
 use crate::scopes::{is_cyclic, scope_written_in};
 use class_rows::ClassTable;
 use class_rows::chains::Chain;
@@ -189,7 +189,7 @@ fn note_missing(found: &mut Vec<Found>, facts: &Facts, class: ClassId) -> Result
         OnOk result (found.new.items ≡ found.old.items ++ found_at (user_class_in p.classes class) (s6 p class)) }
 {
     let classes = facts.classes();
-    match (modifiers_in(classes, class), place_in(classes, class)) {
+    match (modifiers_in(classes, class), position_in(classes, class)) {
         (Some(modifiers), Some(position)) => {
             let test = lacks_scope(facts, class, modifiers.is_abstract);
             report_if(found, test, Rule::S6, position)

@@ -5,7 +5,7 @@ use Rattle.scj_tree.specs.declared.nodes.Node.{Node}
 use Rattle.scj_tree.specs.declared.readings.PostKind.{PostKind}
 use Rattle.scj_tree.specs.Lexemes.{Lexeme}
 use Rattle.scj_tree.specs.Expressions.{Level, UnaryRead, Unary1Read, PostRead, ArgumentRead, ArgumentsBegun, ArgumentsRead, operand, tighter, binary, minus, minimum_unary, plain_unary, negation, complement, cast, post_unary, simple_name, simple_call, field_of, call_of, element_of, number, minimum_number, true_value, false_value, null_value, this_value, parenthesized, parenthesized_name, new_object, new_ints, new_booleans, new_references, expression_argument, text_argument, no_argument_yet, argument_and_comma, no_arguments, arguments}
-use Rattle.scj_tree.specs.Shape.{place_of}
+use Rattle.scj_tree.specs.Shape.{position_of}
 use Rattle.scj_tree.specs.Nodes.{put}
 use Rattle.source_nodes.specs.Nodes.{HasWords}
 use Rattle.value_operators.specs.Literals.{HasInt}
@@ -21,7 +21,7 @@ at : {Q : Pos → Type 0} {N : List Node} {o : List Lexeme} (p : Pos) (node : No
 at p node h k f = record { fine = fine_put node k f; place = h }
 
 mutual
-  unfolding place_of HasWords HasInt
+  unfolding position_of HasWords HasInt
 
   pub level_fine : {Q : Pos → Type 0} {n : ℕ} {N N1 : List Node} {i o : List Lexeme} {id : ℕ} → Level n N i N1 o id →
       Fine Q N i → Fine Q N1 o

@@ -5,7 +5,7 @@ use Rattle.scj_base.specs.declared.places.Pos.{Pos}
 use Rattle.scj_tree.specs.declared.nodes.Node.{Node}
 use Rattle.scj_tree.specs.Lexemes.{Lexeme}
 use Rattle.scj_tree.specs.Grammar.{LiteralRead, number_literal, negative_literal, true_literal, false_literal, null_literal, MemberRead, field, field_with_value, bare_method, method, constructor, constructor_with_super, MembersRead, no_member, one_member_more, ClassRead, class, ClassesRead, no_class, one_class_more}
-use Rattle.scj_tree.specs.Shape.{place_of}
+use Rattle.scj_tree.specs.Shape.{position_of}
 use Rattle.source_nodes.specs.Nodes.{HasWords}
 use Rattle.value_operators.specs.Literals.{HasInt}
 use Rattle.source_nodes.proofs.Fits.{Fine, behind, behind2, behind3, below, fine_flags, fine_put}
@@ -16,7 +16,7 @@ use Rattle.source_nodes.proofs.StatementsFine.{statements_fine}
 
 literal_fine : {Q : Pos → Type 0} {N N1 : List Node} {i o : List Lexeme} {id : ℕ} → LiteralRead N i N1 o id →
     Fine Q N i → Fine Q N1 o
-unfolding place_of HasWords HasInt
+unfolding position_of HasWords HasInt
 literal_fine (number_literal h) f =
     fine_put _ (record { place = f.lexemes.0.0; words = below _ h f.lexemes.0.1 }) (behind f)
 literal_fine negative_literal f =
@@ -27,7 +27,7 @@ literal_fine null_literal f = fine_put _ (record { place = f.lexemes.0; words = 
 
 member_fine : {Q : Pos → Type 0} {N N1 : List Node} {i o : List Lexeme} {id : ℕ} → MemberRead N i N1 o id →
     Fine Q N i → Fine Q N1 o
-unfolding place_of HasWords
+unfolding position_of HasWords
 member_fine (field {flags = flags} d e) f =
     let r = row_fine d f in
     let g = type_fine e (fine_flags flags r.fit r.fine) in
@@ -66,7 +66,7 @@ members_fine (one_member_more d e) f = member_fine e (members_fine d f)
 
 class_fine : {Q : Pos → Type 0} {N N1 : List Node} {i o : List Lexeme} {id : ℕ} → ClassRead N i N1 o id →
     Fine Q N i → Fine Q N1 o
-unfolding place_of HasWords
+unfolding position_of HasWords
 class_fine (class {flags = flags} d h m) f =
     let r = row_fine d f in
     let name = (behind r.fine).lexemes.0 in

@@ -9,7 +9,7 @@ use Rattle.scj_tree.specs.declared.nodes.Node.{Node}
 use Rattle.scj_tree.specs.declared.readings.FlagSet.{FlagSet}
 use Rattle.scj_tree.specs.Lexemes.{Lexeme, a_name, a_word, a_number, a_text, a_sign, the_end}
 use Rattle.scj_tree.specs.Nodes.{put}
-use Rattle.scj_tree.specs.Shape.{place_of}
+use Rattle.scj_tree.specs.Shape.{position_of}
 use Rattle.scj_tree.specs.Terminals.{flags_node, flags_at, has_effect, is_minimum, placed, with_flags}
 use Rattle.source_nodes.specs.Nodes.{HasWords}
 
@@ -26,7 +26,7 @@ LexemesFit Q [] = Unit {0}
 LexemesFit Q (x ∷ xs) = LexemeFits Q x × LexemesFit Q xs
 
 pub record NodeFits (Q : Pos → Type 0) (node : Node) : Type 0 where
-  pub place : Q (place_of node)
+  pub place : Q (position_of node)
   pub words : HasWords node
 
 -- the nodes that were read, and the lexemes that are left
@@ -76,7 +76,7 @@ flags_placed {Q} p flags h f = record { place = λ q e. go flags.position refl q
 
 pub fine_flags : {Q : Pos → Type 0} {N : List Node} {o : List Lexeme} (flags : FlagSet) → FlagsFit Q flags → Fine Q N o →
     Fine Q (with_flags N flags) o
-unfolding with_flags flags_node flags_at place_of HasWords
+unfolding with_flags flags_node flags_at position_of HasWords
 fine_flags {Q} {N} {o} flags h f = go (has_effect flags) flags.position refl
   where
     go : (b : Bool) (p : Option Pos) → flags.position ≡ p →

@@ -7,7 +7,7 @@ use Rattle.scj_tree.specs.declared.nodes.Node.{Node}
 use Rattle.scj_tree.specs.declared.readings.FlagSet.{FlagSet}
 use Rattle.scj_tree.specs.Lexemes.{Lexeme}
 use Rattle.scj_tree.specs.Headers.{Dotted, dotted_name, dotted_longer, Imported, imported_name, imported_all, Imports, no_imports, plain_import, static_import, PlainValue, plain_text, plain_dotted, plain_true, plain_false, PlainPair, value_alone, named_value, PlainPairs, last_pair, more_pairs, PlainArguments, no_parentheses, empty_parentheses, pairs_in_parentheses, ScopeValue, quoted_scope, bare_scope, qualified_scope, FlagRow, no_flag, modifier, effectless, scope_flag, runs_in_flag, define_scope_flag, define_scope_flag_parent_first, TypeRead, int_type, int_array, boolean_type, boolean_array, class_type, class_array, argument_type, argument_array, ResultRead, typed_result, void_result, long_result, ParameterRead, parameter, ParametersBegun, no_parameter_yet, parameter_and_comma, ParametersRead, no_parameters, parameters, SuperRead, super_type, super_type_with_argument, InterfacesBegun, no_interface_yet, interface_and_comma, HeaderRead, no_header, extends_header, implements_header, extends_implements_header}
-use Rattle.scj_tree.specs.Shape.{place_of}
+use Rattle.scj_tree.specs.Shape.{position_of}
 use Rattle.scj_tree.specs.Terminals.{add_modifier, unless_there, with_modifier, with_define_scope, with_runs_in, with_scope}
 use Rattle.source_nodes.specs.Nodes.{HasWords}
 use Rattle.source_nodes.proofs.Fits.{Fine, FlagsFit, behind, behind2, behind3, fine_flags, fine_put, flags_placed}
@@ -50,7 +50,7 @@ plain_arguments_fine (pairs_in_parentheses d) f = plain_pairs_fine d (behind f)
 
 value_fine : {Q : Pos → Type 0} {N N1 : List Node} {i o : List Lexeme} {id : ℕ} → ScopeValue N i N1 o id → Fine Q N i →
     Fine Q N1 o
-unfolding place_of HasWords
+unfolding position_of HasWords
 value_fine (quoted_scope h) f = fine_put _ (record { place = f.lexemes.0.0; words = tt }) (behind f)
 value_fine bare_scope f = fine_put _ (record { place = f.lexemes.0.0; words = tt }) (behind f)
 value_fine qualified_scope f = fine_put _ (record { place = f.lexemes.0.0; words = tt }) (behind3 f)
@@ -69,10 +69,10 @@ if_place : (b : Bool) (x y : Option FlagSet) (flags more : FlagSet) → (x ≡ S
 if_place true x y flags more h k e = h e
 if_place false x y flags more h k e = k e
 
-modifier_place : (is_local : Bool) (w : ℕ) (flags more : FlagSet) → add_modifier is_local w flags ≡ Some more →
+modifier_position : (is_local : Bool) (w : ℕ) (flags more : FlagSet) → add_modifier is_local w flags ≡ Some more →
     more.position ≡ flags.position
 unfolding add_modifier with_modifier
-modifier_place is_local w flags more h =
+modifier_position is_local w flags more h =
     if_place (is_local && not (w == word_final)) None _ flags more (λ e. absurd (cc (e)))
     (if_place (w == word_public) _ _ flags more (unless_place flags.is_public flags _ more refl)
     (if_place (w == word_protected) _ _ flags more (unless_place flags.is_protected flags _ more refl)
@@ -93,11 +93,11 @@ flags_same flags more e f = record { place = λ p h. f.place p (sym e ∙ h) }
 
 modifier_fits : {Q : Pos → Type 0} (is_local : Bool) (w : ℕ) (flags more : FlagSet) →
     add_modifier is_local w flags ≡ Some more → FlagsFit Q flags → FlagsFit Q more
-modifier_fits is_local w flags more h f = flags_same flags more (modifier_place is_local w flags more h) f
+modifier_fits is_local w flags more h f = flags_same flags more (modifier_position is_local w flags more h) f
 
 pub row_fine : {Q : Pos → Type 0} {is_local : Bool} {N N1 : List Node} {i o : List Lexeme} {flags : FlagSet} →
     FlagRow is_local N i N1 o flags → Fine Q N i → RowFine Q N1 o flags
-unfolding place_of HasWords with_scope with_runs_in with_define_scope
+unfolding position_of HasWords with_scope with_runs_in with_define_scope
 row_fine no_flag f = record { fine = f; fit = record { place = λ p e. absurd (cc (e)) } }
 row_fine {is_local = is_local} (modifier {flags = flags} {more = more} {w = w} {p = p} d h) f =
     let r = row_fine d f in
@@ -135,7 +135,7 @@ row_fine (define_scope_flag_parent_first {flags = flags} {p = p} d h v w) f =
 
 pub type_fine : {Q : Pos → Type 0} {N N1 : List Node} {i o : List Lexeme} {id : ℕ} → TypeRead N i N1 o id →
     Fine Q N i → Fine Q N1 o
-unfolding place_of HasWords
+unfolding position_of HasWords
 type_fine int_type f = fine_put _ (record { place = f.lexemes.0; words = tt }) (behind f)
 type_fine int_array f = fine_put _ (record { place = f.lexemes.0; words = tt }) (behind3 f)
 type_fine boolean_type f = fine_put _ (record { place = f.lexemes.0; words = tt }) (behind f)
@@ -151,14 +151,14 @@ type_fine (argument_array h) f =
 
 pub result_fine : {Q : Pos → Type 0} {N N1 : List Node} {i o : List Lexeme} {id : ℕ} → ResultRead N i N1 o id →
     Fine Q N i → Fine Q N1 o
-unfolding place_of HasWords
+unfolding position_of HasWords
 result_fine (typed_result d) f = type_fine d f
 result_fine void_result f = fine_put _ (record { place = f.lexemes.0; words = tt }) (behind f)
 result_fine long_result f = fine_put _ (record { place = f.lexemes.0; words = tt }) (behind f)
 
 parameter_fine : {Q : Pos → Type 0} {N N1 : List Node} {i o : List Lexeme} {id : ℕ} → ParameterRead N i N1 o id →
     Fine Q N i → Fine Q N1 o
-unfolding place_of HasWords
+unfolding position_of HasWords
 parameter_fine (parameter {flags = flags} d e) f =
     let r = row_fine d f in
     let g = type_fine e (fine_flags flags r.fit r.fine) in
@@ -171,7 +171,7 @@ parameters_begun_fine (parameter_and_comma d e) f = behind (parameter_fine e (pa
 
 pub parameters_fine : {Q : Pos → Type 0} {N N1 : List Node} {i o : List Lexeme} {id : Option ℕ} →
     ParametersRead N i N1 o id → Fine Q N i → Fine Q N1 o
-unfolding place_of HasWords
+unfolding position_of HasWords
 parameters_fine no_parameters f = behind2 f
 parameters_fine (parameters d e) f =
     fine_put _ (record { place = f.lexemes.0; words = tt })
@@ -179,7 +179,7 @@ parameters_fine (parameters d e) f =
 
 super_fine : {Q : Pos → Type 0} {N N1 : List Node} {i o : List Lexeme} {id : ℕ} → SuperRead N i N1 o id →
     Fine Q N i → Fine Q N1 o
-unfolding place_of HasWords
+unfolding position_of HasWords
 super_fine super_type f = fine_put _ (record { place = f.lexemes.0.0; words = tt }) (behind f)
 super_fine (super_type_with_argument h) f =
     fine_put _ (record { place = f.lexemes.0.0; words = tt })
@@ -192,7 +192,7 @@ interfaces_fine (interface_and_comma d e) f = behind (super_fine e (interfaces_f
 
 pub header_fine : {Q : Pos → Type 0} {N N1 : List Node} {i o : List Lexeme} {id : Option ℕ} → HeaderRead N i N1 o id →
     Fine Q N i → Fine Q N1 o
-unfolding place_of HasWords
+unfolding position_of HasWords
 header_fine no_header f = behind f
 header_fine (extends_header d) f =
     fine_put _ (record { place = f.lexemes.0; words = tt }) (behind (super_fine d (behind f)))

@@ -6,7 +6,7 @@ use Rattle.scj_base.specs.declared.places.Pos.{Pos}
 use Rattle.scj_base.specs.declared.lexemes.Token.{Token}
 use Rattle.scj_base.specs.declared.lexemes.TokenKind.{TokenKind}
 use Rattle.scj_base.specs.declared.lexemes.TokenKind.TheVariants.{Name, Word, Number, Text, Sign, End}
-use Rattle.scj_base.specs.Lex.{Lexes, ends, place_at, place_behind, place_behind_byte, skips, takes}
+use Rattle.scj_base.specs.Lex.{Lexes, ends, position_at, position_behind, position_behind_byte, skips, takes}
 use Rattle.scj_tree.specs.declared.nodes.Node.{Node}
 use Rattle.scj_tree.specs.declared.nodes.Node.TheVariants as node
 use Rattle.scj_tree.specs.Forest.{Forest, forest_of}
@@ -14,7 +14,7 @@ use Rattle.scj_tree.specs.Lexemes.{Lexeme, lexeme_of, lexemes_of}
 use Rattle.scj_rules.specs.Syntax.{FilesRead, HaveLexemes, Reads, next_file, next_text, no_file, no_text}
 use Rattle.scj_show.proofs.Sources.{AreOfSource, IsOfSource, lexed_of_source, one_more}
 use Rattle.value_operators.specs.Literals.{HasInt}
-use Rattle.source_nodes.specs.Nodes.{AreShort, HasWords, IsPlace, NodesFit}
+use Rattle.source_nodes.specs.Nodes.{AreShort, HasWords, IsPosition, NodesFit}
 use Rattle.source_nodes.proofs.Fits.{Fine, LexemeFits, LexemesFit, NodeFits}
 use Rattle.source_nodes.proofs.FilesFine.{tree_fine}
 
@@ -25,20 +25,20 @@ record LinesFrom (p q : Pos) (count : ℕ) : Type 0 where
   first : p.line ≤ q.line
   last : q.line ≤ p.line + count
 
-one_line : (p : Pos) (b : ℕ) → LinesFrom p (place_behind_byte p b) 1
-unfolding place_behind_byte
+one_line : (p : Pos) (b : ℕ) → LinesFrom p (position_behind_byte p b) 1
+unfolding position_behind_byte
 one_line p b = go (b == 10)
   where
-    go : (t : Bool) → LinesFrom p (cond t (place_at p.file (p.line + 1) 1) (place_at p.file p.line (p.col + 1))) 1
+    go : (t : Bool) → LinesFrom p (cond t (position_at p.file (p.line + 1) 1) (position_at p.file p.line (p.col + 1))) 1
     go true = record { file = refl; first = omega arith; last = omega arith }
     go false = record { file = refl; first = omega arith; last = omega arith }
 
-lines_behind : (p : Pos) (bytes : List ℕ) → LinesFrom p (fold place_behind_byte p bytes) (length bytes)
+lines_behind : (p : Pos) (bytes : List ℕ) → LinesFrom p (fold position_behind_byte p bytes) (length bytes)
 lines_behind p [] = record { file = refl; first = omega arith; last = omega arith }
 lines_behind p (b ∷ bytes) =
-    let one : LinesFrom p (place_behind_byte p b) 1 = one_line p b in
-    let more : LinesFrom (place_behind_byte p b) (fold place_behind_byte (place_behind_byte p b) bytes) (length bytes) =
-    lines_behind (place_behind_byte p b) bytes in
+    let one : LinesFrom p (position_behind_byte p b) 1 = one_line p b in
+    let more : LinesFrom (position_behind_byte p b) (fold position_behind_byte (position_behind_byte p b) bytes) (length bytes) =
+    lines_behind (position_behind_byte p b) bytes in
     record {
       file = more.file ∙ one.file;
       first = let x = one.first in let y = more.first in omega (arith, x, y);
@@ -46,11 +46,11 @@ lines_behind p (b ∷ bytes) =
     }
 
 place_fits : (files longest file : ℕ) (before : List ℕ) → file < files → length before ≤ longest →
-    IsPlace files longest (place_behind file before)
-unfolding place_behind
+    IsPosition files longest (position_behind file before)
+unfolding position_behind
 place_fits files longest file before l m =
-    let k : LinesFrom (place_at file 1 1) (fold place_behind_byte (place_at file 1 1) before) (length before) =
-    lines_behind (place_at file 1 1) before in
+    let k : LinesFrom (position_at file 1 1) (fold position_behind_byte (position_at file 1 1) before) (length before) =
+    lines_behind (position_at file 1 1) before in
     record {
       file = subst (λ n. n < files) (sym k.file) l;
       first = k.first;
@@ -68,7 +68,7 @@ length_left [] ys = omega arith
 length_left (x ∷ xs) ys = let l : length xs ≤ length (xs ++ ys) = length_left xs ys in omega (arith, l)
 
 places_fit : (files longest file : ℕ) (before rest : List ℕ) (tokens : List Token) → file < files →
-    Lexes file before rest tokens → length (before ++ rest) ≤ longest → PlacesFit (IsPlace files longest) tokens
+    Lexes file before rest tokens → length (before ++ rest) ≤ longest → PlacesFit (IsPosition files longest) tokens
 places_fit files longest _ _ _ _ l (ends file before) m =
     let a : length before ≤ length (before ++ []) = length_left before [] in
     (place_fits files longest file before l (omega (arith, a, m)), tt)
@@ -113,10 +113,10 @@ AllFit Q (xs ∷ xss) = LexemesFit Q xs × AllFit Q xss
 
 texts_fit : (files longest : ℕ) {file : ℕ} {texts : List (List ℕ)} {lexemes : List (List Lexeme)} →
     HaveLexemes file texts lexemes → file + length texts ≤ files → AreShort longest texts →
-    AllFit (IsPlace files longest) lexemes
+    AllFit (IsPosition files longest) lexemes
 texts_fit files longest no_text l s = tt
 texts_fit files longest {file} (next_text {text = text} {texts = texts} {tokens = tokens} d more) l s = (
-  lexemes_fit (IsPlace files longest) text tokens
+  lexemes_fit (IsPosition files longest) text tokens
       (places_fit files longest file [] text tokens (omega (arith, l)) d s.0) (lexed_of_source d),
   texts_fit files longest more (omega (arith, l)) s.1,
 )
@@ -137,10 +137,10 @@ nothing_yet Q = record { are = λ id node e. absurd (cc (e)) }
 pub nodes_fit : (texts : List (List ℕ)) (forest : Forest) (longest : ℕ) → Reads texts forest → AreShort longest texts →
     NodesFit forest.nodes (length texts) longest
 nodes_fit texts forest longest reads short =
-    let all : AllNodes (IsPlace (length texts) longest) forest.nodes =
-    files_fit (IsPlace (length texts) longest) reads.files_read
+    let all : AllNodes (IsPosition (length texts) longest) forest.nodes =
+    files_fit (IsPosition (length texts) longest) reads.files_read
     (texts_fit (length texts) longest reads.have_lexemes (omega arith) short)
-    (nothing_yet (IsPlace (length texts) longest)) in
+    (nothing_yet (IsPosition (length texts) longest)) in
     record {
       words = λ id node e. (all.are id node e).words;
       places = λ id node e. (all.are id node e).place;

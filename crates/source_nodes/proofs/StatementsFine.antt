@@ -5,7 +5,7 @@ use Rattle.scj_base.specs.declared.places.Pos.{Pos}
 use Rattle.scj_tree.specs.declared.nodes.Node.{Node}
 use Rattle.scj_tree.specs.Lexemes.{Lexeme}
 use Rattle.scj_tree.specs.Statements.{AssignmentRead, assignment, compound_assignment, step_assignment, LocalTypeRead, plain_local, flagged_local, StatementRead, block, empty, local, local_with_value, assign_statement, call_statement, if_alone, if_else, while_statement, for_local, for_assignment, return_alone, return_value, StatementsRead, no_statement, one_statement_more}
-use Rattle.scj_tree.specs.Shape.{place_of}
+use Rattle.scj_tree.specs.Shape.{position_of}
 use Rattle.value_operators.specs.Literals.{HasInt}
 use Rattle.source_nodes.specs.Nodes.{HasWords}
 use Rattle.source_nodes.proofs.Fits.{Fine, behind, behind2, fine_flags, fine_put}
@@ -15,7 +15,7 @@ use Rattle.source_nodes.proofs.ExpressionsFine.{level_fine, post_fine}
 -- nodes put one behind the other
 pub assignment_fine : {Q : Pos → Type 0} {N N1 : List Node} {i o : List Lexeme} {id : ℕ} → AssignmentRead N i N1 o id →
     Fine Q N i → Fine Q N1 o
-unfolding place_of HasWords HasInt
+unfolding position_of HasWords HasInt
 assignment_fine (assignment d e) f =
     let g = (post_fine d f).fine in
     fine_put _ (record { place = g.lexemes.0; words = tt }) (level_fine e (behind g))
@@ -42,7 +42,7 @@ local_type_fine (flagged_local {flags = flags} h d e) f =
     let r = row_fine d f in type_fine e (fine_flags flags r.fit r.fine)
 
 mutual
-  unfolding place_of HasWords
+  unfolding position_of HasWords
 
   pub statement_fine : {Q : Pos → Type 0} {N N1 : List Node} {i o : List Lexeme} {id : ℕ} → StatementRead N i N1 o id →
       Fine Q N i → Fine Q N1 o

@@ -4,7 +4,7 @@ use Rattle.scj_base.specs.declared.places.Pos.{Pos}
 use Rattle.scj_base.specs.Lexeme.{AllOf, is_name, is_text_byte}
 use Rattle.scj_tree.specs.declared.nodes.Node.{Node}
 use Rattle.scj_tree.specs.declared.nodes.Node.TheVariants.{Class, Number, Text}
-use Rattle.scj_tree.specs.Shape.{place_of}
+use Rattle.scj_tree.specs.Shape.{position_of}
 use Rattle.value_operators.specs.Literals.{HasInt}
 
 -- the name of a class is a name, the bytes of a text may stand between quotes, and a number is an int
@@ -15,14 +15,14 @@ HasWords (Number position value is_negative) = HasInt (Number position value is_
 HasWords _ = Unit {0}
 
 -- a place in one of so many files, of which none has more bytes than this
-pub record IsPlace (files longest : ℕ) (p : Pos) : Type 0 where
+pub record IsPosition (files longest : ℕ) (p : Pos) : Type 0 where
   pub file : p.file < files
   pub first : 1 ≤ p.line
   pub last : p.line ≤ longest + 1
 
 pub record NodesFit (nodes : List Node) (files longest : ℕ) : Type 0 where
   pub words : (id : ℕ) (node : Node) → slice_get nodes id ≡ Some node → HasWords node
-  pub places : (id : ℕ) (node : Node) → slice_get nodes id ≡ Some node → IsPlace files longest (place_of node)
+  pub places : (id : ℕ) (node : Node) → slice_get nodes id ≡ Some node → IsPosition files longest (position_of node)
 
 -- each text has at most so many bytes
 abbrev pub AreShort : ℕ → List (List ℕ) → Type 0

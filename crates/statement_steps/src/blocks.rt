@@ -94,9 +94,9 @@ pub fn name_first_sign(
     position: Pos,
     name: &SharedName,
     sign: u8,
-    sign_place: Pos,
+    sign_position: Pos,
 ) -> Result<Option<Mode>, Memory>
-    ensures step { let awaited = name_first_step position name.now nodes.old.all stack.old (a_sign sign sign_place) in
+    ensures step { let awaited = name_first_step position name.now nodes.old.all stack.old (a_sign sign sign_position) in
         gives result nodes.new.all stack.new awaited ≡ awaited }
     ensures kept { nodes.new.kept ≡ nodes.old.kept }
 {
@@ -114,11 +114,11 @@ pub fn name_first_sign(
         return Ok(Some(Mode::NameBracket {
             position,
             name: name.share()?,
-            bracket: sign_place,
+            bracket: sign_position,
         }));
     }
     stack.push(Entry::Target)?;
-    let view = View::Sign(sign, sign_place);
+    let view = View::Sign(sign, sign_position);
     name_step(nodes, stack, &view, position, name)
 }
 
@@ -146,13 +146,13 @@ pub fn name_first_step(
             stack.push(Entry::LocalOpen { flags: None })?;
             typed(nodes, stack, view, id)
         }
-        View::Sign(sign, sign_place) => name_first_sign(
+        View::Sign(sign, sign_position) => name_first_sign(
             nodes,
             stack,
             position,
             name,
             *sign,
-            *sign_place,
+            *sign_position,
         ),
         _ => Ok(None),
     }
@@ -261,13 +261,13 @@ pub fn local_named_step(
         (seen view.now) in gives result nodes.new.all stack.new awaited ≡ awaited }
     ensures kept { nodes.new.kept ≡ nodes.old.kept }
 {
-    let View::Sign(sign, sign_place) = view else {
+    let View::Sign(sign, sign_position) = view else {
         return Ok(None);
     };
     if *sign == ASSIGN {
         stack.push(Entry::LocalValue {
-            position: *sign_place,
-            name_place: position,
+            position: *sign_position,
+            name_position: position,
             name: name.share()?,
             flags,
             declared_type,

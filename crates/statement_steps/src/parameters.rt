@@ -126,14 +126,14 @@ pub fn method_body_step(
     stack: &mut Stack,
     parameters: Option<NodeId>,
     sign: u8,
-    sign_place: Pos,
+    sign_position: Pos,
     flags: Option<NodeId>,
     result_type: NodeId,
     position: Pos,
     name: SharedName,
 ) -> Result<Option<Mode>, Memory>
     ensures step { let awaited = body_step parameters nodes.old.all (MethodOpen flags result_type position name
-        ∷ stack.old) sign sign_place in gives result nodes.new.all stack.new awaited ≡ awaited }
+        ∷ stack.old) sign sign_position in gives result nodes.new.all stack.new awaited ≡ awaited }
     ensures kept { nodes.new.kept ≡ nodes.old.kept }
 {
     if sign == LEFT_BRACE {
@@ -145,7 +145,7 @@ pub fn method_body_step(
             parameters,
         })?;
         stack.push(Entry::BlockOpen {
-            position: sign_place,
+            position: sign_position,
             statements: nodes.empty_list(),
         })?;
         return Ok(Some(Mode::InStatements));
@@ -171,9 +171,9 @@ pub fn body_step(
     stack: &mut Stack,
     parameters: Option<NodeId>,
     sign: u8,
-    sign_place: Pos,
+    sign_position: Pos,
 ) -> Result<Option<Mode>, Memory>
-    ensures step { let awaited = body_step parameters nodes.old.all stack.old sign sign_place in
+    ensures step { let awaited = body_step parameters nodes.old.all stack.old sign sign_position in
         gives result nodes.new.all stack.new awaited ≡ awaited }
     ensures kept { nodes.new.kept ≡ nodes.old.kept }
 {
@@ -191,7 +191,7 @@ pub fn body_step(
             stack,
             parameters,
             sign,
-            sign_place,
+            sign_position,
             flags,
             result_type,
             position,
@@ -206,7 +206,7 @@ pub fn body_step(
                     parameters,
                     super_call: None,
                 })?;
-                Ok(Some(Mode::ConstructorStart { position: sign_place }))
+                Ok(Some(Mode::ConstructorStart { position: sign_position }))
             } else {
                 Ok(None)
             }
@@ -227,10 +227,10 @@ pub fn parameters_end_step(
         gives result nodes.new.all stack.new awaited ≡ awaited }
     ensures kept { nodes.new.kept ≡ nodes.old.kept }
 {
-    let View::Sign(sign, sign_place) = view else {
+    let View::Sign(sign, sign_position) = view else {
         return Ok(None);
     };
-    body_step(nodes, stack, parameters, *sign, *sign_place)
+    body_step(nodes, stack, parameters, *sign, *sign_position)
 }
 
 /// Where the first statement of a block is due, whose brace stands at `place`.
@@ -252,28 +252,28 @@ pub fn block_start(
     statements_step(nodes, stack, view)
 }
 
-/// Behind the brace of a constructor, which stands at `block_place`.
+/// Behind the brace of a constructor, which stands at `block_position`.
 #[tactic(auto, unfolding(parser_machine::specs::Members::constructor_start_step))]
 pub fn constructor_start_step(
     nodes: &mut Nodes,
     stack: &mut Stack,
     view: &View,
-    block_place: Pos,
+    block_position: Pos,
 ) -> Result<Option<Mode>, Memory>
-    ensures step { let awaited = constructor_start_step block_place nodes.old.all stack.old (seen view.now) in
+    ensures step { let awaited = constructor_start_step block_position nodes.old.all stack.old (seen view.now) in
         gives result nodes.new.all stack.new awaited ≡ awaited }
     ensures kept { nodes.new.kept ≡ nodes.old.kept }
 {
     if let View::Word(word, position) = view {
         if *word == SUPER {
             return Ok(Some(Mode::SuperOpen {
-                block_place,
+                block_position,
                 position: *position,
             }));
         }
-        return block_start(nodes, stack, view, block_place);
+        return block_start(nodes, stack, view, block_position);
     }
-    block_start(nodes, stack, view, block_place)
+    block_start(nodes, stack, view, block_position)
 }
 
 /// Behind `super` in a constructor.
@@ -282,10 +282,10 @@ pub fn super_open_step(
     nodes: &mut Nodes,
     stack: &mut Stack,
     view: &View,
-    block_place: Pos,
+    block_position: Pos,
     position: Pos,
 ) -> Result<Option<Mode>, Memory>
-    ensures step { let awaited = super_open_step block_place position nodes.old.all stack.old (seen view.now) in
+    ensures step { let awaited = super_open_step block_position position nodes.old.all stack.old (seen view.now) in
         gives result nodes.new.all stack.new awaited ≡ awaited }
     ensures kept { nodes.new.kept ≡ nodes.old.kept }
 {
@@ -295,7 +295,7 @@ pub fn super_open_step(
     if *sign != LEFT_PARENTHESIS {
         return Ok(None);
     }
-    stack.push(Entry::SuperCallOpen { block_place, position })?;
+    stack.push(Entry::SuperCallOpen { block_position, position })?;
     stack.push(Entry::ArgumentsOpen {
         list: nodes.empty_list(),
     })?;
@@ -308,9 +308,9 @@ pub fn super_end_step(
     nodes: &mut Nodes,
     stack: &mut Stack,
     view: &View,
-    block_place: Pos,
+    block_position: Pos,
 ) -> Result<Option<Mode>, Memory>
-    ensures step { let awaited = super_end_step block_place nodes.old.all stack.old (seen view.now) in
+    ensures step { let awaited = super_end_step block_position nodes.old.all stack.old (seen view.now) in
         gives result nodes.new.all stack.new awaited ≡ awaited }
     ensures kept { nodes.new.kept ≡ nodes.old.kept }
 {
@@ -321,7 +321,7 @@ pub fn super_end_step(
         return Ok(None);
     }
     stack.push(Entry::BlockOpen {
-        position: block_place,
+        position: block_position,
         statements: nodes.empty_list(),
     })?;
     Ok(Some(Mode::InStatements))

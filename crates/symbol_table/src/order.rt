@@ -54,7 +54,7 @@ pub fn tour(alloc: Global, classes: &ClassTable) -> Result<Vec<ClassId>, Memory>
     let mut order = Vec::new(alloc);
     let mut left_over = Vec::new(alloc);
     left_over.push(OBJECT)?;
-    for _place in 0..count {
+    for _index in 0..count {
         let Some(class) = left_over.pop() else {
             return Ok(order);
         };

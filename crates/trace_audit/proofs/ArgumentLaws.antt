@@ -15,7 +15,7 @@ use Rattle.trace_audit.specs.declared.lines.Entry.{Entry}
 use Rattle.trace_audit.specs.declared.lines.Entry.TheVariants.{Register, Prio, Print, Fault}
 use Rattle.trace_audit.specs.declared.lines.Line.{Line}
 use Rattle.trace_audit.specs.Parts.{Parts, before, blank, colon, from, handler_of, is_fault_name, is_file_name, is_other, is_value, line_feed, number_of, priority_of}
-use Rattle.trace_audit.specs.Lines.{class_of, entry_of, fault_of, is_place, line_of, long_entry_of, print_of, prio_of, register_of, release_of, short_entry_of, where_true}
+use Rattle.trace_audit.specs.Lines.{class_of, entry_of, fault_of, is_position, line_of, long_entry_of, print_of, prio_of, register_of, release_of, short_entry_of, where_true}
 use Rattle.trace_audit.specs.Printed.{Has32Bits, IsHandlerNumber, IsPriorityNumber}
 use Rattle.trace_audit.proofs.Decimals.{both_true, no_byte_in_decimal, no_byte_in_value, number_read, number_within_read, value_read}
 use Rattle.trace_audit.proofs.Partings.{before_all, before_is, from_all, from_is, parted_at_last_is, parted_is}
@@ -153,7 +153,7 @@ fault_named TooManyHandlers = refl
 fault_named DepthFull = refl
 
 pub place_read : (file : List ℕ) (line : ℕ) → is_file_name file ≡ true → 1 ≤ line → line < 2 ^ 64 →
-    is_place (file ++ colon ∷ decimal line) ≡ true
+    is_position (file ++ colon ∷ decimal line) ≡ true
 place_read file line named above small =
     let no_colon : list_all (is_other colon) (decimal line) ≡ true =
     no_byte_in_decimal colon line small (inr (omega arith)) in
@@ -166,9 +166,9 @@ place_read file line named above small =
 pub fault_read : (fault : RunFault) (file : List ℕ) (line : ℕ) → is_file_name file ≡ true → 1 ≤ line → line < 2 ^ 64 →
     fault_of (text_of fault ++ blank ∷ (file ++ colon ∷ decimal line)) ≡ Some Fault
 fault_read fault file line named above small =
-    ap (λ (o : Option Parts). o >>= (λ parts. where_true (is_fault_name parts.front && is_place parts.back) Fault))
+    ap (λ (o : Option Parts). o >>= (λ parts. where_true (is_fault_name parts.front && is_position parts.back) Fault))
     (parted_is blank (text_of fault) (file ++ colon ∷ decimal line) (fault_no_blank fault))
-    ∙ (ap (λ (b : Bool). where_true (b && is_place (file ++ colon ∷ decimal line)) Fault) (fault_named fault)
+    ∙ (ap (λ (b : Bool). where_true (b && is_position (file ++ colon ∷ decimal line)) Fault) (fault_named fault)
     ∙ ap (λ (b : Bool). where_true b Fault) (place_read file line named above small))
 
 pub print_read : (text : List ℕ) (z : ℤ) → list_all is_text_byte text ≡ true → Has32Bits z →

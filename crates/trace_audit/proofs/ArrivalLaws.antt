@@ -10,13 +10,13 @@ use Rattle.accepted_laws.proofs.Tools.{some_inj}
 use Rattle.trace_audit.specs.declared.handlers.Handler.{Handler}
 use Rattle.trace_audit.specs.declared.releases.Release.{Release}
 use Rattle.trace_audit.specs.Replay.{HandlerSeen, is_named, one_more, priority_at}
-use Rattle.trace_audit.specs.Index.{HasKeys, HasMoreKeys, HasPlaces, handler_seen, is_among_keys, key_of, place_kept, places_end, rank_of}
+use Rattle.trace_audit.specs.Index.{HasKeys, HasMoreKeys, HasIndices, handler_seen, is_among_keys, key_of, index_kept, indices_end, rank_of}
 use Rattle.trace_audit.proofs.KeyLaws.{HandlerThere, before_last, handler_there, kept_at, keys_by, length_push, map_set, old_holds, priority_in, releases_of, seen_at}
 
 module _ (handlers : List Handler) (releases : List Release) (k : ℕ) (h after : Handler) (r : Release)
     (there : slice_get handlers k ≡ Some h) (same_priority : after.priority ≡ h.priority)
-    (pushed : after.places.items ≡ h.places.items ++ length releases ∷ []) (of : r.handler ≡ suc k)
-    (next : r.number ≡ suc (length h.places.items)) where
+    (pushed : after.indices.items ≡ h.indices.items ++ length releases ∷ []) (of : r.handler ≡ suc k)
+    (next : r.number ≡ suc (length h.indices.items)) where
   within : k < length handlers
   within = slice_get_within handlers k h there
 
@@ -24,41 +24,41 @@ module _ (handlers : List Handler) (releases : List Release) (k : ℕ) (h after 
   here = get_set_same handlers k after within
 
   -- what was kept is kept
-  still_kept : (handler number index : ℕ) → place_kept handlers handler number ≡ Some index →
-      place_kept (slice_set handlers k after) handler number ≡ Some index
+  still_kept : (handler number index : ℕ) → index_kept handlers handler number ≡ Some index →
+      index_kept (slice_set handlers k after) handler number ≡ Some index
   still_kept handler number index e = by_row (handler_there handlers handler number index e)
     where
       by_row : HandlerThere handlers handler number index →
-          place_kept (slice_set handlers k after) handler number ≡ Some index
+          index_kept (slice_set handlers k after) handler number ≡ Some index
       by_row at =
-          ap (λ (n : ℕ). place_kept (slice_set handlers k after) n number) at.is_handler
-          ∙ (ap (place_kept (slice_set handlers k after) (suc at.k)) at.is_number ∙ by_test (at.k == k) refl)
+          ap (λ (n : ℕ). index_kept (slice_set handlers k after) n number) at.is_handler
+          ∙ (ap (index_kept (slice_set handlers k after) (suc at.k)) at.is_number ∙ by_test (at.k == k) refl)
         where
           by_test : (b : Bool) → (at.k == k) ≡ b →
-              place_kept (slice_set handlers k after) (suc at.k) (suc at.i) ≡ Some index
+              index_kept (slice_set handlers k after) (suc at.k) (suc at.i) ≡ Some index
           by_test true t =
               let q : at.k ≡ k = grind (arith, nat_tests, t) in
               let row : h ≡ at.row = some_inj h at.row (sym there ∙ (ap (slice_get handlers) (sym q) ∙ at.there)) in
-              let kept : slice_get h.places.items at.i ≡ Some index =
-              subst (λ (x : Handler). slice_get x.places.items at.i ≡ Some index) (sym row) at.kept in
+              let kept : slice_get h.indices.items at.i ≡ Some index =
+              subst (λ (x : Handler). slice_get x.indices.items at.i ≡ Some index) (sym row) at.kept in
               kept_at (slice_set handlers k after) at.k at.i after
               (ap (slice_get (slice_set handlers k after)) q ∙ here)
               ∙ (ap (λ (ps : List ℕ). slice_get ps at.i) pushed
-              ∙ get_left h.places.items (length releases ∷ []) at.i index kept)
+              ∙ get_left h.indices.items (length releases ∷ []) at.i index kept)
           by_test false t =
               let q : k ≡ at.k → ⊥ = λ g. (let e : at.k ≡ k = sym g in grind (arith, nat_tests, t, e)) in
               kept_at (slice_set handlers k after) at.k at.i at.row
               (get_set_other handlers k at.k after q ∙ at.there) ∙ at.kept
 
-  new_kept : place_kept (slice_set handlers k after) r.handler r.number ≡ Some (length releases)
+  new_kept : index_kept (slice_set handlers k after) r.handler r.number ≡ Some (length releases)
   new_kept =
-      ap (λ (n : ℕ). place_kept (slice_set handlers k after) n r.number) of
-      ∙ (ap (place_kept (slice_set handlers k after) (suc k)) next
-      ∙ (kept_at (slice_set handlers k after) k (length h.places.items) after here
-      ∙ (ap (λ (ps : List ℕ). slice_get ps (length h.places.items)) pushed
-      ∙ get_last h.places.items (length releases))))
+      ap (λ (n : ℕ). index_kept (slice_set handlers k after) n r.number) of
+      ∙ (ap (index_kept (slice_set handlers k after) (suc k)) next
+      ∙ (kept_at (slice_set handlers k after) k (length h.indices.items) after here
+      ∙ (ap (λ (ps : List ℕ). slice_get ps (length h.indices.items)) pushed
+      ∙ get_last h.indices.items (length releases))))
 
-  pub places_arrived : HasPlaces handlers releases → HasPlaces (slice_set handlers k after) (releases ++ r ∷ [])
+  pub places_arrived : HasIndices handlers releases → HasIndices (slice_set handlers k after) (releases ++ r ∷ [])
   places_arrived has =
       record {
         kept = λ index t e. kept index t e (index == length releases) refl;
@@ -70,11 +70,11 @@ module _ (handlers : List Handler) (releases : List Release) (k : ℕ) (h after 
       last = get_last releases r
 
       kept : (index : ℕ) (t : Release) → slice_get (releases ++ r ∷ []) index ≡ Some t → (b : Bool) →
-          (index == length releases) ≡ b → place_kept (slice_set handlers k after) t.handler t.number ≡ Some index
+          (index == length releases) ≡ b → index_kept (slice_set handlers k after) t.handler t.number ≡ Some index
       kept index t e true g =
           let q : index ≡ length releases = grind (arith, nat_tests, g) in
           let same : r ≡ t = some_inj r t (sym last ∙ (ap (slice_get (releases ++ r ∷ [])) (sym q) ∙ e)) in
-          subst (λ (u : Release). place_kept (slice_set handlers k after) u.handler u.number ≡ Some index) same
+          subst (λ (u : Release). index_kept (slice_set handlers k after) u.handler u.number ≡ Some index) same
           (new_kept ∙ ap (λ (n : ℕ). Some n) (sym q))
       kept index t e false g =
           still_kept t.handler t.number index
@@ -86,21 +86,21 @@ module _ (handlers : List Handler) (releases : List Release) (k : ℕ) (h after 
           let q : at.k ≡ k = grind (arith, nat_tests, t) in
           let row : after ≡ at.row =
           some_inj after at.row (sym here ∙ (ap (slice_get (slice_set handlers k after)) (sym q) ∙ at.there)) in
-          let kept : slice_get (h.places.items ++ length releases ∷ []) at.i ≡ Some index =
+          let kept : slice_get (h.indices.items ++ length releases ∷ []) at.i ≡ Some index =
           subst (λ (ps : List ℕ). slice_get ps at.i ≡ Some index) pushed
-          (subst (λ (x : Handler). slice_get x.places.items at.i ≡ Some index) (sym row) at.kept) in
-          by_place handler number index at q kept (at.i == length h.places.items) refl
+          (subst (λ (x : Handler). slice_get x.indices.items at.i ≡ Some index) (sym row) at.kept) in
+          by_place handler number index at q kept (at.i == length h.indices.items) refl
         where
           by_place : (handler number index : ℕ) (at : HandlerThere (slice_set handlers k after) handler number index) →
-              at.k ≡ k → slice_get (h.places.items ++ length releases ∷ []) at.i ≡ Some index → (b : Bool) →
-              (at.i == length h.places.items) ≡ b →
+              at.k ≡ k → slice_get (h.indices.items ++ length releases ∷ []) at.i ≡ Some index → (b : Bool) →
+              (at.i == length h.indices.items) ≡ b →
               holds (slice_get (releases ++ r ∷ []) index) (is_named handler number) ≡ true
           by_place handler number index at q kept true g =
-              let i_is : at.i ≡ length h.places.items = grind (arith, nat_tests, g) in
+              let i_is : at.i ≡ length h.indices.items = grind (arith, nat_tests, g) in
               let place_is : length releases ≡ index =
               some_inj (length releases) index
-              (sym (get_last h.places.items (length releases))
-              ∙ (ap (slice_get (h.places.items ++ length releases ∷ [])) (sym i_is) ∙ kept)) in
+              (sym (get_last h.indices.items (length releases))
+              ∙ (ap (slice_get (h.indices.items ++ length releases ∷ [])) (sym i_is) ∙ kept)) in
               let e : r.handler ≡ handler = of ∙ (ap suc (sym q) ∙ sym at.is_handler) in
               let f : r.number ≡ number = next ∙ (ap suc (sym i_is) ∙ sym at.is_number) in
               ap (λ (n : ℕ). holds (slice_get (releases ++ r ∷ []) n) (is_named handler number)) (sym place_is)
@@ -109,16 +109,16 @@ module _ (handlers : List Handler) (releases : List Release) (k : ℕ) (h after 
           by_place handler number index at q kept false g =
               old_holds releases r index (is_named handler number)
               (has.right handler number index
-              (ap (λ (n : ℕ). place_kept handlers n number) (at.is_handler ∙ ap suc q)
-              ∙ (ap (place_kept handlers (suc k)) at.is_number
+              (ap (λ (n : ℕ). index_kept handlers n number) (at.is_handler ∙ ap suc q)
+              ∙ (ap (index_kept handlers (suc k)) at.is_number
               ∙ (kept_at handlers k at.i h there
-              ∙ before_last h.places.items (length releases) at.i index kept (λ x. grind (arith, nat_tests, g, x))))))
+              ∙ before_last h.indices.items (length releases) at.i index kept (λ x. grind (arith, nat_tests, g, x))))))
       by_row handler number index at false t =
           let q : k ≡ at.k → ⊥ = λ g. (let e : at.k ≡ k = sym g in grind (arith, nat_tests, t, e)) in
           old_holds releases r index (is_named handler number)
           (has.right handler number index
-          (ap (λ (n : ℕ). place_kept handlers n number) at.is_handler
-          ∙ (ap (place_kept handlers (suc at.k)) at.is_number
+          (ap (λ (n : ℕ). index_kept handlers n number) at.is_handler
+          ∙ (ap (index_kept handlers (suc at.k)) at.is_number
           ∙ (kept_at handlers at.k at.i at.row (sym (get_set_other handlers k at.k after q) ∙ at.there) ∙ at.kept))))
 
       right : (handler number index : ℕ) → HandlerThere (slice_set handlers k after) handler number index →
@@ -131,9 +131,9 @@ module _ (handlers : List Handler) (releases : List Release) (k : ℕ) (h after 
     where
       same_seen : handler_seen after ≡ one_more (handler_seen h)
       same_seen =
-          ap (λ (n : ℕ). record { priority = n; arrived = length after.places.items }) same_priority
+          ap (λ (n : ℕ). record { priority = n; arrived = length after.indices.items }) same_priority
           ∙ ap (λ (n : ℕ). record { priority = h.priority; arrived = n })
-          (ap length pushed ∙ length_push h.places.items (length releases))
+          (ap length pushed ∙ length_push h.indices.items (length releases))
 
   pub handlers_arrived : map handler_seen (slice_set handlers k after)
       ≡ changed one_more k (map handler_seen handlers)
@@ -165,7 +165,7 @@ module _ (handlers : List Handler) (releases : List Release) (k : ℕ) (h after 
           ∙ sym (slice_get-map handler_seen handlers n)))
 
   pub keys_arrived : (keys more : List ℕ) → HasKeys (releases_of (map handler_seen handlers) releases) keys →
-      length releases < places_end → HasMoreKeys keys more (rank_of (map handler_seen handlers) r) (length releases) →
+      length releases < indices_end → HasMoreKeys keys more (rank_of (map handler_seen handlers) r) (length releases) →
       HasKeys (releases_of (map handler_seen (slice_set handlers k after)) (releases ++ r ∷ [])) more
   keys_arrived keys more has few added =
       keys_by (map handler_seen handlers) (map handler_seen (slice_set handlers k after)) (releases ++ r ∷ []) more

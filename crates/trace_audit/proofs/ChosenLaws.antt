@@ -9,7 +9,7 @@ use Rattle.scj_model.specs.Registry.{handler_row}
 use Rattle.scj_model.specs.State.{ReleaseStatus, Waits as WaitsNow, Started as StartedNow, Ended, Dropped, Release as ReleaseNow, State}
 use Rattle.accepted_laws.proofs.Lists.{get_left}
 use Rattle.trace_audit.specs.declared.releases.Release.{Release}
-use Rattle.trace_audit.specs.Replay.{HandlerSeen, Releases, candidate_at, candidates_from, picked_place, priority_at}
+use Rattle.trace_audit.specs.Replay.{HandlerSeen, Releases, candidate_at, candidates_from, picked_index, priority_at}
 use Rattle.trace_audit.specs.StandsFor.{StandsFor, release_seen}
 
 -- ---- a place further on
@@ -197,8 +197,8 @@ places_moved base None = refl
 places_moved base (Some c) = refl
 
 pub pick_is_choice : (s : State) (all : Releases) → StandsFor s all →
-    chosen s ≡ option_map (λ (n : ℕ). s.earlier_releases + n) (picked_place all)
-unfolding chosen picked_place
+    chosen s ≡ option_map (λ (n : ℕ). s.earlier_releases + n) (picked_index all)
+unfolding chosen picked_index
 pick_is_choice s all stands =
     ap (λ (cs : List Candidate). option_map (λ (c : Candidate). c.index) (most_urgent cs)) (candidates_are s all stands)
     ∙ (ap (option_map (λ (c : Candidate). c.index))

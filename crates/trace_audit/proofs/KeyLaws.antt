@@ -11,7 +11,7 @@ use Rattle.trace_audit.specs.declared.releases.Release.{Release}
 use Rattle.trace_audit.specs.declared.releases.Standing.{Standing}
 use Rattle.trace_audit.specs.declared.releases.Standing.TheVariants.{Waits, Started, Gone}
 use Rattle.trace_audit.specs.Replay.{HandlerSeen, Releases, is_named, priority_at}
-use Rattle.trace_audit.specs.Index.{HasKeys, HasMoreKeys, HasPlaces, handler_seen, is_among_keys, key_of, place_kept, rank_of}
+use Rattle.trace_audit.specs.Index.{HasKeys, HasMoreKeys, HasIndices, handler_seen, is_among_keys, key_of, index_kept, rank_of}
 
 abbrev pub releases_of : List HandlerSeen → List Release → Releases
 releases_of handlers releases = record { handlers = handlers; releases = releases }
@@ -77,37 +77,37 @@ pub record HandlerThere (handlers : List Handler) (handler number index : ℕ) :
   pub is_handler : handler ≡ suc k
   pub is_number : number ≡ suc i
   pub there : slice_get handlers k ≡ Some row
-  pub kept : slice_get row.places.items i ≡ Some index
+  pub kept : slice_get row.indices.items i ≡ Some index
 
 pub handler_there : (handlers : List Handler) (handler number index : ℕ) →
-    place_kept handlers handler number ≡ Some index → HandlerThere handlers handler number index
+    index_kept handlers handler number ≡ Some index → HandlerThere handlers handler number index
 handler_there handlers zero number index e = absurd (cc (e))
 handler_there handlers (suc k) zero index e = absurd (cc (e))
 handler_there handlers (suc k) (suc i) index e = go (slice_get handlers k) refl e
   where
-    go : (o : Option Handler) → slice_get handlers k ≡ o → (o >>= (λ h. slice_get h.places.items i)) ≡ Some index →
+    go : (o : Option Handler) → slice_get handlers k ≡ o → (o >>= (λ h. slice_get h.indices.items i)) ≡ Some index →
         HandlerThere handlers (suc k) (suc i) index
     go None f g = absurd (cc (g))
     go (Some row) f g =
         record { k = k; i = i; row = row; is_handler = refl; is_number = refl; there = f; kept = g }
 
 pub kept_at : (handlers : List Handler) (k i : ℕ) (row : Handler) → slice_get handlers k ≡ Some row →
-    place_kept handlers (suc k) (suc i) ≡ slice_get row.places.items i
-kept_at handlers k i row e = ap (λ (o : Option Handler). o >>= (λ h. slice_get h.places.items i)) e
+    index_kept handlers (suc k) (suc i) ≡ slice_get row.indices.items i
+kept_at handlers k i row e = ap (λ (o : Option Handler). o >>= (λ h. slice_get h.indices.items i)) e
 
 -- ---- a handler is registered
 
 pub front_same : (handlers : List Handler) (h : Handler) (handler number index : ℕ) →
-    place_kept handlers handler number ≡ Some index →
-    place_kept (handlers ++ h ∷ []) handler number ≡ Some index
+    index_kept handlers handler number ≡ Some index →
+    index_kept (handlers ++ h ∷ []) handler number ≡ Some index
 front_same handlers h handler number index e =
     let at = handler_there handlers handler number index e in
-    ap (λ (n : ℕ). place_kept (handlers ++ h ∷ []) n number) at.is_handler
-    ∙ (ap (place_kept (handlers ++ h ∷ []) (suc at.k)) at.is_number
+    ap (λ (n : ℕ). index_kept (handlers ++ h ∷ []) n number) at.is_handler
+    ∙ (ap (index_kept (handlers ++ h ∷ []) (suc at.k)) at.is_number
     ∙ (kept_at (handlers ++ h ∷ []) at.k at.i at.row (get_left handlers (h ∷ []) at.k at.row at.there) ∙ at.kept))
 
 pub places_registered : (handlers : List Handler) (releases : List Release) (h : Handler) →
-    HasPlaces handlers releases → h.places.items ≡ [] → HasPlaces (handlers ++ h ∷ []) releases
+    HasIndices handlers releases → h.indices.items ≡ [] → HasIndices (handlers ++ h ∷ []) releases
 places_registered handlers releases h has empty =
     record {
       kept = λ index r there. front_same handlers h r.handler r.number index (has.kept index r there);
@@ -119,16 +119,16 @@ places_registered handlers releases h has empty =
         holds (slice_get releases index) (is_named handler number) ≡ true
     by_row handler number index at (inl there) =
         has.right handler number index
-        (ap (λ (n : ℕ). place_kept handlers n number) at.is_handler
-        ∙ (ap (place_kept handlers (suc at.k)) at.is_number
+        (ap (λ (n : ℕ). index_kept handlers n number) at.is_handler
+        ∙ (ap (index_kept handlers (suc at.k)) at.is_number
         ∙ (kept_at handlers at.k at.i at.row there ∙ at.kept)))
     by_row handler number index at (inr same) =
         let none : slice_get [] at.i ≡ Some index =
         subst (λ (ps : List ℕ). slice_get ps at.i ≡ Some index) empty
-        (subst (λ (row : Handler). slice_get row.places.items at.i ≡ Some index) (sym same) at.kept) in
+        (subst (λ (row : Handler). slice_get row.indices.items at.i ≡ Some index) (sym same) at.kept) in
         absurd (cc (none))
 
-    right : (handler number index : ℕ) → place_kept (handlers ++ h ∷ []) handler number ≡ Some index →
+    right : (handler number index : ℕ) → index_kept (handlers ++ h ∷ []) handler number ≡ Some index →
         holds (slice_get releases index) (is_named handler number) ≡ true
     right handler number index e =
         let at = handler_there (handlers ++ h ∷ []) handler number index e in
@@ -147,7 +147,7 @@ abbrev pub priority_in : Option HandlerSeen → ℕ
 priority_in o = elim o as (λ _. ℕ) [ None ↦ 0 | Some h ↦ h.priority ]
 
 pub keys_registered : (handlers : List Handler) (releases : List Release) (keys : List ℕ) (h : Handler) →
-    HasPlaces handlers releases → HasKeys (releases_of (map handler_seen handlers) releases) keys →
+    HasIndices handlers releases → HasKeys (releases_of (map handler_seen handlers) releases) keys →
     HasKeys (releases_of (map handler_seen (handlers ++ h ∷ [])) releases) keys
 keys_registered handlers releases keys h placed has =
     keys_by (map handler_seen handlers) (map handler_seen (handlers ++ h ∷ [])) releases keys has

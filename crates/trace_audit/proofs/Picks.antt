@@ -13,8 +13,8 @@ use Rattle.std.specs.List.Sorted.{IsPermutation}
 use Rattle.std.specs.Ordering.{nat_cmp}
 use Rattle.scj_rules.specs.Words.{holds}
 use Rattle.trace_audit.specs.declared.releases.Release.{Release}
-use Rattle.trace_audit.specs.Replay.{Releases, candidates_from, picked_place}
-use Rattle.trace_audit.specs.Index.{HasKeys, is_current, is_among_keys, is_rank, key_of, place_in, places_end, rank_of, rank_in}
+use Rattle.trace_audit.specs.Replay.{Releases, candidates_from, picked_index}
+use Rattle.trace_audit.specs.Index.{HasKeys, is_current, is_among_keys, is_rank, key_of, index_in, indices_end, rank_of, rank_in}
 use Rattle.trace_audit.proofs.Urgent.{Found, IsBest, IsOf, behind, best_is_picked, is_of_some, weight}
 
 -- ---- by keys
@@ -48,17 +48,17 @@ among_all P [] x all among = absurd (cc (among))
 among_all P (k ∷ keys) x all among =
     among_first P k x keys (All-head P k keys all) (λ h. among_all P keys x (All-tail P k keys all) h) (k == x) refl among
 
-key_parts : (key : ℕ) → key_of (rank_in key) (place_in key) ≡ key
+key_parts : (key : ℕ) → key_of (rank_in key) (index_in key) ≡ key
 key_parts key = omega arith
 
-rank_of_key : (rank index : ℕ) → index < places_end → rank_in (key_of rank index) ≡ rank
+rank_of_key : (rank index : ℕ) → index < indices_end → rank_in (key_of rank index) ≡ rank
 rank_of_key rank index h = omega arith
 
-place_of_key : (rank index : ℕ) → index < places_end → place_in (key_of rank index) ≡ index
+place_of_key : (rank index : ℕ) → index < indices_end → index_in (key_of rank index) ≡ index
 place_of_key rank index h = let e : rank_in (key_of rank index) ≡ rank = rank_of_key rank index h in omega arith
 
 -- a key that isn't greater belongs to a lower rank, or to the same one at a later place
-less_urgent : (n rank q index : ℕ) → q < places_end → index < places_end → key_of n q ≤ key_of rank index →
+less_urgent : (n rank q index : ℕ) → q < indices_end → index < indices_end → key_of n q ≤ key_of rank index →
     (n < rank) ⊎ ((n ≡ rank) × (index ≤ q))
 less_urgent n rank q index hq hp h = by_order (eq-or-lt_of_le (let k : n ≤ rank = omega arith in k))
   where
@@ -67,18 +67,18 @@ less_urgent n rank q index hq hp h = by_order (eq-or-lt_of_le (let k : n ≤ ran
     by_order (inr l) = inl l
 
 pub picked_by_key : (all : Releases) (keys : List ℕ) (key : ℕ) → HasKeys all keys → IsUpperBound nat_cmp key keys →
-    is_current all key ≡ true → picked_place all ≡ Some (place_in key)
-unfolding picked_place
+    is_current all key ≡ true → picked_index all ≡ Some (index_in key)
+unfolding picked_index
 picked_by_key all keys key has above current =
-    let held : Held (slice_get all.releases (place_in key)) (λ r. is_rank (rank_in key) (rank_of all.handlers r)) =
-    held (slice_get all.releases (place_in key)) (λ r. is_rank (rank_in key) (rank_of all.handlers r)) current in
-    let found : Found (most_urgent (candidates_from all.handlers 0 all.releases)) (0 + place_in key) (rank_in key) =
-    best_is_picked all.handlers 0 all.releases (place_in key) (rank_in key) held.value held.is
+    let held : Held (slice_get all.releases (index_in key)) (λ r. is_rank (rank_in key) (rank_of all.handlers r)) =
+    held (slice_get all.releases (index_in key)) (λ r. is_rank (rank_in key) (rank_of all.handlers r)) current in
+    let found : Found (most_urgent (candidates_from all.handlers 0 all.releases)) (0 + index_in key) (rank_in key) =
+    best_is_picked all.handlers 0 all.releases (index_in key) (rank_in key) held.value held.is
     (rank_is (rank_in key) (rank_of all.handlers held.value) held.holds_of) best in
-    let at : found.candidate.index ≡ place_in key = let e = found.at in omega (arith, e) in
+    let at : found.candidate.index ≡ index_in key = let e = found.at in omega (arith, e) in
     ap (option_map (λ (c : Candidate). c.index)) found.is ∙ ap (λ (n : ℕ). Some n) at
   where
-    within : (q : ℕ) (t : Release) → slice_get all.releases q ≡ Some t → q < places_end
+    within : (q : ℕ) (t : Release) → slice_get all.releases q ≡ Some t → q < indices_end
     within q t e =
         let f = has.few in
         let g : q < length all.releases = slice_get_within all.releases q t e in
@@ -87,22 +87,22 @@ picked_by_key all keys key has above current =
     bound : All (λ y. y ≤ key) keys
     bound = le_from_greatest key keys above
 
-    place_within : place_in key < places_end
+    place_within : index_in key < indices_end
     place_within = omega arith
 
-    best : IsBest all.handlers all.releases (place_in key) (rank_in key)
+    best : IsBest all.handlers all.releases (index_in key) (rank_in key)
     best =
         record {
           is = λ q n t e f.
-              less_urgent n (rank_in key) q (place_in key) (within q t e) place_within
+              less_urgent n (rank_in key) q (index_in key) (within q t e) place_within
               (let le : key_of n q ≤ key =
               among_all (λ y. y ≤ key) keys (key_of n q) bound (has.is q n t e f) in
-              let parts : key_of (rank_in key) (place_in key) ≡ key = key_parts key in
+              let parts : key_of (rank_in key) (index_in key) ≡ key = key_parts key in
               omega (arith, le, parts));
         }
 
-pub none_picked : (all : Releases) (keys : List ℕ) → HasKeys all keys → keys ≡ [] → picked_place all ≡ None
-unfolding picked_place
+pub none_picked : (all : Releases) (keys : List ℕ) → HasKeys all keys → keys ≡ [] → picked_index all ≡ None
+unfolding picked_index
 none_picked all keys has none = by_result (most_urgent (candidates_from all.handlers 0 all.releases)) refl
   where
     by_result : (o : Option Candidate) → most_urgent (candidates_from all.handlers 0 all.releases) ≡ o →
@@ -129,7 +129,7 @@ has_keys_popped all keys after key has popped stale =
     current index rank r there ranked =
         let f = has.few in
         let g : index < length all.releases = slice_get_within all.releases index r there in
-        let w : index < places_end = omega (arith, f, g) in
+        let w : index < indices_end = omega (arith, f, g) in
         ap (λ (p : ℕ). holds (slice_get all.releases p)
         (λ t. is_rank (rank_in (key_of rank index)) (rank_of all.handlers t))) (place_of_key rank index w)
         ∙ (ap (λ (o : Option Release). holds o
@@ -166,6 +166,6 @@ has_keys_after_pop all (k ∷ keys) after key (Some x) has stale first top moved
     (subst (λ (y : ℕ). IsPermutation (k ∷ keys) (y ∷ after)) e moved) stale
 
 pub none_picked_at : (all : Releases) (keys : List ℕ) (n : ℕ) → HasKeys all keys → n ≡ length keys →
-    (0 < n → ⊥) → picked_place all ≡ None
+    (0 < n → ⊥) → picked_index all ≡ None
 none_picked_at all [] n has e empty = none_picked all [] has refl
 none_picked_at all (k ∷ keys) n has e empty = absurd (empty (omega (arith, e)))

@@ -13,8 +13,8 @@ use Rattle.trace_audit.specs.declared.handlers.Handler.{Handler}
 use Rattle.trace_audit.specs.declared.releases.Release.{Release}
 use Rattle.trace_audit.specs.declared.releases.Standing.{Standing}
 use Rattle.trace_audit.specs.declared.releases.Standing.TheVariants.{Waits, Started, Gone}
-use Rattle.trace_audit.specs.Replay.{Releases, is_named, is_waiting, place_of, release_named, restanding}
-use Rattle.trace_audit.specs.Index.{HasPlaces, all_seen, place_kept, standing_named}
+use Rattle.trace_audit.specs.Replay.{Releases, is_named, is_waiting, index_of, release_named, restanding}
+use Rattle.trace_audit.specs.Index.{HasIndices, all_seen, index_kept, standing_named}
 
 -- ---- positions
 
@@ -66,20 +66,20 @@ holding releases handler number index h = go (slice_get releases index) refl h
     go (Some r) e f = record { release = r; there = e; named = f }
 
 -- where a release has these names, its place is kept under them
-kept_named : (handlers : List Handler) (releases : List Release) → HasPlaces handlers releases →
+kept_named : (handlers : List Handler) (releases : List Release) → HasIndices handlers releases →
     (handler number j : ℕ) (r : Release) → slice_get releases j ≡ Some r → is_named handler number r ≡ true →
-    place_kept handlers handler number ≡ Some j
+    index_kept handlers handler number ≡ Some j
 kept_named handlers releases has handler number j r there named =
     let names = same_names handler number r named in
-    subst (λ (h : ℕ). place_kept handlers h number ≡ Some j) names.0
-    (subst (λ (n : ℕ). place_kept handlers r.handler n ≡ Some j) names.1 (has.kept j r there))
+    subst (λ (h : ℕ). index_kept handlers h number ≡ Some j) names.0
+    (subst (λ (n : ℕ). index_kept handlers r.handler n ≡ Some j) names.1 (has.kept j r there))
 
-pub place_is_kept : (handlers : List Handler) (releases : List Release) → HasPlaces handlers releases →
-    (handler number : ℕ) → place_of releases handler number ≡ place_kept handlers handler number
-place_is_kept handlers releases has handler number = go (place_kept handlers handler number) refl
+pub place_is_kept : (handlers : List Handler) (releases : List Release) → HasIndices handlers releases →
+    (handler number : ℕ) → index_of releases handler number ≡ index_kept handlers handler number
+place_is_kept handlers releases has handler number = go (index_kept handlers handler number) refl
   where
-    go : (o : Option ℕ) → place_kept handlers handler number ≡ o →
-        place_of releases handler number ≡ place_kept handlers handler number
+    go : (o : Option ℕ) → index_kept handlers handler number ≡ o →
+        index_of releases handler number ≡ index_kept handlers handler number
     go None e =
         position_nowhere (is_named handler number) releases
         (λ j r there named.
@@ -95,8 +95,8 @@ place_is_kept handlers releases has handler number = go (place_kept handlers han
 -- ---- a release that stands otherwise
 
 pub places_restood : (handlers : List Handler) (releases : List Release) (index : ℕ) (r : Release) (s : Standing) →
-    HasPlaces handlers releases → slice_get releases index ≡ Some r →
-    HasPlaces handlers (slice_set releases index (record r { standing = s }))
+    HasIndices handlers releases → slice_get releases index ≡ Some r →
+    HasIndices handlers (slice_set releases index (record r { standing = s }))
 places_restood handlers releases index r s has there =
     let changed : Release = record r { standing = s } in
     record { kept = λ p t e. kept p t e; right = λ h n p e. right h n p e }
@@ -111,21 +111,21 @@ places_restood handlers releases index r s has there =
         ∙ get_set_same releases index (record r { standing = s }) within
 
     kept : (p : ℕ) (t : Release) → slice_get (slice_set releases index (record r { standing = s })) p ≡ Some t →
-        place_kept handlers t.handler t.number ≡ Some p
+        index_kept handlers t.handler t.number ≡ Some p
     kept p t e = by_place (p == index) refl
       where
-        by_place : (b : Bool) → (p == index) ≡ b → place_kept handlers t.handler t.number ≡ Some p
+        by_place : (b : Bool) → (p == index) ≡ b → index_kept handlers t.handler t.number ≡ Some p
         by_place true f =
             let q : p ≡ index = grind (arith, nat_tests, f) in
             let same : record r { standing = s } ≡ t =
             some_inj (record r { standing = s }) t (sym (same_place p q) ∙ e) in
-            subst (λ (u : Release). place_kept handlers u.handler u.number ≡ Some p) same
+            subst (λ (u : Release). index_kept handlers u.handler u.number ≡ Some p) same
             (has.kept index r there ∙ ap (λ (n : ℕ). Some n) (sym q))
         by_place false f =
             let q : index ≡ p → ⊥ = λ g. (let h : p ≡ index = sym g in grind (arith, nat_tests, f, h)) in
             has.kept p t (sym (get_set_other releases index p (record r { standing = s }) q) ∙ e)
 
-    right : (h n p : ℕ) → place_kept handlers h n ≡ Some p →
+    right : (h n p : ℕ) → index_kept handlers h n ≡ Some p →
         holds (slice_get (slice_set releases index (record r { standing = s })) p) (is_named h n) ≡ true
     right h n p e = by_place (p == index) refl
       where
@@ -147,17 +147,17 @@ places_restood handlers releases index r s has there =
 abbrev release_in : List Release → Option ℕ → Option Release
 release_in releases o = elim o as (λ _. Option Release) [ None ↦ None | Some index ↦ slice_get releases index ]
 
-module _ (handlers : List Handler) (releases : List Release) (has : HasPlaces handlers releases)
+module _ (handlers : List Handler) (releases : List Release) (has : HasIndices handlers releases)
     (handler number : ℕ) where
-  named_by : (o : Option ℕ) → place_kept handlers handler number ≡ o →
+  named_by : (o : Option ℕ) → index_kept handlers handler number ≡ o →
       release_named releases handler number ≡ release_in releases o
   named_by o e = ap (release_in releases) (place_is_kept handlers releases has handler number ∙ e)
 
-  pub standing_nowhere : place_kept handlers handler number ≡ None →
+  pub standing_nowhere : index_kept handlers handler number ≡ None →
       standing_named (all_seen handlers releases) handler number ≡ None
   standing_nowhere e = ap (option_map (λ (r : Release). r.standing)) (named_by None e)
 
-  pub standing_at : (index : ℕ) (o : Option Release) → place_kept handlers handler number ≡ Some index →
+  pub standing_at : (index : ℕ) (o : Option Release) → index_kept handlers handler number ≡ Some index →
       slice_get releases index ≡ o → standing_named (all_seen handlers releases) handler number
       ≡ option_map (λ (r : Release). r.standing) o
   standing_at index o e f = ap (option_map (λ (r : Release). r.standing)) (named_by (Some index) e ∙ f)
@@ -172,19 +172,19 @@ module _ (handlers : List Handler) (releases : List Release) (has : HasPlaces ha
   abbrev with_releases : List Release → Releases
   with_releases rs = all_seen handlers rs
 
-  restanding_by : (change : Standing → Standing) (o : Option ℕ) → place_kept handlers handler number ≡ o →
+  restanding_by : (change : Standing → Standing) (o : Option ℕ) → index_kept handlers handler number ≡ o →
       restanding change handler number (all_seen handlers releases) ≡ with_releases (releases_by change o)
   unfolding releases_by
   restanding_by change o e =
       ap (λ (x : Option ℕ). with_releases (releases_by change x))
       (place_is_kept handlers releases has handler number ∙ e)
 
-  pub restanding_nowhere : (change : Standing → Standing) → place_kept handlers handler number ≡ None →
+  pub restanding_nowhere : (change : Standing → Standing) → index_kept handlers handler number ≡ None →
       all_seen handlers releases ≡ restanding change handler number (all_seen handlers releases)
   unfolding releases_by
   restanding_nowhere change e = sym (restanding_by change None e)
 
-  pub restanding_past : (change : Standing → Standing) (index : ℕ) → place_kept handlers handler number ≡ Some index →
+  pub restanding_past : (change : Standing → Standing) (index : ℕ) → index_kept handlers handler number ≡ Some index →
       slice_get releases index ≡ None →
       all_seen handlers releases ≡ restanding change handler number (all_seen handlers releases)
   unfolding releases_by
@@ -196,7 +196,7 @@ module _ (handlers : List Handler) (releases : List Release) (has : HasPlaces ha
       ])) f)
 
   pub restanding_at : (change : Standing → Standing) (index : ℕ) (r : Release) →
-      place_kept handlers handler number ≡ Some index → slice_get releases index ≡ Some r →
+      index_kept handlers handler number ≡ Some index → slice_get releases index ≡ Some r →
       all_seen handlers (slice_set releases index (record r { standing = change r.standing }))
       ≡ restanding change handler number (all_seen handlers releases)
   unfolding releases_by
@@ -242,12 +242,12 @@ changed_at all to o =
 pub restanding_so : (change : Standing → Standing) (s : Standing) (handler number : ℕ) (all : Releases) →
     standing_named all handler number ≡ Some s →
     restanding (λ t. change s) handler number all ≡ restanding change handler number all
-restanding_so change s handler number all e = go (place_of all.releases handler number) refl e
+restanding_so change s handler number all e = go (index_of all.releases handler number) refl e
   where
-    go : (o : Option ℕ) → place_of all.releases handler number ≡ o →
-        standings (release_in all.releases (place_of all.releases handler number)) ≡ Some s →
-        changed_at all (λ r. change s) (place_of all.releases handler number)
-        ≡ changed_at all (λ r. change r.standing) (place_of all.releases handler number)
+    go : (o : Option ℕ) → index_of all.releases handler number ≡ o →
+        standings (release_in all.releases (index_of all.releases handler number)) ≡ Some s →
+        changed_at all (λ r. change s) (index_of all.releases handler number)
+        ≡ changed_at all (λ r. change r.standing) (index_of all.releases handler number)
     go None f g = ap (changed_at all (λ r. change s)) f ∙ sym (ap (changed_at all (λ r. change r.standing)) f)
     go (Some p) f g =
         ap (changed_at all (λ r. change s)) f
@@ -262,11 +262,11 @@ no_standing (Some r) g = absurd (cc (g))
 
 pub restanding_nobody : (change : Standing → Standing) (handler number : ℕ) (all : Releases) →
     standing_named all handler number ≡ None → all ≡ restanding change handler number all
-restanding_nobody change handler number all e = go (place_of all.releases handler number) refl e
+restanding_nobody change handler number all e = go (index_of all.releases handler number) refl e
   where
-    go : (o : Option ℕ) → place_of all.releases handler number ≡ o →
-        standings (release_in all.releases (place_of all.releases handler number)) ≡ None →
-        all ≡ changed_at all (λ r. change r.standing) (place_of all.releases handler number)
+    go : (o : Option ℕ) → index_of all.releases handler number ≡ o →
+        standings (release_in all.releases (index_of all.releases handler number)) ≡ None →
+        all ≡ changed_at all (λ r. change r.standing) (index_of all.releases handler number)
     go None f g = sym (ap (changed_at all (λ r. change r.standing)) f)
     go (Some p) f g =
         sym (ap (changed_at all (λ r. change r.standing)) f

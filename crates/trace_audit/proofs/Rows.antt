@@ -12,7 +12,7 @@ use Rattle.scj_model.specs.Plan.{Plan}
 use Rattle.trace_audit.specs.declared.answers.Audit.TheVariants.{Yes, No}
 use Rattle.trace_audit.specs.Parts.{number_of, parted, parted_at_last, with_digits}
 use Rattle.trace_audit.specs.Lines.{line_of, long_entry_of, release_entry_of, short_entry_of}
-use Rattle.trace_audit.specs.Replay.{candidates_from, picked_place}
+use Rattle.trace_audit.specs.Replay.{candidates_from, picked_index}
 use Rattle.trace_audit.specs.Passing.{entry_passes, replayed, rest_done, table_done}
 use Rattle.trace_audit.specs.Audits.{audit_from, audit_of, lines_of}
 
@@ -33,11 +33,11 @@ abbrev fires : List Fire
 fires = fire 50 ∷ fire 53 ∷ fire 54 ∷ []
 
 termination : audit_of (plan 100 fires) (begin_of_termination ++ codes "53 drop 1 2\n" ++ end_of_termination) ≡ Yes
-unfolding audit_of audit_from comes_at comes_in lines_of line_of number_of with_digits parted parted_at_last short_entry_of long_entry_of release_entry_of entry_passes replayed table_done rest_done picked_place candidates_from most_urgent is_name is_letter is_name_byte is_digit is_text_byte text_of words
+unfolding audit_of audit_from comes_at comes_in lines_of line_of number_of with_digits parted parted_at_last short_entry_of long_entry_of release_entry_of entry_passes replayed table_done rest_done picked_index candidates_from most_urgent is_name is_letter is_name_byte is_digit is_text_byte text_of words
 termination = refl
 
 without_drop : audit_of (plan 100 fires) (begin_of_termination ++ end_of_termination) ≡ No 12
-unfolding audit_of audit_from comes_at comes_in lines_of line_of number_of with_digits parted parted_at_last short_entry_of long_entry_of release_entry_of entry_passes replayed table_done rest_done picked_place candidates_from most_urgent is_name is_letter is_name_byte is_digit is_text_byte text_of words
+unfolding audit_of audit_from comes_at comes_in lines_of line_of number_of with_digits parted parted_at_last short_entry_of long_entry_of release_entry_of entry_passes replayed table_done rest_done picked_index candidates_from most_urgent is_name is_letter is_name_byte is_digit is_text_byte text_of words
 without_drop = refl
 
 -- the fire that is missed is counted from the origin, which is 44
@@ -46,15 +46,15 @@ fires_of_a_mission unit =
     fire 50 ∷ fire 53 ∷ record { at = unit; handler = codes "H"; from = Mission } ∷ []
 
 miss_of_a_mission : audit_of (plan 100 (fires_of_a_mission 10)) (begin_of_termination ++ codes "53 drop 1 2\n" ++ end_of_termination) ≡ Yes
-unfolding audit_of audit_from comes_at comes_in lines_of line_of number_of with_digits parted parted_at_last short_entry_of long_entry_of release_entry_of entry_passes replayed table_done rest_done picked_place candidates_from most_urgent is_name is_letter is_name_byte is_digit is_text_byte text_of words
+unfolding audit_of audit_from comes_at comes_in lines_of line_of number_of with_digits parted parted_at_last short_entry_of long_entry_of release_entry_of entry_passes replayed table_done rest_done picked_index candidates_from most_urgent is_name is_letter is_name_byte is_digit is_text_byte text_of words
 miss_of_a_mission = refl
 
 miss_from_the_unit_of_exec : audit_of (plan 100 (fires_of_a_mission 11)) (begin_of_termination ++ codes "53 drop 1 2\n" ++ end_of_termination) ≡ No 10
-unfolding audit_of audit_from comes_at comes_in lines_of line_of number_of with_digits parted parted_at_last short_entry_of long_entry_of release_entry_of entry_passes replayed table_done rest_done picked_place candidates_from most_urgent is_name is_letter is_name_byte is_digit is_text_byte text_of words
+unfolding audit_of audit_from comes_at comes_in lines_of line_of number_of with_digits parted parted_at_last short_entry_of long_entry_of release_entry_of entry_passes replayed table_done rest_done picked_index candidates_from most_urgent is_name is_letter is_name_byte is_digit is_text_byte text_of words
 miss_from_the_unit_of_exec = refl
 
 miss_of_no_mission : audit_of (plan 100 (fires_of_a_mission 54)) (codes "54 miss H\n") ≡ No 1
-unfolding audit_of audit_from comes_at comes_in lines_of line_of number_of with_digits parted parted_at_last short_entry_of long_entry_of release_entry_of entry_passes replayed table_done rest_done picked_place candidates_from most_urgent is_name is_letter is_name_byte is_digit is_text_byte text_of words
+unfolding audit_of audit_from comes_at comes_in lines_of line_of number_of with_digits parted parted_at_last short_entry_of long_entry_of release_entry_of entry_passes replayed table_done rest_done picked_index candidates_from most_urgent is_name is_letter is_name_byte is_digit is_text_byte text_of words
 miss_of_no_mission = refl
 
 abbrev begin_of_ceiling : List ℕ
@@ -68,11 +68,11 @@ end_of_ceiling =
     ++ codes "150 stopped\n"
 
 ceiling : audit_of (plan 150 []) (begin_of_ceiling ++ end_of_ceiling) ≡ Yes
-unfolding audit_of audit_from comes_at comes_in lines_of line_of number_of with_digits parted parted_at_last short_entry_of long_entry_of release_entry_of entry_passes replayed table_done rest_done picked_place candidates_from most_urgent is_name is_letter is_name_byte is_digit is_text_byte text_of words
+unfolding audit_of audit_from comes_at comes_in lines_of line_of number_of with_digits parted parted_at_last short_entry_of long_entry_of release_entry_of entry_passes replayed table_done rest_done picked_index candidates_from most_urgent is_name is_letter is_name_byte is_digit is_text_byte text_of words
 ceiling = refl
 
 with_run : audit_of (plan 150 []) (begin_of_ceiling ++ codes "88 run 2 1\n" ++ end_of_ceiling) ≡ No 9
-unfolding audit_of audit_from comes_at comes_in lines_of line_of number_of with_digits parted parted_at_last short_entry_of long_entry_of release_entry_of entry_passes replayed table_done rest_done picked_place candidates_from most_urgent is_name is_letter is_name_byte is_digit is_text_byte text_of words
+unfolding audit_of audit_from comes_at comes_in lines_of line_of number_of with_digits parted parted_at_last short_entry_of long_entry_of release_entry_of entry_passes replayed table_done rest_done picked_index candidates_from most_urgent is_name is_letter is_name_byte is_digit is_text_byte text_of words
 with_run = refl
 
 empty_text : audit_of (plan 150 []) [] ≡ No 1
@@ -80,9 +80,9 @@ unfolding audit_of audit_from lines_of
 empty_text = refl
 
 fault_line : audit_of (plan 9 []) (codes "7 fault NullPointer a b:c.java:12\n7 halted\n") ≡ Yes
-unfolding audit_of audit_from comes_at comes_in lines_of line_of number_of with_digits parted parted_at_last short_entry_of long_entry_of release_entry_of entry_passes replayed table_done rest_done picked_place candidates_from most_urgent is_name is_letter is_name_byte is_digit is_text_byte text_of words
+unfolding audit_of audit_from comes_at comes_in lines_of line_of number_of with_digits parted parted_at_last short_entry_of long_entry_of release_entry_of entry_passes replayed table_done rest_done picked_index candidates_from most_urgent is_name is_letter is_name_byte is_digit is_text_byte text_of words
 fault_line = refl
 
 behind_the_end : audit_of (plan 9 []) (codes "7 halted\n7 halted\n") ≡ No 2
-unfolding audit_of audit_from comes_at comes_in lines_of line_of number_of with_digits parted parted_at_last short_entry_of long_entry_of release_entry_of entry_passes replayed table_done rest_done picked_place candidates_from most_urgent is_name is_letter is_name_byte is_digit is_text_byte text_of words
+unfolding audit_of audit_from comes_at comes_in lines_of line_of number_of with_digits parted parted_at_last short_entry_of long_entry_of release_entry_of entry_passes replayed table_done rest_done picked_index candidates_from most_urgent is_name is_letter is_name_byte is_digit is_text_byte text_of words
 behind_the_end = refl

@@ -17,7 +17,7 @@ use Rattle.trace_audit.specs.declared.releases.Standing.TheVariants.{Waits}
 use Rattle.trace_audit.specs.Replay.{HandlerSeen, arrived, one_more}
 use Rattle.trace_audit.proofs.Places.{places_restood}
 use Rattle.trace_audit.proofs.Priorities.{handler_seen_at}
-use Rattle.trace_audit.specs.Index.{HasMoreKeys, HasPlaceAdded, IsIndexed, all_seen, handler_seen, is_next, is_among_keys, key_of, places_end, rank_of}
+use Rattle.trace_audit.specs.Index.{HasMoreKeys, HasIndexAdded, IsIndexed, all_seen, handler_seen, is_next, is_among_keys, key_of, indices_end, rank_of}
 use Rattle.trace_audit.proofs.KeyLaws.{keys_registered, keys_restood, places_registered, releases_of, seen_at}
 use Rattle.trace_audit.proofs.ArrivalLaws.{handlers_arrived, keys_arrived, places_arrived}
 
@@ -35,7 +35,7 @@ indexed_restood handlers releases keys more index r s has there heap added =
     }
 
 pub indexed_registered : (handlers after : List Handler) (releases : List Release) (keys : List ℕ) (h : Handler) →
-    IsIndexed handlers releases keys → after ≡ handlers ++ h ∷ [] → h.places.items ≡ [] →
+    IsIndexed handlers releases keys → after ≡ handlers ++ h ∷ [] → h.indices.items ≡ [] →
     IsIndexed after releases keys
 indexed_registered handlers after releases keys h has are empty =
     subst (λ (hs : List Handler). IsIndexed hs releases keys) (sym are)
@@ -50,7 +50,7 @@ record NextThere (handlers : List Handler) (handler number : ℕ) : Type 0 where
   row : Handler
   is_handler : handler ≡ suc k
   there : slice_get handlers k ≡ Some row
-  next : number ≡ suc (length row.places.items)
+  next : number ≡ suc (length row.indices.items)
 
 next_there : (handlers : List Handler) (handler number : ℕ) →
     is_next (map handler_seen handlers) handler number ≡ true → NextThere handlers handler number
@@ -64,7 +64,7 @@ next_there handlers (suc k) number e = go (slice_get handlers k) refl
         (slice_get-map handler_seen handlers k ∙ ap (option_map handler_seen) f)) ∙ e in
         absurd (cc (g))
     go (Some row) f =
-        let g : (number == length row.places.items + 1) ≡ true =
+        let g : (number == length row.indices.items + 1) ≡ true =
         sym (ap (λ (x : Option HandlerSeen). holds x (λ h. number == h.arrived + 1)) (seen_at handlers k row f)) ∙ e in
         record { k = k; row = row; is_handler = refl; there = f; next = grind (arith, nat_tests, g) }
 
@@ -88,7 +88,7 @@ waiting handler number = record { handler = handler; number = number; standing =
 
 module _ (handlers rows : List Handler) (releases all : List Release) (handler number : ℕ)
     (next : is_next (map handler_seen handlers) handler number ≡ true)
-    (added : HasPlaceAdded handlers rows (handler - 1) (length releases))
+    (added : HasIndexAdded handlers rows (handler - 1) (length releases))
     (are : all ≡ releases ++ waiting handler number ∷ []) where
   at : NextThere handlers handler number
   at = next_there handlers handler number next
@@ -102,13 +102,13 @@ module _ (handlers rows : List Handler) (releases all : List Release) (handler n
   row_is : at.row ≡ added.row
   row_is = some_inj at.row added.row (sym at.there ∙ row_there)
 
-  number_is : number ≡ suc (length added.row.places.items)
-  number_is = at.next ∙ ap (λ (h : Handler). suc (length h.places.items)) row_is
+  number_is : number ≡ suc (length added.row.indices.items)
+  number_is = at.next ∙ ap (λ (h : Handler). suc (length h.indices.items)) row_is
 
   rows_are : rows ≡ slice_set handlers at.k added.new
   rows_are = added.are ∙ ap (λ (k : ℕ). slice_set handlers k added.new) place_is
 
-  pub indexed_arrived : (keys more : List ℕ) → IsIndexed handlers releases keys → length releases < places_end →
+  pub indexed_arrived : (keys more : List ℕ) → IsIndexed handlers releases keys → length releases < indices_end →
       IsHeap nat_cmp more →
       HasMoreKeys keys more (rank_of (map handler_seen handlers) (waiting handler number)) (length releases) →
       IsIndexed rows all more
@@ -142,7 +142,7 @@ module _ (handlers rows : List Handler) (releases all : List Release) (handler n
 
 pub is_next_some : (handlers : List Handler) (handler number i : ℕ) (h : Handler) →
     handler ≡ i + 1 → slice_get handlers i ≡ Some h →
-    is_next (map handler_seen handlers) handler number ≡ (number == length h.places.items + 1)
+    is_next (map handler_seen handlers) handler number ≡ (number == length h.indices.items + 1)
 is_next_some handlers handler number i h e f =
     ap (λ (x : Option HandlerSeen). holds x (λ h. number == h.arrived + 1))
     (handler_seen_at handlers handler i e ∙ ap (option_map handler_seen) f)

@@ -14,7 +14,7 @@ use Rattle.trace_audit.specs.declared.tables.ReleaseTable.{ReleaseTable}
 use Rattle.trace_audit.specs.Replay.{HandlerSeen, Releases, handler_at, is_named, priority_at, release_named}
 
 abbrev pub handler_seen : Handler → HandlerSeen
-handler_seen h = record { priority = h.priority; arrived = length h.places.items }
+handler_seen h = record { priority = h.priority; arrived = length h.indices.items }
 
 abbrev pub all_seen : List Handler → List Release → Releases
 all_seen handlers releases = record { handlers = map handler_seen handlers; releases = releases }
@@ -22,8 +22,8 @@ all_seen handlers releases = record { handlers = map handler_seen handlers; rele
 -- ---- keys
 
 -- one more than the greatest place
-abbrev pub places_end : ℕ
-places_end = 4294967296
+abbrev pub indices_end : ℕ
+indices_end = 4294967296
 
 -- how urgent a candidate is, besides its place: by its active priority, and between equals by whether it is started
 abbrev pub rank_of : List HandlerSeen → Release → Option ℕ
@@ -36,13 +36,13 @@ rank_of handlers r =
 
 -- the key of a candidate: of equal ranks the earlier place has the greater one
 abbrev pub key_of : ℕ → ℕ → ℕ
-key_of rank index = rank * places_end + (4294967295 - index)
+key_of rank index = rank * indices_end + (4294967295 - index)
 
 abbrev pub rank_in : ℕ → ℕ
-rank_in key = key / places_end
+rank_in key = key / indices_end
 
-abbrev pub place_in : ℕ → ℕ
-place_in key = 4294967295 - key % places_end
+abbrev pub index_in : ℕ → ℕ
+index_in key = 4294967295 - key % indices_end
 
 abbrev pub is_rank : ℕ → Option ℕ → Bool
 is_rank rank None = false
@@ -51,14 +51,14 @@ is_rank rank (Some n) = n == rank
 -- the release at the key's place has the key's rank
 abbrev pub is_current : Releases → ℕ → Bool
 is_current all key =
-    holds (slice_get all.releases (place_in key)) (λ r. is_rank (rank_in key) (rank_of all.handlers r))
+    holds (slice_get all.releases (index_in key)) (λ r. is_rank (rank_in key) (rank_of all.handlers r))
 
 abbrev pub is_among_keys : ℕ → List ℕ → Bool
 is_among_keys key keys = list_any (λ k. k == key) keys
 
 -- each candidate has its key in the heap; others may stand there, too
 pub record HasKeys (all : Releases) (keys : List ℕ) : Type 0 where
-  pub few : length all.releases ≤ places_end
+  pub few : length all.releases ≤ indices_end
   pub is : (index rank : ℕ) (r : Release) → slice_get all.releases index ≡ Some r →
       rank_of all.handlers r ≡ Some rank → is_among_keys (key_of rank index) keys ≡ true
 
@@ -70,31 +70,31 @@ pub record HasMoreKeys (keys after : List ℕ) (rank : Option ℕ) (index : ℕ)
 -- ---- places of handlers
 
 -- the place that a handler has for the release of a number
-abbrev pub place_kept : List Handler → ℕ → ℕ → Option ℕ
-place_kept handlers zero number = None
-place_kept handlers (suc k) zero = None
-place_kept handlers (suc k) (suc i) = slice_get handlers k >>= (λ h. slice_get h.places.items i)
+abbrev pub index_kept : List Handler → ℕ → ℕ → Option ℕ
+index_kept handlers zero number = None
+index_kept handlers (suc k) zero = None
+index_kept handlers (suc k) (suc i) = slice_get handlers k >>= (λ h. slice_get h.indices.items i)
 
-pub record HasPlaces (handlers : List Handler) (releases : List Release) : Type 0 where
+pub record HasIndices (handlers : List Handler) (releases : List Release) : Type 0 where
   pub kept : (index : ℕ) (r : Release) → slice_get releases index ≡ Some r →
-      place_kept handlers r.handler r.number ≡ Some index
-  pub right : (handler number index : ℕ) → place_kept handlers handler number ≡ Some index →
+      index_kept handlers r.handler r.number ≡ Some index
+  pub right : (handler number index : ℕ) → index_kept handlers handler number ≡ Some index →
       holds (slice_get releases index) (is_named handler number) ≡ true
 
 -- a handler has one more place, behind its others
-pub record HasPlaceAdded (handlers after : List Handler) (k index : ℕ) : Type 0 where
+pub record HasIndexAdded (handlers after : List Handler) (k index : ℕ) : Type 0 where
   pub row : Handler
   pub new : Handler
   pub there : slice_get handlers k ≡ Some row
   pub same_priority : new.priority ≡ row.priority
-  pub pushed : new.places.items ≡ row.places.items ++ index ∷ []
+  pub pushed : new.indices.items ≡ row.indices.items ++ index ∷ []
   pub are : after ≡ slice_set handlers k new
 
 -- the heap is one, and both hold
 pub record IsIndexed (handlers : List Handler) (releases : List Release) (keys : List ℕ) : Type 0 where
   pub ordered : IsHeap nat_cmp keys
   pub keyed : HasKeys (all_seen handlers releases) keys
-  pub placed : HasPlaces handlers releases
+  pub placed : HasIndices handlers releases
 
 -- ---- a table of releases
 

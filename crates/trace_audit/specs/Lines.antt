@@ -57,15 +57,15 @@ print_of bytes =
     where_true (list_all is_text_byte parts.front && is_value parts.back) Print)
 
 -- FILE:LINE: the name of a file may hold colons
-abbrev pub is_place : List ℕ → Bool
-is_place bytes =
+abbrev pub is_position : List ℕ → Bool
+is_position bytes =
     holds (parted_at_last colon bytes) (λ parts.
     is_file_name parts.front && holds (number_of parts.back) (λ n. nat_le 1 n))
 
 -- NAME FILE:LINE
 abbrev pub fault_of : List ℕ → Option Entry
 fault_of bytes =
-    parted blank bytes >>= (λ parts. where_true (is_fault_name parts.front && is_place parts.back) Fault)
+    parted blank bytes >>= (λ parts. where_true (is_fault_name parts.front && is_position parts.back) Fault)
 
 -- ---- the word, alone or with arguments
 

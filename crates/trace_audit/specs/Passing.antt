@@ -11,7 +11,7 @@ use Rattle.trace_audit.specs.declared.choices.Choice.TheVariants.{Idle as Nobody
 use Rattle.trace_audit.specs.declared.lines.Entry.{Entry}
 use Rattle.trace_audit.specs.declared.lines.Entry.TheVariants.{Mission, Register, Exec, Arrive, Miss, Run, Idle, Prio, End, Drop, Cleanup, Done, Halted, Stopped}
 use Rattle.trace_audit.specs.declared.lines.Line.{Line}
-use Rattle.trace_audit.specs.Replay.{Replay, Releases, differs, is_executing, picked, picked_place, is_same_choice, handler_at, release_named, no_releases, registered, arrived, started, raised, gone, is_waiting}
+use Rattle.trace_audit.specs.Replay.{Replay, Releases, differs, is_executing, picked, picked_index, is_same_choice, handler_at, release_named, no_releases, registered, arrived, started, raised, gone, is_waiting}
 
 -- ---- units
 
@@ -76,7 +76,7 @@ entry_passes plan replay unit (End handler number) =
     holds replay.last_choice (is_same_choice (Chosen handler number))
 entry_passes plan replay unit (Drop handler number) =
     holds (release_named replay.all.releases handler number) is_waiting
-entry_passes plan replay unit Cleanup = is_none (picked_place replay.all)
+entry_passes plan replay unit Cleanup = is_none (picked_index replay.all)
 entry_passes plan replay unit _ = true
 
 -- an arrival is the handler's next

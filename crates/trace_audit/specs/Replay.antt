@@ -44,8 +44,8 @@ candidates_from handlers index (r ∷ rs) =
     option_to_list (candidate_at handlers index r) ++ candidates_from handlers (index + 1) rs
 
 -- the place of the most urgent release
-unfoldable pub picked_place : Releases → Option ℕ
-picked_place all =
+unfoldable pub picked_index : Releases → Option ℕ
+picked_index all =
     option_map (λ (c : Candidate). c.index) (most_urgent (candidates_from all.handlers 0 all.releases))
 
 -- the choice of the release at a place, and of nobody
@@ -56,7 +56,7 @@ choice_at releases (Some index) =
 
 -- Pick
 abbrev pub picked : Releases → Choice
-picked all = choice_at all.releases (picked_place all)
+picked all = choice_at all.releases (picked_index all)
 
 abbrev pub is_same_choice : Choice → Choice → Bool
 is_same_choice Idle Idle = true
@@ -68,12 +68,12 @@ is_same_choice _ _ = false
 abbrev pub is_named : ℕ → ℕ → Release → Bool
 is_named handler number r = (r.handler == handler) && (r.number == number)
 
-abbrev pub place_of : List Release → ℕ → ℕ → Option ℕ
-place_of releases handler number = position (is_named handler number) releases
+abbrev pub index_of : List Release → ℕ → ℕ → Option ℕ
+index_of releases handler number = position (is_named handler number) releases
 
 abbrev pub release_named : List Release → ℕ → ℕ → Option Release
 release_named releases handler number =
-    elim (place_of releases handler number) [ None ↦ None | Some index ↦ slice_get releases index ]
+    elim (index_of releases handler number) [ None ↦ None | Some index ↦ slice_get releases index ]
 
 abbrev pub is_waiting : Release → Bool
 is_waiting r = elim r.standing [ Waits ↦ true | Started priority ↦ false | Gone ↦ false ]
@@ -82,7 +82,7 @@ is_waiting r = elim r.standing [ Waits ↦ true | Started priority ↦ false | G
 abbrev pub restanding : (Standing → Standing) → ℕ → ℕ → Releases → Releases
 restanding change handler number all =
     record all {
-      releases = elim (place_of all.releases handler number) [
+      releases = elim (index_of all.releases handler number) [
         | None ↦ all.releases
         | Some index ↦ changed (λ r. record r { standing = change r.standing }) index all.releases
       ];

@@ -1,7 +1,7 @@
 //! What stands behind the word of a line: the arguments of each word.
 
 ghost use Rattle.std.specs.Prelude.{◌≡◌};
-ghost use Rattle.trace_audit.specs.Lines.{class_of, fault_of, is_place as place_written, lost_of, miss_of, mission_of, print_of, prio_of, register_of, release_of};
+ghost use Rattle.trace_audit.specs.Lines.{class_of, fault_of, is_position as position_written, lost_of, miss_of, mission_of, print_of, prio_of, register_of, release_of};
 ghost use Rattle.trace_audit.specs.Parts.{handler_of, priority_of};
 
 use crate::lines::Entry;
@@ -108,8 +108,8 @@ pub fn print_of(bytes: &[u8]) -> Option<Entry>
 }
 
 /// Whether the bytes name a file and a line of it.
-fn is_place(bytes: &[u8]) -> bool
-    ensures { result ≡ place_written bytes.now }
+fn is_position(bytes: &[u8]) -> bool
+    ensures { result ≡ position_written bytes.now }
 {
     let Some((file, line)) = parted_at_last(b':', bytes) else {
         return false;
@@ -122,7 +122,7 @@ pub fn fault_of(bytes: &[u8]) -> Option<Entry>
     ensures { result ≡ fault_of bytes.now }
 {
     let (name, position) = parted(b' ', bytes)?;
-    if is_fault_name(name) && is_place(position) {
+    if is_fault_name(name) && is_position(position) {
         Some(Entry::Fault)
     } else {
         None

@@ -1,7 +1,7 @@
 //! The registered handlers of a mission.
 
 ghost use Rattle.std.specs.Prelude.{◌≡◌, ◌<◌, OnOk, length, option_copied, slice_get};
-ghost use Rattle.trace_audit.specs.Index.{HasPlaceAdded};
+ghost use Rattle.trace_audit.specs.Index.{HasIndexAdded};
 
 use std::alloc::AllocError;
 
@@ -9,7 +9,7 @@ use std::alloc::AllocError;
 #[derive(Drop)]
 pub struct Handler {
     pub priority: u8,
-    pub places: Vec<u32>,
+    pub indices: Vec<u32>,
 }
 
 /// The handler at a place, if there is one.
@@ -20,10 +20,10 @@ pub fn handler_row(handlers: &[Handler], index: usize) -> Option<&Handler>
 }
 
 /// Adds the place of one more release of a handler.
-pub fn add_place(handlers: &mut Vec<Handler>, handler: usize, index: u32) -> Result<(), AllocError>
+pub fn add_index(handlers: &mut Vec<Handler>, handler: usize, index: u32) -> Result<(), AllocError>
     requires { handler < length handlers.old.items }
-    ensures { OnOk result (HasPlaceAdded handlers.old.items handlers.new.items handler index) }
+    ensures { OnOk result (HasIndexAdded handlers.old.items handlers.new.items handler index) }
 {
-    handlers[handler].places.push(index)?;
+    handlers[handler].indices.push(index)?;
     Ok(())
 }

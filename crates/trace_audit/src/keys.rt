@@ -3,8 +3,8 @@
 ghost use Rattle.std.specs.Prelude.{◌≡◌, ◌≤◌, ◌<◌, ◌+◌, IfSome, MatchOption, Some, None, OnOk, length, map, true, if◌then◌else◌};
 ghost use Rattle.std.specs.BinaryHeap.{IsHeap, heap_items};
 ghost use Rattle.std.specs.Ordering.{nat_cmp};
-ghost use Rattle.trace_audit.specs.Index.{HasKeys, all_seen, handler_seen, is_current as current, key_of, places_end, rank_of};
-ghost use Rattle.trace_audit.specs.Replay.{picked_place, priority_at};
+ghost use Rattle.trace_audit.specs.Index.{HasKeys, all_seen, handler_seen, is_current as current, key_of, indices_end, rank_of};
+ghost use Rattle.trace_audit.specs.Replay.{picked_index, priority_at};
 
 use crate::handlers::{Handler, handler_row};
 use crate::releases::{Release, Standing};
@@ -39,7 +39,7 @@ pub fn rank_of(handlers: &[Handler], release: Release) -> Option<u64>
 /// The key of a candidate.
 pub fn key_of(rank: u64, index: usize) -> u64
     requires rank { rank ≤ 511 }
-    requires place { index < places_end }
+    requires place { index < indices_end }
     ensures { result ≡ key_of rank index }
 {
     rank * 4_294_967_296 + (4_294_967_295 - index as u64)
@@ -61,7 +61,7 @@ fn is_current(handlers: &[Handler], releases: &[Release], key: u64) -> bool
 pub fn pick(handlers: &[Handler], releases: &[Release], keys: &mut BinaryHeap<u64>) -> Option<usize>
     requires ordered { IsHeap nat_cmp (heap_items keys.old) }
     requires keyed { HasKeys (all_seen handlers.now releases.now) (heap_items keys.old) }
-    ensures place { result ≡ picked_place (all_seen handlers.now releases.now) }
+    ensures place { result ≡ picked_index (all_seen handlers.now releases.now) }
     ensures ordered { IsHeap nat_cmp (heap_items keys.new) }
     ensures keyed { HasKeys (all_seen handlers.now releases.now) (heap_items keys.new) }
 {

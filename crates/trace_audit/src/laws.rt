@@ -10,7 +10,7 @@ ghost use Rattle.scj_model.specs.TraceText.{text};
 ghost use Rattle.trace_audit.specs.Audits.{audit_of};
 ghost use Rattle.trace_audit.specs.PickedNames.{AllNamePick};
 ghost use Rattle.trace_audit.specs.Printed.{HaveForms, audit_told};
-ghost use Rattle.trace_audit.specs.Replay.{Releases, nothing_told, picked_place};
+ghost use Rattle.trace_audit.specs.Replay.{Releases, nothing_told, picked_index};
 ghost use Rattle.trace_audit.specs.StandsFor.{StandsFor};
 ghost use Rattle.trace_audit.specs.declared.answers.Audit.TheVariants.{Yes};
 
@@ -29,5 +29,5 @@ pub fn printed_traces_are_read()
 /// Where the releases of a replay stand for those of a state of a run, Pick is the release that the machine chooses: its
 /// place among those of the mission is the machine's place less the number of the releases of earlier missions.
 pub fn pick_is_the_machines_choice()
-    ensures { (s : State) (all : Releases) → StandsFor s all → chosen s ≡ option_map (λ (n : ℕ). s.earlier_releases + n) (picked_place all) }
+    ensures { (s : State) (all : Releases) → StandsFor s all → chosen s ≡ option_map (λ (n : ℕ). s.earlier_releases + n) (picked_index all) }
 {}

@@ -1,7 +1,7 @@
 //! Releases found by their names and places.
 
 ghost use Rattle.std.specs.Prelude.{◌≡◌, Some, map, slice_get};
-ghost use Rattle.trace_audit.specs.Index.{HasPlaces, all_seen, handler_seen, is_next as next, place_kept, standing_named};
+ghost use Rattle.trace_audit.specs.Index.{HasIndices, all_seen, handler_seen, is_next as next, index_kept, standing_named};
 ghost use Rattle.trace_audit.specs.Replay.{choice_at};
 
 use crate::choices::Choice;
@@ -9,14 +9,14 @@ use crate::handlers::{Handler, handler_row};
 use crate::releases::{Release, Standing};
 
 /// The place of a handler's release of a number.
-pub fn place_of(handlers: &[Handler], handler: u8, number: u64) -> Option<usize>
-    ensures { result ≡ place_kept handlers.now handler number }
+pub fn index_of(handlers: &[Handler], handler: u8, number: u64) -> Option<usize>
+    ensures { result ≡ index_kept handlers.now handler number }
 {
     if handler == 0 || number == 0 {
         return None;
     }
     let row = handlers.get(handler as usize - 1)?;
-    let index = row.places.get(number as usize - 1)?;
+    let index = row.indices.get(number as usize - 1)?;
     Some(*index as usize)
 }
 
@@ -35,10 +35,10 @@ pub fn standing_of(
     handler: u8,
     number: u64,
 ) -> Option<Standing>
-    requires placed { HasPlaces handlers.now releases.now }
+    requires placed { HasIndices handlers.now releases.now }
     ensures { result ≡ standing_named (all_seen handlers.now releases.now) handler number }
 {
-    let Some(index) = place_of(handlers, handler, number) else {
+    let Some(index) = index_of(handlers, handler, number) else {
         return None;
     };
     match release_at(releases, index) {
@@ -56,7 +56,7 @@ pub fn is_next(handlers: &[Handler], handler: u8, number: u64) -> bool
     }
     let index = handler as usize - 1;
     match handler_row(handlers, index) {
-        Some(row) => number != 0 && number - 1 == row.places.len() as u64,
+        Some(row) => number != 0 && number - 1 == row.indices.len() as u64,
         None => false,
     }
 }

@@ -3,12 +3,12 @@
 ghost use Rattle.std.specs.Prelude.{◌≡◌, ◌<◌, OnOk, map};
 ghost use Rattle.std.specs.BinaryHeap.{IsHeap, heap_items};
 ghost use Rattle.std.specs.Ordering.{nat_cmp};
-ghost use Rattle.trace_audit.specs.Index.{HasMoreKeys, IsIndexed, all_seen, handler_seen, places_end, rank_of};
+ghost use Rattle.trace_audit.specs.Index.{HasMoreKeys, IsIndexed, all_seen, handler_seen, indices_end, rank_of};
 ghost use Rattle.trace_audit.specs.Replay.{raise_to, restanding, start_with};
 
 use crate::handlers::Handler;
 use crate::keys::{key_of, rank_of};
-use crate::lookups::{place_of, release_at};
+use crate::lookups::{index_of, release_at};
 use crate::releases::{Release, Standing};
 use std::alloc::AllocError;
 use std::collections::BinaryHeap;
@@ -20,7 +20,7 @@ pub fn add_key(
     index: usize,
     keys: &mut BinaryHeap<u64>,
 ) -> Result<(), AllocError>
-    requires place { index < places_end }
+    requires place { index < indices_end }
     requires heap { IsHeap nat_cmp (heap_items keys.old) }
     ensures heap { OnOk result (IsHeap nat_cmp (heap_items keys.new)) }
     ensures keys { OnOk result (HasMoreKeys (heap_items keys.old) (heap_items keys.new) (rank_of (map handler_seen handlers.now) release) index) }
@@ -44,7 +44,7 @@ pub fn restand(
     ensures seen { OnOk result (all_seen handlers.now releases.new.items ≡ restanding (λ s. standing) handler number (all_seen handlers.now releases.old.items)) }
     ensures kept { OnOk result (IsIndexed handlers.now releases.new.items (heap_items keys.new)) }
 {
-    let Some(index) = place_of(handlers, handler, number) else {
+    let Some(index) = index_of(handlers, handler, number) else {
         return Ok(());
     };
     let Some(release) = release_at(releases.as_slice(), index) else {

@@ -3,10 +3,10 @@
 ghost use Rattle.std.specs.Prelude.{◌≡◌, OnOk, is_none, length, true};
 ghost use Rattle.scj_rules.specs.Words.{holds};
 ghost use Rattle.trace_audit.specs.Index.{IsKept, is_next as next, seen};
-ghost use Rattle.trace_audit.specs.Replay.{arrived, gone, is_waiting as waiting, no_releases, picked, picked_place, raised, registered, release_named, started};
+ghost use Rattle.trace_audit.specs.Replay.{arrived, gone, is_waiting as waiting, no_releases, picked, picked_index, raised, registered, release_named, started};
 
 use crate::choices::Choice;
-use crate::handlers::{Handler, add_place};
+use crate::handlers::{Handler, add_index};
 use crate::keys::{pick, priority_of};
 use crate::lookups::{choice_of, is_next, standing_of};
 use crate::releases::{Release, Standing};
@@ -85,7 +85,7 @@ impl ReleaseTable {
     /// Whether no release waits or is started.
     pub fn is_done(&mut self) -> bool
         requires kept { IsKept self.old }
-        ensures value { result ≡ is_none (picked_place (seen self.old)) }
+        ensures value { result ≡ is_none (picked_index (seen self.old)) }
         ensures seen { seen self.new ≡ seen self.old }
         ensures kept { IsKept self.new }
     {
@@ -121,8 +121,8 @@ impl ReleaseTable {
         ensures seen { OnOk result (seen self.new ≡ registered priority (seen self.old)) }
         ensures kept { OnOk result (IsKept self.new) }
     {
-        let places = Vec::new(self.alloc);
-        self.handlers.push(Handler { priority, places })?;
+        let indices = Vec::new(self.alloc);
+        self.handlers.push(Handler { priority, indices })?;
         Ok(())
     }
 
@@ -143,7 +143,7 @@ impl ReleaseTable {
             standing: Standing::Waits,
         };
         add_key(self.handlers.as_slice(), release, index, &mut self.keys)?;
-        add_place(&mut self.handlers, handler as usize - 1, index as u32)?;
+        add_index(&mut self.handlers, handler as usize - 1, index as u32)?;
         self.releases.push(release)?;
         Ok(())
     }

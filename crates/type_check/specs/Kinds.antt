@@ -26,15 +26,15 @@ unfoldable pub is_declaration : Node → Bool
 is_declaration (Class position name flags header members) = true
 is_declaration (Field position name flags declared_type equals value) = true
 is_declaration (Method position name flags result_type parameters body) = true
-is_declaration (LocalWithValue position name_place name flags declared_type value) = true
+is_declaration (LocalWithValue position name_position name flags declared_type value) = true
 is_declaration (SuperCall position arguments) = true
 is_declaration _ = false
 
 -- expressions that are seldom written
 unfoldable pub is_seldom : Node → Bool
-is_seldom (Cast position name_place name operand) = true
+is_seldom (Cast position name_position name operand) = true
 is_seldom (Parenthesized position inner) = true
-is_seldom (New position name_place name arguments) = true
+is_seldom (New position name_position name arguments) = true
 is_seldom (NewArray position element length) = true
 is_seldom (This position) = true
 is_seldom _ = false

@@ -174,14 +174,14 @@ fn judge_declaration(
         }
         Node::LocalWithValue {
             position,
-            name_place,
+            name_position,
             name,
             declared_type,
             value,
             ..
         } => {
             let is_twice = at.facts.variable_named(at.id, name.get()).is_some();
-            report_if(found, is_twice, Rule::T2, *name_place)?;
+            report_if(found, is_twice, Rule::T2, *name_position)?;
             let misfits = misfits_initial_value(at, *declared_type, *value);
             report_if(found, misfits, Rule::T7, *position)?;
             Ok(None)

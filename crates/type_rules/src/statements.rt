@@ -15,7 +15,7 @@ use crate::arguments::{constructor_parameters, misfit};
 use crate::forms::has_form;
 use crate::names::{assigns, receiver, written_type};
 use method_rows::result_type;
-use node_views::place_at;
+use node_views::position_at;
 use program_facts::{At, Facts};
 use scj_base::{ClassId, Found, Memory, Name, NodeId, Rule};
 use scj_rules::{Ty, report_if};
@@ -77,7 +77,7 @@ pub fn note_condition(found: &mut Vec<Found>, at: &At<'_>, condition: NodeId) ->
     if !misfits {
         return Ok(());
     }
-    let position = place_at(at.facts.program(), condition);
+    let position = position_at(at.facts.program(), condition);
     report_if(found, misfits, Rule::T8, position)
 }
 

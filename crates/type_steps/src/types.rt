@@ -149,9 +149,9 @@ pub fn type_name_sign(
     position: Pos,
     name: &SharedName,
     sign: u8,
-    sign_place: Pos,
+    sign_position: Pos,
 ) -> Result<Option<Mode>, Memory>
-    ensures step { let awaited = type_name_step position name.now nodes.old.all stack.old (a_sign sign sign_place) in
+    ensures step { let awaited = type_name_step position name.now nodes.old.all stack.old (a_sign sign sign_position) in
         gives result nodes.new.all stack.new awaited ≡ awaited }
     ensures kept { nodes.new.kept ≡ nodes.old.kept }
 {
@@ -174,7 +174,7 @@ pub fn type_name_sign(
         }));
     }
     if sign == LEFT_PARENTHESIS {
-        return constructor_step(nodes, stack, position, name, sign_place);
+        return constructor_step(nodes, stack, position, name, sign_position);
     }
     Ok(None)
 }
@@ -192,8 +192,8 @@ pub fn type_name_step(
         gives result nodes.new.all stack.new awaited ≡ awaited }
     ensures kept { nodes.new.kept ≡ nodes.old.kept }
 {
-    if let View::Sign(sign, sign_place) = view {
-        return type_name_sign(nodes, stack, position, name, *sign, *sign_place);
+    if let View::Sign(sign, sign_position) = view {
+        return type_name_sign(nodes, stack, position, name, *sign, *sign_position);
     }
     let id = nodes.put(Node::ClassType {
         position,
@@ -217,11 +217,11 @@ pub fn type_argument_name_step(
         gives result nodes.new.all stack.new awaited ≡ awaited }
     ensures kept { nodes.new.kept ≡ nodes.old.kept }
 {
-    let View::Name(argument, argument_place) = view else {
+    let View::Name(argument, argument_position) = view else {
         return Ok(None);
     };
     let argument = nodes.put(Node::TypeArgument {
-        position: *argument_place,
+        position: *argument_position,
         name: argument.share()?,
     })?;
     Ok(Some(Mode::TypeArgumentEnd {

@@ -11,7 +11,7 @@ use Rattle.scj_model.specs.State.{Frame, Activity, Job, State, with_activity}
 use Rattle.scj_model.specs.Steps.{Step}
 use Rattle.scj_model.specs.Effects.{Effect}
 use Rattle.scj_model.specs.Apply.{applied}
-use Rattle.scj_model.specs.Run.{effect_at, frame_op, no_activity, place_of_op}
+use Rattle.scj_model.specs.Run.{effect_at, frame_op, no_activity, position_of_op}
 use Rattle.job_frames.specs.declared.frames.Frame.{Frame as StoredFrame}
 use Rattle.job_frames.specs.declared.activities.Activity.{Activity as StoredActivity}
 use Rattle.job_frames.specs.Frames.{frame_of, frames_of, activity_seen}
@@ -71,7 +71,7 @@ module _ (code : Listing) (rows : List ReadingRow) (s : State) (job : Job) (take
       elim ops as (λ z. Option Step) [
         | [] ↦ None
         | op ∷ rest ↦
-            applied (code_of code.program) s job (activity_seen code taken) below (place_of_op (code_of code.program) op) (effect_at (code_of code.program) rows s f op rest)
+            applied (code_of code.program) s job (activity_seen code taken) below (position_of_op (code_of code.program) op) (effect_at (code_of code.program) rows s f op rest)
       ]
 
   abbrev on_frames : List Frame → Option Step
@@ -100,14 +100,14 @@ module _ (code : Listing) (rows : List ReadingRow) (s : State) (acting : Acting)
 
   first_done : taken.frames ≡ f ∷ under → (frame_of code f).rest ≡ op ∷ rest →
       effect_at (code_of code.program) rows s (frame_of code f) op rest ≡ effect (frame_of code g) →
-      acting.position ≡ place_of_op (code_of code.program) op →
+      acting.position ≡ position_of_op (code_of code.program) op →
       frame_op (code_of code.program) rows s job a
       ≡ applied (code_of code.program) s job (record a { frames = frame_of code f ∷ below }) below acting.position (effect (frame_of code g))
   unfolding frame_op
   first_done frames next does position =
       ap (λ (fs : List StoredFrame). on_frames code rows s job taken (frames_of code fs)) frames
       ∙ (ap (on_rest code rows s job taken (frame_of code f) below) next
-      ∙ (ap (λ e. applied (code_of code.program) s job a below (place_of_op (code_of code.program) op) e) does
+      ∙ (ap (λ e. applied (code_of code.program) s job a below (position_of_op (code_of code.program) op) e) does
       ∙ (ap (λ p. applied (code_of code.program) s job a below p (effect (frame_of code g))) (sym position)
       ∙ ap (λ (fs : List StoredFrame).
       applied (code_of code.program) s job (record a { frames = frames_of code fs }) below acting.position (effect (frame_of code g)))
@@ -140,7 +140,7 @@ module _ (code : Listing) (rows : List ReadingRow) (s : State) (acting : Acting)
   pub operation_joined : taken.frames ≡ f ∷ under → left ≡ record taken { frames = g ∷ under } →
       (frame_of code f).rest ≡ op ∷ rest → f.opened ≡ g.opened →
       effect_at (code_of code.program) rows s (frame_of code f) op rest ≡ effect (frame_of code g) →
-      acting.position ≡ place_of_op (code_of code.program) op →
+      acting.position ≡ position_of_op (code_of code.program) op →
       state_of code was ≡ with_activity s job no_activity →
       IsApplied code was acting left effect answer st before after →
       IsLedTry code (frame_op (code_of code.program) rows s job a) answer st before after

@@ -8,7 +8,7 @@ use Rattle.scj_model.specs.Code.{code_of}
 use Rattle.op_list.specs.Listed.{Listing}
 use Rattle.scj_model.specs.State.{Activity, State, with_activity}
 use Rattle.scj_model.specs.Operations.{Environment, effect_of}
-use Rattle.scj_model.specs.Run.{effect_at, frame_op, no_activity, place_of_op}
+use Rattle.scj_model.specs.Run.{effect_at, frame_op, no_activity, position_of_op}
 use Rattle.op_list.specs.Rows.{rest_at}
 use Rattle.job_frames.specs.declared.effects.Effect.{Effect as Coded}
 use Rattle.job_frames.specs.declared.activities.Activity.{Activity as StoredActivity}
@@ -87,7 +87,7 @@ module _ (code : Listing) (rows : List ReadingRow) (s : State) where
       (next : IsNextOnTop code (world was.memory rows was.unit) op effect taken.frames frames) →
       effect_at (code_of code.program) rows s (frame_of code next.top) op next.done.left
       ≡ effect_seen code effect (frame_of code next.changed) →
-      acting.position ≡ place_of_op (code_of code.program) op →
+      acting.position ≡ position_of_op (code_of code.program) op →
       state_of code was ≡ with_activity s (job_seen acting.job) no_activity →
       IsApplied code was acting (record taken { frames = frames }) (effect_seen code effect) answer st before after →
       IsLedTry code (frame_op (code_of code.program) rows s (job_seen acting.job) activity) answer st before after

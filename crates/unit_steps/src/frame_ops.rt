@@ -15,7 +15,7 @@ ghost use Rattle.unit_steps.specs.Next.{IsNext, IsNextOnTop, top_rest};
 ghost use Rattle.unit_steps.specs.Standing.{JobStands};
 
 use crate::applied::apply_effect;
-use crate::places::place_of;
+use crate::positions::position_of;
 use crate::refusals::Acted;
 use call_operations::{World, operate};
 use job_frames::{Effect, Frame, FrameStack};
@@ -116,7 +116,7 @@ pub(crate) fn frame_op(
     };
     let acting = Acting {
         job,
-        position: place_of(code, done.op),
+        position: position_of(code, done.op),
     };
     let acted = apply_effect(alloc, code, state, acting, activity, done.effect, told)?;
     Ok(acted)

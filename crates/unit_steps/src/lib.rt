@@ -5,7 +5,7 @@ mod applied;
 mod arrivals;
 mod dues;
 mod frame_ops;
-mod places;
+mod positions;
 pub mod refusals;
 mod turns;
 pub mod units;

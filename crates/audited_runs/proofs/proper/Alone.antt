@@ -7,7 +7,7 @@ use Rattle.std.proofs.lemmas.List.Elements.{All-append}
 use Rattle.scj_base.specs.declared.places.Pos.{Pos}
 use Rattle.scj_base.specs.declared.values.Value.{Value}
 use Rattle.scj_base.specs.Lexeme.{is_name, is_text_byte}
-use Rattle.scj_rules.specs.Bodies.{class_place, safelet_class}
+use Rattle.scj_rules.specs.Bodies.{class_position, safelet_class}
 use Rattle.scj_rules.specs.Words.{◌>>=◌}
 use Rattle.scj_tree.specs.declared.nodes.Node.{Node}
 use Rattle.scj_model.specs.declared.events.Event.TheVariants as event
@@ -25,9 +25,9 @@ use Rattle.scj_model.specs.Arrivals.{arrivals}
 use Rattle.scj_model.specs.Choice.{by_priority}
 use Rattle.scj_model.specs.Reached.{Between, Arrived, Operated, Moment, Reached, at_first, on_arrival, on_operation, on_phase}
 use Rattle.scj_model.specs.Registry.{handler_row, new_row}
-use Rattle.scj_model.specs.Run.{acts, continued, effect_at, empty_state, environment, has_ended, one_more_unit, one_unit, place_of_op, run, RunSoFar, trace}
+use Rattle.scj_model.specs.Run.{acts, continued, effect_at, empty_state, environment, has_ended, one_more_unit, one_unit, position_of_op, run, RunSoFar, trace}
 use Rattle.scj_model.specs.Safety.{job_may_act}
-use Rattle.scj_model.specs.Sequencer.{phase_after, place_of_object}
+use Rattle.scj_model.specs.Sequencer.{phase_after, position_of_object}
 use Rattle.scj_model.proofs.Reaching.{reached_keeps, reached_run}
 use Rattle.priority_laws.specs.Handlers.{IsPriority, PrioritiesAreRight, IsHandlerClass, ActiveAreAtMostHighest}
 use Rattle.priority_laws.specs.InOrder.{IsInOrder}
@@ -129,15 +129,15 @@ module _ (code : Code) (plan : Plan) (spares : SparesPriorities code)
       (places : (job : Job) (a : Activity) (f : Frame) (below : List Frame) (op : Op) (rest : List Op) →
       activity_of s job ≡ Some a → a.frames ≡ f ∷ below → f.rest ≡ op ∷ rest →
       ((h : Frame) (value : Option Value) → effect_at code plan.readings s f op rest ≡ Leaves h value → ⊥) →
-      F (place_of_op code op)) where
+      F (position_of_op code op)) where
     backs : (job : Job) (a : Activity) (f : Frame) (below : List Frame) (op : Op) (rest : List Op) →
         job_may_act s job ≡ true → activity_of s job ≡ Some a → a.frames ≡ f ∷ below → f.rest ≡ op ∷ rest →
-        Backs F code s.objects job a (place_of_op code op) (effect_at code plan.readings s f op rest)
+        Backs F code s.objects job a (position_of_op code op) (effect_at code plan.readings s f op rest)
     backs job a f below op rest may is frames ops =
         go (effect_at code plan.readings s f op rest) refl (formed_at code (environment plan.readings s) f rest op)
       where
         here : (e : Effect) → effect_at code plan.readings s f op rest ≡ e →
-            ((h : Frame) (value : Option Value) → e ≡ Leaves h value → ⊥) → F (place_of_op code op)
+            ((h : Frame) (value : Option Value) → e ≡ Leaves h value → ⊥) → F (position_of_op code op)
         here e same other =
             places job a f below op rest is frames ops (λ h value k. other h value (sym same ∙ k))
 
@@ -163,7 +163,7 @@ module _ (code : Code) (plan : Plan) (spares : SparesPriorities code)
 
         go : (e : Effect) → effect_at code plan.readings s f op rest ≡ e →
             Formed (scene_of code (environment plan.readings s) f rest op) e →
-            Backs F code s.objects job a (place_of_op code op) e
+            Backs F code s.objects job a (position_of_op code op) e
         go (Goes h) same formed = tt
         go (Prints h text value) same formed = tt
         go (Makes h class slots) same formed = here (Makes h class slots) same (λ g v k. cc (k))
@@ -191,14 +191,14 @@ pub record Placed (F : Pos → Type 0) (code : Code) (plan : Plan) : Type 0 wher
       (below : List Frame) (op : Op) (rest : List Op) →
       activity_of s job ≡ Some a → a.frames ≡ f ∷ below → f.rest ≡ op ∷ rest →
       ((h : Frame) (value : Option Value) → effect_at code plan.readings s f op rest ≡ Leaves h value → ⊥) →
-      F (place_of_op code op)
+      F (position_of_op code op)
   pub starts : (s : State) → Reached code plan by_priority Arrived s → (handler : ℕ) (row : HandlerRow) →
-      handler_row s.registry handler ≡ Some row → F (class_place code.program row.class)
-  pub safelet : (class : ℕ) → safelet_class code.program ≡ Some class → F (class_place code.program class)
+      handler_row s.registry handler ≡ Some row → F (class_position code.program row.class)
+  pub safelet : (class : ℕ) → safelet_class code.program ≡ Some class → F (class_position code.program class)
   pub mission : (s : State) → Reached code plan by_priority Arrived s → (r : ℕ) (o : Object) →
-      s.operation ≡ OpenMission r → object_at s r ≡ Some o → F (class_place code.program o.class)
+      s.operation ≡ OpenMission r → object_at s r ≡ Some o → F (class_position code.program o.class)
   pub asks : (s : State) → Reached code plan by_priority Operated s → (r : ℕ) → s.operation ≡ GetSequencer r →
-      F (place_of_object code s r)
+      F (position_of_object code s r)
   pub opens : (s : State) → Reached code plan by_priority Operated s → (r : ℕ) → s.operation ≡ OpenMission r →
       is_name (class_name_at code s r) ≡ true
 

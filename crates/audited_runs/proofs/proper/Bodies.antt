@@ -87,12 +87,12 @@ module _ (code : Code)
     of_node id here (Parenthesized position inner) = h inner
     of_node id here (Unary position operator operand) = behind_part code ops h id here operand (UNARY id) refl
     of_node id here (Binary position operator left right) = of_binary code ops h id here operator left right
-    of_node id here (New position name_place name arguments) = of_new code ops h id here arguments (binding code id)
+    of_node id here (New position name_position name arguments) = of_new code ops h id here arguments (binding code id)
     of_node id here (NewArray position element length) = behind_part code ops h id here length (ALLOCARRAY id) refl
     of_node id here (Call position name object arguments) = of_call code ops h id here object arguments (binding code id)
-    of_node id here (Cast position name_place name operand) = behind_part code ops h id here operand (CAST id) refl
+    of_node id here (Cast position name_position name operand) = behind_part code ops h id here operand (CAST id) refl
     of_node id here (LocalNode position name flags declared_type) = one code ops h id here (ZERO id) refl
-    of_node id here (LocalWithValue position name_place name flags declared_type value) =
+    of_node id here (LocalWithValue position name_position name flags declared_type value) =
         behind_part code ops h id here value (STORE id) refl
     of_node id here (Assign position target value) = go (slice_get code.program.nodes target)
       where

@@ -6,7 +6,7 @@ use Rattle.std.specs.List.{cons_option}
 use Rattle.accepted_laws.proofs.Tools.{some_inj}
 use Rattle.accepted_laws.proofs.Rows.{IsFrameworkRow, IsUserRow, counted_is_written, row_of}
 use Rattle.scj_tree.specs.Forest.{Forest}
-use Rattle.scj_tree.specs.Shape.{place_of}
+use Rattle.scj_tree.specs.Shape.{position_of}
 use Rattle.scj_tree.specs.declared.nodes.Node.{Node}
 use Rattle.scj_tree.specs.declared.nodes.Node.TheVariants as node
 use Rattle.scj_rules.specs.declared.views.Declared.{Declared}
@@ -41,10 +41,10 @@ mapped_at {A} {B} f (x ∷ xs) j y e = go (f x) refl j e (λ i g. mapped_at f xs
 pub record IsAt (nodes : List Node) (c : WrittenClass) : Type 0 where
   pub node : Node
   pub there : slice_get nodes c.node ≡ Some node
-  pub placed : place_of node ≡ c.position
+  pub placed : position_of node ≡ c.position
 
 class_stands : (nodes : List Node) (id : ℕ) (c : WrittenClass) → class_at nodes id ≡ Some c → IsAt nodes c
-unfolding class_of place_of
+unfolding class_of position_of
 class_stands nodes id c e = go (slice_get nodes id) refl e
   where
     go : (o : Option Node) → slice_get nodes id ≡ o → (o >>= class_of nodes id) ≡ Some c → IsAt nodes c

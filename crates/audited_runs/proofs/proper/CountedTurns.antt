@@ -3,7 +3,7 @@ use Rattle.std.proofs.Common.{ℕ, ◌≤◌, List, [], ◌∷◌, length, None}
 use Rattle.std.specs.Prelude.{codes, slice_get}
 use Rattle.scj_base.specs.declared.places.Pos.{Pos}
 use Rattle.scj_rules.specs.declared.views.Body.{Body}
-use Rattle.scj_rules.specs.Bodies.{body_named, class_place, constructor_body, safelet_class, size_of}
+use Rattle.scj_rules.specs.Bodies.{body_named, class_position, constructor_body, safelet_class, size_of}
 use Rattle.scj_rules.specs.ScopeRules.{defined_by_chain, immortal_scope}
 use Rattle.scj_model.specs.declared.operations.Op.{Op}
 use Rattle.scj_model.specs.declared.operations.SeqOp.{SeqOp}
@@ -15,7 +15,7 @@ use Rattle.scj_model.specs.Registry.{handler_row}
 use Rattle.scj_model.specs.Memory.{new_slots}
 use Rattle.scj_model.specs.Apply.{applied}
 use Rattle.scj_model.specs.Sequencer.{area_opened, body_called, innermost, method_called, safelet_made, sequencer_op}
-use Rattle.scj_model.specs.Run.{effect_at, frame_op, no_activity, place_of_op, ref_op, release_op_of, sequencer_turn, start_op, started_with}
+use Rattle.scj_model.specs.Run.{effect_at, frame_op, no_activity, position_of_op, ref_op, release_op_of, sequencer_turn, start_op, started_with}
 use Rattle.audited_runs.proofs.proper.Steps.{GoodIf, bind_good, nothing_good, some_good}
 use Rattle.audited_runs.proofs.proper.Counts.{S, many_with, short_applied, short_made, short_opening, silent}
 
@@ -29,11 +29,11 @@ module _ (n : ℕ) where
             GoodIf (S n)
             (elim ops [
               | [] ↦ None
-              | op ∷ rest ↦ applied code s job a below (place_of_op code op) (effect_at code rows s f op rest)
+              | op ∷ rest ↦ applied code s job a below (position_of_op code op) (effect_at code rows s f op rest)
             ])
         act f below [] = nothing_good (S n)
         act f below (op ∷ rest) =
-            short_applied n code s h job a below (place_of_op code op) (effect_at code rows s f op rest)
+            short_applied n code s h job a below (position_of_op code op) (effect_at code rows s f op rest)
 
         go : (fs : List Frame) →
             GoodIf (S n)
@@ -42,7 +42,7 @@ module _ (n : ℕ) where
               | f
                   ∷ below ↦ elim f.rest [
                     | [] ↦ None
-                    | op ∷ rest ↦ applied code s job a below (place_of_op code op)
+                    | op ∷ rest ↦ applied code s job a below (position_of_op code op)
                         (effect_at code rows s f op rest)
                   ]
             ])
@@ -56,7 +56,7 @@ module _ (n : ℕ) where
         bind_good (S n) (defined_by_chain code.program row.class) _ (λ scope f.
         bind_good (S n) (body_named code.program row.class (codes "handleAsyncEvent")) _ (λ body g.
         some_good (S n) _
-        (short_opening n s (ReleaseAt p) no_activity (class_place code.program row.class) scope
+        (short_opening n s (ReleaseAt p) no_activity (class_position code.program row.class) scope
         (innermost s.activity.areas) row.bytes _ h (λ t k m. silent n _ (many_with n t (ReleaseAt p) _ m))))))
 
     pub short_release : (p : ℕ) → GoodIf (S n) (ref_op code rows s (ReleaseAt p))

@@ -26,9 +26,9 @@ use Rattle.priority_laws.specs.Premises.{SparesPriorities}
 use Rattle.scope_sound.specs.Sound.{SoundAfter}
 use Rattle.scope_sound.proofs.CallsByTypes.{calls_by_types}
 use Rattle.scope_sound.proofs.Safe.{has_facts}
-use Rattle.source_nodes.specs.Nodes.{IsPlace, NodesFit}
+use Rattle.source_nodes.specs.Nodes.{IsPosition, NodesFit}
 use Rattle.trace_audit.specs.Parts.{is_file_name}
-use Rattle.audited_runs.proofs.proper.Places.{ask_place, first_place, op_place, open_place, start_place}
+use Rattle.audited_runs.proofs.proper.Places.{ask_position, first_place, op_position, open_position, start_position}
 use Rattle.source_nodes.proofs.ClassNames.{classes_are_named, labels_fit}
 use Rattle.audited_runs.proofs.Accepted.{sound_at, traces_are_audited}
 use Rattle.audited_runs.proofs.Forms.{forms_of}
@@ -85,26 +85,26 @@ module _ (forest : Forest) (accepted : IsAcceptedProgram forest) (files longest 
         ap (λ (o : Option Object). is_name (elim o as (λ _. List ℕ) [ None ↦ [] | Some x ↦ class_name code x.class ])) m.found
         ∙ names m.object.class (concrete_within code.program m.object.class m.concrete)
 
-    placed : Placed (IsPlace files longest) code plan
+    placed : Placed (IsPosition files longest) code plan
     placed =
         record {
-          operations = op_place forest accepted files longest fit plan;
-          starts = start_place forest accepted files longest fit plan;
+          operations = op_position forest accepted files longest fit plan;
+          starts = start_position forest accepted files longest fit plan;
           safelet = first_place forest accepted files longest fit plan;
-          mission = open_place forest accepted files longest fit plan;
-          asks = ask_place forest accepted files longest fit plan;
+          mission = open_position forest accepted files longest fit plan;
+          asks = ask_position forest accepted files longest fit plan;
           opens = opens;
         }
 
-    all_proper : (n : ℕ) → All (IsProper forest.nodes (IsPlace files longest)) (trace code plan n)
+    all_proper : (n : ℕ) → All (IsProper forest.nodes (IsPosition files longest)) (trace code plan n)
     all_proper n =
-        trace_proper forest.nodes (IsPlace files longest) code plan spares names
+        trace_proper forest.nodes (IsPosition files longest) code plan spares names
         (labels_fit forest.nodes files longest fit)
         placed n
 
     few_there : (s : State) → Reached code plan by_priority Between s → length s.registry ≤ 64
     few_there s reached =
-        few_rows forest.nodes (IsPlace files longest) code plan spares names (labels_fit forest.nodes files longest fit)
+        few_rows forest.nodes (IsPosition files longest) code plan spares names (labels_fit forest.nodes files longest fit)
         placed reached
 
     -- the events have the forms of lines

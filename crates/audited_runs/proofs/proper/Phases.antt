@@ -19,7 +19,7 @@ use Rattle.scj_model.specs.State.{TheSequencer, State, Waits, is_exec}
 use Rattle.scj_model.specs.Steps.{Step, silently, telling, for_each}
 use Rattle.scj_model.specs.Apply.{class_name_at, most_waiting, release_taken, releases_of, waiting_of}
 use Rattle.scj_model.specs.Arrivals.{arrivals, due_handlers, executes_since, fired, fired_at, fired_handler, fires_due}
-use Rattle.scj_model.specs.Sequencer.{Continues, TakesSafelet, TakesSequencer, TakesMission, LacksSequencer, LacksMission, BeginsMission, BeginsExecution, SkipsExecution, EndsExecution, ClosesMission, SeqEffect, Transition, after_initialize, after_operation, goes_to, gone_to, has_started, phase_after, place_of_object, seq_applied, transition, transition_done}
+use Rattle.scj_model.specs.Sequencer.{Continues, TakesSafelet, TakesSequencer, TakesMission, LacksSequencer, LacksMission, BeginsMission, BeginsExecution, SkipsExecution, EndsExecution, ClosesMission, SeqEffect, Transition, after_initialize, after_operation, goes_to, gone_to, has_started, phase_after, position_of_object, seq_applied, transition, transition_done}
 use Rattle.audited_runs.proofs.Arrivals.{handler_has_row}
 use Rattle.audited_runs.proofs.Arriving.{HasRow}
 use Rattle.audited_runs.proofs.Due.{AllAre, due_have_rows}
@@ -92,7 +92,7 @@ module _ (nodes : List Node) (F : Pos → Type 0) where
 
   module _ (code : Code) where
     abbrev Tells : State → SeqEffect → Type 0
-    Tells s (LacksSequencer q) = F (place_of_object code s q)
+    Tells s (LacksSequencer q) = F (position_of_object code s q)
     Tells s (BeginsMission q) = is_name (class_name_at code s q) ≡ true
     Tells s e = Unit {0}
 
@@ -104,7 +104,7 @@ module _ (nodes : List Node) (F : Pos → Type 0) where
     effect_good s (TakesSequencer q) few h = record { events = none_proper nodes F; few = few }
     effect_good s (TakesMission q) few h = record { events = none_proper nodes F; few = few }
     effect_good s (LacksSequencer q) few h =
-        good_fault nodes F s TheSequencer s.activity (place_of_object code s q) _ few h
+        good_fault nodes F s TheSequencer s.activity (position_of_object code s q) _ few h
     effect_good s LacksMission few h = record { events = one_proper nodes F (event.Done s.unit) tt; few = few }
     effect_good s (BeginsMission q) few h =
         record { events = one_proper nodes F (event.Mission s.unit (class_name_at code s q)) h; few = few }
@@ -115,7 +115,7 @@ module _ (nodes : List Node) (F : Pos → Type 0) where
     effect_good s ClosesMission few h = record { events = none_proper nodes F; few = omega arith }
 
     module _ (s : State) (few : length s.registry ≤ 64)
-        (asks : (r : ℕ) → s.operation ≡ GetSequencer r → F (place_of_object code s r))
+        (asks : (r : ℕ) → s.operation ≡ GetSequencer r → F (position_of_object code s r))
         (opens : (r : ℕ) → s.operation ≡ OpenMission r → is_name (class_name_at code s r) ≡ true) where
       goes_good : (t : Transition) → Tells (gone_to s t) t.effect → GoodIf (Good nodes F) (Some (transition_done code s t))
       goes_good t h = some_good (Good nodes F) _ (effect_good (gone_to s t) t.effect few h)

@@ -7,8 +7,8 @@ use Rattle.scj_base.specs.declared.values.Value.{Value}
 use Rattle.scj_builtins.specs.Framework.{aperiodic_handler, mission, periodic_handler, safelet}
 use Rattle.scj_tree.specs.Forest.{Forest}
 use Rattle.scj_tree.specs.declared.nodes.Node.{Node}
-use Rattle.scj_tree.specs.Shape.{place_of}
-use Rattle.scj_rules.specs.Bodies.{class_place, safelet_class}
+use Rattle.scj_tree.specs.Shape.{position_of}
+use Rattle.scj_rules.specs.Bodies.{class_position, safelet_class}
 use Rattle.scj_rules.specs.Classes.{ClassRow, is_sub, superclasses}
 use Rattle.scj_rules.specs.Contexts.{Declarations, declarations_of}
 use Rattle.scj_rules.specs.ScopeRules.{is_handler}
@@ -24,15 +24,15 @@ use Rattle.scj_model.specs.declared.operations.Op.TheVariants.{Leave as LEAVE}
 use Rattle.scj_model.specs.declared.operations.SeqOp.{SeqOp}
 use Rattle.scj_model.specs.declared.operations.SeqOp.TheVariants.{GetSequencer, OpenMission}
 use Rattle.scj_model.specs.Choice.{by_priority}
-use Rattle.scj_model.specs.Code.{Code, code_of, place_of_node}
+use Rattle.scj_model.specs.Code.{Code, code_of, position_of_node}
 use Rattle.scj_model.specs.Effects.{Leaves}
 use Rattle.scj_model.specs.Operations.{effect_of}
 use Rattle.scj_model.specs.Ops.{node_of}
 use Rattle.scj_model.specs.Plan.{Plan}
 use Rattle.scj_model.specs.Reached.{Arrived, Operated, Reached}
 use Rattle.scj_model.specs.Registry.{handler_row}
-use Rattle.scj_model.specs.Run.{effect_at, place_of_op}
-use Rattle.scj_model.specs.Sequencer.{place_of_object}
+use Rattle.scj_model.specs.Run.{effect_at, position_of_op}
+use Rattle.scj_model.specs.Sequencer.{position_of_object}
 use Rattle.scj_model.specs.State.{Object, Frame, Activity, Job, State, activity_of, object_at}
 use Rattle.scope_flow.specs.Signatures.{IsConcrete}
 use Rattle.scope_flow.specs.Needs.{pushed}
@@ -47,7 +47,7 @@ use Rattle.mission_sound.specs.Invariant.{Invariant, IsImmortalOf, OperandThere,
 use Rattle.mission_sound.specs.SequencerFacts.{SafeletThere}
 use Rattle.scope_sound.specs.Sound.{Sound, SoundAfter}
 use Rattle.scope_sound.proofs.Safe.{has_facts}
-use Rattle.source_nodes.specs.Nodes.{IsPlace, NodesFit}
+use Rattle.source_nodes.specs.Nodes.{IsPosition, NodesFit}
 use Rattle.audited_runs.proofs.Accepted.{sound_at}
 use Rattle.audited_runs.proofs.proper.Classes.{IsAt, class_nodes_stand, literals_stand, written_at}
 use Rattle.audited_runs.proofs.proper.Bodies.{come_standing}
@@ -67,15 +67,15 @@ module _ (forest : Forest) (accepted : IsAcceptedProgram forest) (files longest 
   code = code_of forest
 
   abbrev F : Pos → Type 0
-  F = IsPlace files longest
+  F = IsPosition files longest
 
   sorted : IsWellSorted forest.nodes
   sorted = well_sorted forest accepted.is_read
 
   -- ---- classes
 
-  user_place : (class : ℕ) → IsWritten p class → F (class_place p class)
-  unfolding class_place
+  user_place : (class : ℕ) → IsWritten p class → F (class_position p class)
+  unfolding class_position
   user_place class w =
       let at : IsAt forest.nodes w.declared = written_at forest accepted.is_accepted class w.row w.declared w.stands w.is in
       subst F
@@ -84,8 +84,8 @@ module _ (forest : Forest) (accepted : IsAcceptedProgram forest) (files longest 
       ∙ ap (λ (o : Option WrittenClass). elim o as (λ _. Pos) [ None ↦ nowhere | Some c ↦ c.position ]) w.is))
       (fit.places w.declared.node at.node at.there)
 
-  handler_place : (class : ℕ) → IsConcrete p class → is_handler p class ≡ true → F (class_place p class)
-  handler_place class concrete h =
+  handler_position : (class : ℕ) → IsConcrete p class → is_handler p class ≡ true → F (class_position p class)
+  handler_position class concrete h =
       user_place class
       (elim (or_cases (is_among periodic_handler (superclasses p.classes class))
       (is_among aperiodic_handler (superclasses p.classes class)) h) as (λ _. IsWritten p class) [
@@ -95,15 +95,15 @@ module _ (forest : Forest) (accepted : IsAcceptedProgram forest) (files longest 
             (λ e. omega (arith, e)) concrete s
       ])
 
-  mission_place : (class : ℕ) → IsConcrete p class → is_sub p.classes class mission ≡ true → F (class_place p class)
-  mission_place class concrete sub =
+  mission_position : (class : ℕ) → IsConcrete p class → is_sub p.classes class mission ≡ true → F (class_position p class)
+  mission_position class concrete sub =
       user_place class
       (concrete_under forest accepted.is_accepted accepted.whole sorted accepted.is_read class mission
       (λ e. omega (arith, e)) concrete
       (under_mission forest accepted.is_accepted accepted.whole sorted class sub))
 
-  safelet_place : (class : ℕ) → IsConcrete p class → is_sub p.classes class safelet ≡ true → F (class_place p class)
-  safelet_place class concrete sub =
+  safelet_position : (class : ℕ) → IsConcrete p class → is_sub p.classes class safelet ≡ true → F (class_position p class)
+  safelet_position class concrete sub =
       user_place class
       (elim (concrete_is forest accepted.is_accepted accepted.whole sorted class concrete) as (λ _. IsWritten p class) [
         | inl w ↦ w
@@ -113,18 +113,18 @@ module _ (forest : Forest) (accepted : IsAcceptedProgram forest) (files longest 
 
   -- ---- nodes
 
-  node_place : (id : ℕ) (node : Node) → slice_get forest.nodes id ≡ Some node → F (place_of_node code id)
+  node_position : (id : ℕ) (node : Node) → slice_get forest.nodes id ≡ Some node → F (position_of_node code id)
   unfolding code_of declarations_of
-  node_place id node e =
-      subst F (sym (ap (λ (o : Option Node). elim o as (λ _. Pos) [ None ↦ nowhere | Some n ↦ place_of n ]) e))
+  node_position id node e =
+      subst F (sym (ap (λ (o : Option Node). elim o as (λ _. Pos) [ None ↦ nowhere | Some n ↦ position_of n ]) e))
       (fit.places id node e)
 
-  standing_place : (id : ℕ) → is_some (slice_get forest.nodes id) ≡ true → F (place_of_node code id)
+  standing_place : (id : ℕ) → is_some (slice_get forest.nodes id) ≡ true → F (position_of_node code id)
   standing_place id h = go (slice_get forest.nodes id) refl h
     where
-      go : (o : Option Node) → slice_get forest.nodes id ≡ o → is_some o ≡ true → F (place_of_node code id)
+      go : (o : Option Node) → slice_get forest.nodes id ≡ o → is_some o ≡ true → F (position_of_node code id)
       go None e k = absurd (cc (k))
-      go (Some node) e k = node_place id node e
+      go (Some node) e k = node_position id node e
 
   module _ (plan : Plan) where
     -- ---- operations
@@ -155,55 +155,55 @@ module _ (forest : Forest) (accepted : IsAcceptedProgram forest) (files longest 
           course =
               subst (λ xs. Course code f.body waits.class waits.sig xs waits.ready.known (pushed waits.kind waits.ready.kinds)) ops waits.ready.flow
 
-      pub op_place : (job : Job) (a : Activity) (f : Frame) (below : List Frame) (op : Op) (rest : List Op) →
+      pub op_position : (job : Job) (a : Activity) (f : Frame) (below : List Frame) (op : Op) (rest : List Op) →
           activity_of s job ≡ Some a → a.frames ≡ f ∷ below → f.rest ≡ op ∷ rest →
           ((h : Frame) (value : Option Value) → effect_at code plan.readings s f op rest ≡ Leaves h value → ⊥) →
-          F (place_of_op code op)
+          F (position_of_op code op)
       unfolding effect_of
-      op_place job a f below op rest is frames ops other = go (node_of op) refl
+      op_position job a f below op rest is frames ops other = go (node_of op) refl
         where
           leaves : op ≡ LEAVE → effect_at code plan.readings s f op rest ≡ Leaves (record f { rest = rest }) None
           leaves e = ap (λ (o : Op). effect_at code plan.readings s f o rest) e
 
           go : (o : Option ℕ) → node_of op ≡ o →
-              F (elim o as (λ _. Pos) [ None ↦ nowhere | Some node ↦ place_of_node code node ])
+              F (elim o as (λ _. Pos) [ None ↦ nowhere | Some node ↦ position_of_node code node ])
           go None e = absurd (other (record f { rest = rest }) None (leaves (leave_alone op e)))
           go (Some id) e = standing_place id (stand job a f below op rest is frames ops id e)
 
       -- ---- the framework's own operations
 
-      pub start_place : (handler : ℕ) (row : HandlerRow) → handler_row s.registry handler ≡ Some row →
-          F (class_place code.program row.class)
+      pub start_position : (handler : ℕ) (row : HandlerRow) → handler_row s.registry handler ≡ Some row →
+          F (class_position code.program row.class)
       unfolding code_of
-      start_place zero row e = absurd (cc (e))
-      start_place (suc k) row e =
+      start_position zero row e = absurd (cc (e))
+      start_position (suc k) row e =
           let r : RowFine code.program (world_of s) i.base row = i.handlers.rows k row e in
-          subst (λ n. F (class_place p n)) (sym r.is_class) (handler_place r.object.class r.concrete r.is_a_handler)
+          subst (λ n. F (class_position p n)) (sym r.is_class) (handler_position r.object.class r.concrete r.is_a_handler)
 
-      pub open_place : (r : ℕ) (o : Object) → s.operation ≡ OpenMission r → object_at s r ≡ Some o →
-          F (class_place code.program o.class)
+      pub open_position : (r : ℕ) (o : Object) → s.operation ≡ OpenMission r → object_at s r ≡ Some o →
+          F (class_position code.program o.class)
       unfolding code_of
-      open_place r o e there =
+      open_position r o e there =
           let m : IsImmortalOf code.program (world_of s) mission r =
           i.sequencer.mission r (subst (λ (op : SeqOp). OperandThere s op) e i.sequencer.there).0 in
-          subst (λ (x : Object). F (class_place p x.class)) (some_inj m.object o (sym m.found ∙ there))
-          (mission_place m.object.class m.concrete m.is_under)
+          subst (λ (x : Object). F (class_position p x.class)) (some_inj m.object o (sym m.found ∙ there))
+          (mission_position m.object.class m.concrete m.is_under)
 
-    pub first_place : (class : ℕ) → safelet_class code.program ≡ Some class → F (class_place code.program class)
+    pub first_place : (class : ℕ) → safelet_class code.program ≡ Some class → F (class_position code.program class)
     unfolding code_of
     first_place class e =
         let t : SafeletThere code.program = (has_facts forest accepted).sequencer.safelet_there in
-        subst (λ n. F (class_place p n)) (some_inj t.class class (sym t.is ∙ e))
-        (safelet_place t.class t.concrete t.is_under)
+        subst (λ n. F (class_position p n)) (some_inj t.class class (sym t.is ∙ e))
+        (safelet_position t.class t.concrete t.is_under)
 
-    pub ask_place : (s : State) → Reached code plan by_priority Operated s → (r : ℕ) → s.operation ≡ GetSequencer r →
-        F (place_of_object code s r)
+    pub ask_position : (s : State) → Reached code plan by_priority Operated s → (r : ℕ) → s.operation ≡ GetSequencer r →
+        F (position_of_object code s r)
     unfolding code_of
-    ask_place s reached r e =
+    ask_position s reached r e =
         let after : SoundAfter code s = sound_at forest accepted plan Operated s reached in
         let q = after.after.invariant.sequencer in
         let m : IsImmortalOf code.program (world_of s) safelet r =
         q.safelet r (subst (λ (op : SeqOp). OperandThere s op) e q.there) in
         subst F
-        (sym (ap (λ (o : Option Object). elim o as (λ _. Pos) [ None ↦ nowhere | Some x ↦ class_place p x.class ]) m.found))
-        (safelet_place m.object.class m.concrete m.is_under)
+        (sym (ap (λ (o : Option Object). elim o as (λ _. Pos) [ None ↦ nowhere | Some x ↦ class_position p x.class ]) m.found))
+        (safelet_position m.object.class m.concrete m.is_under)

@@ -5,7 +5,7 @@ use Rattle.std.specs.List.{list_all}
 use Rattle.scj_base.specs.declared.places.Pos.{Pos}
 use Rattle.scj_base.specs.Lexeme.{is_text_byte}
 use Rattle.scj_rules.specs.declared.views.Body.{Body}
-use Rattle.scj_rules.specs.Bodies.{body_named, class_place, constructor_body, safelet_class, size_of}
+use Rattle.scj_rules.specs.Bodies.{body_named, class_position, constructor_body, safelet_class, size_of}
 use Rattle.scj_rules.specs.ScopeRules.{defined_by_chain, immortal_scope}
 use Rattle.scj_rules.specs.Words.{◌>>=◌, holds}
 use Rattle.scj_tree.specs.declared.nodes.Node.{Node}
@@ -24,7 +24,7 @@ use Rattle.scj_model.specs.Steps.{silently, then_try}
 use Rattle.scj_model.specs.Apply.{applied}
 use Rattle.scj_model.specs.Sequencer.{area_opened, body_called, innermost, method_called, safelet_made, sequencer_op}
 use Rattle.scj_model.specs.Choice.{by_priority, candidate, chosen, may_act}
-use Rattle.scj_model.specs.Run.{acts, effect_at, frame_op, is_same_turn, no_activity, place_of_op, ref_op, release_op_of, sequencer_turn, start_op, started_with, tell_turn, turn_acts, turn_taken, with_turn}
+use Rattle.scj_model.specs.Run.{acts, effect_at, frame_op, is_same_turn, no_activity, position_of_op, ref_op, release_op_of, sequencer_turn, start_op, started_with, tell_turn, turn_acts, turn_taken, with_turn}
 use Rattle.scj_model.specs.Safety.{job_may_act}
 use Rattle.priority_laws.specs.Handlers.{CeilingsArePriorities}
 use Rattle.priority_laws.proofs.ReleaseTurns.{started_is, started_may_act}
@@ -38,12 +38,12 @@ pub record Backed (F : Pos → Type 0) (code : Code) (rows : List ReadingRow) (s
   pub ceilings : CeilingsArePriorities s.objects
   pub effects : (job : Job) (a : Activity) (f : Frame) (below : List Frame) (op : Op) (rest : List Op) →
       job_may_act s job ≡ true → activity_of s job ≡ Some a → a.frames ≡ f ∷ below → f.rest ≡ op ∷ rest →
-      Backs F code s.objects job a (place_of_op code op) (effect_at code rows s f op rest)
+      Backs F code s.objects job a (position_of_op code op) (effect_at code rows s f op rest)
   pub starts : (handler : ℕ) (row : HandlerRow) → handler_row s.registry handler ≡ Some row →
-      F (class_place code.program row.class)
-  pub safelet : (class : ℕ) → safelet_class code.program ≡ Some class → F (class_place code.program class)
+      F (class_position code.program row.class)
+  pub safelet : (class : ℕ) → safelet_class code.program ≡ Some class → F (class_position code.program class)
   pub mission : (r : ℕ) (o : Object) → s.operation ≡ OpenMission r → object_at s r ≡ Some o →
-      F (class_place code.program o.class)
+      F (class_position code.program o.class)
 
 module _ (nodes : List Node) (F : Pos → Type 0) (code : Code) (rows : List ReadingRow)
     (labels : (id : ℕ) → list_all is_text_byte (label nodes id) ≡ true) where
@@ -57,11 +57,11 @@ module _ (nodes : List Node) (F : Pos → Type 0) (code : Code) (rows : List Rea
             GoodIf (Good nodes F)
             (elim ops [
               | [] ↦ None
-              | op ∷ rest ↦ applied code s job a below (place_of_op code op) (effect_at code rows s f op rest)
+              | op ∷ rest ↦ applied code s job a below (position_of_op code op) (effect_at code rows s f op rest)
             ])
         act f below frames [] k = nothing_good (Good nodes F)
         act f below frames (op ∷ rest) k =
-            good_applied nodes F code s few labels b.ceilings job a below (place_of_op code op)
+            good_applied nodes F code s few labels b.ceilings job a below (position_of_op code op)
             (effect_at code rows s f op rest) (b.effects job a f below op rest may is frames k)
 
         go : (fs : List Frame) → a.frames ≡ fs →
@@ -71,7 +71,7 @@ module _ (nodes : List Node) (F : Pos → Type 0) (code : Code) (rows : List Rea
               | f
                   ∷ below ↦ elim f.rest [
                     | [] ↦ None
-                    | op ∷ rest ↦ applied code s job a below (place_of_op code op)
+                    | op ∷ rest ↦ applied code s job a below (position_of_op code op)
                         (effect_at code rows s f op rest)
                   ]
             ])
@@ -87,7 +87,7 @@ module _ (nodes : List Node) (F : Pos → Type 0) (code : Code) (rows : List Rea
         bind_good (Good nodes F) (defined_by_chain code.program row.class) _ (λ scope f.
         bind_good (Good nodes F) (body_named code.program row.class (codes "handleAsyncEvent")) _ (λ body g.
         some_good (Good nodes F) _
-        (good_opening nodes F s (ReleaseAt p) no_activity (class_place code.program row.class) scope
+        (good_opening nodes F s (ReleaseAt p) no_activity (class_position code.program row.class) scope
         (innermost s.activity.areas) row.bytes _ few (b.starts r.handler row e)
         (λ t n few_t. good_silent nodes F _ (few_with t (ReleaseAt p) _ few_t))))))
 
@@ -143,11 +143,11 @@ module _ (nodes : List Node) (F : Pos → Type 0) (code : Code) (rows : List Rea
         bind_good (Good nodes F) (safelet_class code.program) _ (λ class e.
         bind_good (Good nodes F) (size_of code.program class) _ (λ bytes f.
         some_good (Good nodes F) _
-        (area_good (class_place code.program class) immortal_scope bytes (b.safelet class e))))
+        (area_good (class_position code.program class) immortal_scope bytes (b.safelet class e))))
     op_good AllocSafelet same =
         bind_good (Good nodes F) (safelet_class code.program) _ (λ class e.
         bind_good (Good nodes F) (innermost s.activity.areas) _ (λ area f.
-        some_good (Good nodes F) _ (safelet_good (class_place code.program class) class area (b.safelet class e))))
+        some_good (Good nodes F) _ (safelet_good (class_position code.program class) class area (b.safelet class e))))
     op_good (ConstructSafelet r) same =
         bind_good (Good nodes F) (object_at s r) _ (λ o e.
         bind_good (Good nodes F) (constructor_body code.program o.class) _ (λ body f. body_good r body))
@@ -159,7 +159,7 @@ module _ (nodes : List Node) (F : Pos → Type 0) (code : Code) (rows : List Rea
         bind_good (Good nodes F) (defined_by_chain code.program o.class) _ (λ scope f.
         bind_good (Good nodes F) (size_of code.program o.class) _ (λ bytes g.
         some_good (Good nodes F) _
-        (area_good (class_place code.program o.class) scope bytes (b.mission r o same e)))))
+        (area_good (class_position code.program o.class) scope bytes (b.mission r o same e)))))
     op_good (Initialize r) same = method_good r _
     op_good (CleanUp r) same = method_good r _
     op_good Execute same = nothing_good (Good nodes F)
@@ -191,7 +191,7 @@ module _ (nodes : List Node) (F : Pos → Type 0) (code : Code) (rows : List Rea
       effects : (job : Job) (a : Activity) (f : Frame) (below : List Frame) (op : Op) (rest : List Op) →
           job_may_act (with_turn s turn) job ≡ true → activity_of (with_turn s turn) job ≡ Some a →
           a.frames ≡ f ∷ below → f.rest ≡ op ∷ rest →
-          Backs F code s.objects job a (place_of_op code op) (effect_at code rows (with_turn s turn) f op rest)
+          Backs F code s.objects job a (position_of_op code op) (effect_at code rows (with_turn s turn) f op rest)
       effects TheSequencer a f below op rest may is frames k =
           b.effects TheSequencer a f below op rest may is frames k
       effects (ReleaseAt p) a f below op rest may is frames k =

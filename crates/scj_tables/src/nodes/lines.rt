@@ -1,6 +1,6 @@
 //! The line of a node: its kind, its place and its fields in order.
 
-use Field::{Child, Flag, List, Named, Number, Optional, OptionalPlace, Place};
+use Field::{Child, Flag, List, Named, Number, Optional, OptionalPosition, Position};
 use case_tables::Stop;
 use scj_base::{NodeId, Pos};
 use scj_tree::{Node, NodeList};
@@ -13,8 +13,8 @@ enum Field<'a> {
     Optional(Option<NodeId>),
     List(&'a NodeList),
     Named(&'a [u8]),
-    Place(Pos),
-    OptionalPlace(Option<Pos>),
+    Position(Pos),
+    OptionalPosition(Option<Pos>),
     Flag(bool),
     Number(u32),
 }
@@ -138,7 +138,7 @@ pub fn print_node<W: Write>(node: &Node, out: &mut W) -> Result<(), Stop> {
                 Named(name.bytes()),
                 Optional(*flags),
                 Child(*declared_type),
-                OptionalPlace(*equals),
+                OptionalPosition(*equals),
                 Optional(*value),
             ],
         ),
@@ -213,7 +213,7 @@ pub fn print_node<W: Write>(node: &Node, out: &mut W) -> Result<(), Stop> {
         ),
         Node::LocalWithValue {
             position,
-            name_place,
+            name_position,
             name,
             flags,
             declared_type,
@@ -223,7 +223,7 @@ pub fn print_node<W: Write>(node: &Node, out: &mut W) -> Result<(), Stop> {
             "LocalWithValue",
             *position,
             &[
-                Place(*name_place),
+                Position(*name_position),
                 Named(name.bytes()),
                 Optional(*flags),
                 Child(*declared_type),
@@ -293,14 +293,14 @@ pub fn print_node<W: Write>(node: &Node, out: &mut W) -> Result<(), Stop> {
         ),
         Node::Cast {
             position,
-            name_place,
+            name_position,
             name,
             operand,
         } => print_line(
             out,
             "Cast",
             *position,
-            &[Place(*name_place), Named(name.bytes()), Child(*operand)],
+            &[Position(*name_position), Named(name.bytes()), Child(*operand)],
         ),
         Node::Parenthesized { position, inner } => print_line(
             out,
@@ -342,14 +342,14 @@ pub fn print_node<W: Write>(node: &Node, out: &mut W) -> Result<(), Stop> {
         } => print_line(out, "Element", *position, &[Child(*array), Child(*index)]),
         Node::New {
             position,
-            name_place,
+            name_position,
             name,
             arguments,
         } => print_line(
             out,
             "New",
             *position,
-            &[Place(*name_place), Named(name.bytes()), List(arguments)],
+            &[Position(*name_position), Named(name.bytes()), List(arguments)],
         ),
         Node::NewArray {
             position,
@@ -371,7 +371,7 @@ pub fn print_node<W: Write>(node: &Node, out: &mut W) -> Result<(), Stop> {
 
 fn print_line<W: Write>(out: &mut W, kind: &str, position: Pos, fields: &[Field]) -> Result<(), Stop> {
     write!(out, "{kind} ")?;
-    print_place(position, out)?;
+    print_position(position, out)?;
     for field in fields {
         write!(out, " ")?;
         print_field(field, out)?;
@@ -387,13 +387,13 @@ fn print_field<W: Write>(field: &Field, out: &mut W) -> Result<(), Stop> {
         Optional(None) => write!(out, "None")?,
         List(list) => print_list(list.items(), out)?,
         Named(bytes) => print_bytes(bytes, out)?,
-        Place(place) => print_place(*place, out)?,
-        OptionalPlace(Some(place)) => {
+        Position(place) => print_position(*place, out)?,
+        OptionalPosition(Some(place)) => {
             write!(out, "(Some ")?;
-            print_place(*place, out)?;
+            print_position(*place, out)?;
             write!(out, ")")?;
         }
-        OptionalPlace(None) => write!(out, "None")?,
+        OptionalPosition(None) => write!(out, "None")?,
         Flag(flag) => write!(out, "{flag}")?,
         Number(number) => write!(out, "{number}")?,
     }
@@ -421,7 +421,7 @@ fn print_bytes<W: Write>(bytes: &[u8], out: &mut W) -> Result<(), Stop> {
     Ok(())
 }
 
-fn print_place<W: Write>(position: Pos, out: &mut W) -> Result<(), Stop> {
+fn print_position<W: Write>(position: Pos, out: &mut W) -> Result<(), Stop> {
     write!(out, "(at {} {} {})", position.file, position.line, position.col)?;
     Ok(())
 }

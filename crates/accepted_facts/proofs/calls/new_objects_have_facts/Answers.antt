@@ -5,4 +5,4 @@ use Rattle.accepted_facts.proofs.calls.new_objects_have_facts.Goals as goal
 
 pub returns : goal.returns
 unfolding declarations_of
-returns c = λ forest a member class id position name_place name arguments k there inside part j. new_facts forest a.is_accepted a.whole (well_sorted forest a.is_read) member class id position name_place name arguments k there inside part j
+returns c = λ forest a member class id position name_position name arguments k there inside part j. new_facts forest a.is_accepted a.whole (well_sorted forest a.is_read) member class id position name_position name arguments k there inside part j

@@ -5,4 +5,4 @@ use Rattle.accepted_facts.proofs.expressions.casts_have_facts.Goals as goal
 
 pub returns : goal.returns
 unfolding declarations_of
-returns c = λ forest a member class id operand position name_place name k there inside j. cast_facts forest a.is_accepted a.whole (well_sorted forest a.is_read) member class id operand position name_place name k there inside j
+returns c = λ forest a member class id operand position name_position name k there inside j. cast_facts forest a.is_accepted a.whole (well_sorted forest a.is_read) member class id operand position name_position name k there inside j

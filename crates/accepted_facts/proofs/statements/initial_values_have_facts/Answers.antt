@@ -5,4 +5,4 @@ use Rattle.accepted_facts.proofs.statements.initial_values_have_facts.Goals as g
 
 pub returns : goal.returns
 unfolding declarations_of
-returns c = λ forest a member class id value declared_type position name_place name flags there inside. initial_value_facts forest a.is_accepted a.whole (well_sorted forest a.is_read) member class id value declared_type position name_place name flags there inside
+returns c = λ forest a member class id value declared_type position name_position name flags there inside. initial_value_facts forest a.is_accepted a.whole (well_sorted forest a.is_read) member class id value declared_type position name_position name flags there inside

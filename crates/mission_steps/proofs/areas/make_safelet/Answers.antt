@@ -1,7 +1,7 @@
 use Rattle.std.proofs.Common.{Some, None, subst, sym}
 use Rattle.scj_base.specs.declared.places.Pos.{Pos}
 use Rattle.scj_base.specs.declared.faults.RunFault.TheVariants.{MemoryFull}
-use Rattle.scj_rules.specs.Bodies.{class_place}
+use Rattle.scj_rules.specs.Bodies.{class_position}
 use Rattle.scj_model.specs.Code.{code_of}
 use Rattle.scj_model.specs.State.{TheSequencer}
 use Rattle.scj_model.specs.Steps.{fault_in}
@@ -13,33 +13,33 @@ use Rattle.mission_steps.proofs.areas.make_safelet.Goals as goal
 pub returns-in-Some : goal.returns-in-Some
 returns-in-Some c =
     made_there c.args.code.now c.args.state.now
-    (class_place (code_of c.args.code.now.program).program c.args.class) c.args.class c.args.area
+    (class_position (code_of c.args.code.now.program).program c.args.class) c.args.class c.args.area
     c.in_ok-object.object.slots.items c.make_object.new.state
     c.in-Some.r c.args.told.now.items (sym c.in_ok-object.ensures.slots)
-    (is_made c.args.code.now c.args.state.now (class_place (code_of c.args.code.now.program).program c.args.class)
+    (is_made c.args.code.now c.args.state.now (class_position (code_of c.args.code.now.program).program c.args.class)
     c.args.class c.args.area c.in_ok-object.object.slots.items
     c.in_ok-object.object.class c.make_object.result (Some c.in-Some.r)
     (state_of c.args.code.now c.make_object.new.state) c.in_ok-object.ensures.class c.in-Some.is
     (c.make_object.ensures.made c.args.code.now TheSequencer
     (state_of c.args.code.now c.args.state.now).activity
-    (class_place (code_of c.args.code.now.program).program c.args.class)))
+    (class_position (code_of c.args.code.now.program).program c.args.class)))
 
 pub returns : goal.returns
 returns c =
     not_made c.args.code.now c.args.state.now
-    (class_place (code_of c.args.code.now.program).program c.args.class) c.args.class c.args.area
+    (class_position (code_of c.args.code.now.program).program c.args.class) c.args.class c.args.area
     c.in_ok-object.object.slots.items c.make_object.new.state
     c.halted.new.state c.args.told.now.items c.halted.new.told.items (sym c.in_ok-object.ensures.slots)
-    (is_made c.args.code.now c.args.state.now (class_place (code_of c.args.code.now.program).program c.args.class)
+    (is_made c.args.code.now c.args.state.now (class_position (code_of c.args.code.now.program).program c.args.class)
     c.args.class c.args.area c.in_ok-object.object.slots.items
     c.in_ok-object.object.class c.make_object.result None
     (state_of c.args.code.now c.make_object.new.state) c.in_ok-object.ensures.class c.in-None.is
     (c.make_object.ensures.made c.args.code.now TheSequencer
     (state_of c.args.code.now c.args.state.now).activity
-    (class_place (code_of c.args.code.now.program).program c.args.class)))
+    (class_position (code_of c.args.code.now.program).program c.args.class)))
     (subst (λ (position : Pos). IsStep c.args.code.now
     (fault_in (state_of c.args.code.now c.make_object.new.state) TheSequencer
     (state_of c.args.code.now c.args.state.now).activity position MemoryFull) c.halted.new.state
-    c.args.told.now.items c.halted.new.told.items) c.class_place.ensures
+    c.args.told.now.items c.halted.new.told.items) c.class_position.ensures
     (c.in_ok-halted-in-None.ensures c.args.code.now
     (state_of c.args.code.now c.args.state.now).activity))

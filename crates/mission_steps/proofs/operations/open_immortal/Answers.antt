@@ -32,5 +32,5 @@ returns c =
     c.in-Some-size_of.bytes (sym c.in-Some.ensures) (sym c.in-Some-size_of.ensures))
     (subst (λ (position : Pos). IsStep c.args.code.now
     (area_opened (state_of c.args.code.now c.args.state.now) position immortal_scope c.in-Some-size_of.bytes)
-    c.open_inside.new.state c.args.told.now.items c.open_inside.new.told.items) c.class_place.ensures
+    c.open_inside.new.state c.args.told.now.items c.open_inside.new.told.items) c.class_position.ensures
     (c.in_ok-open_inside.ensures c.args.code.now))

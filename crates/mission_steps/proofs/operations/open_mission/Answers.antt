@@ -41,4 +41,4 @@ returns c =
     (subst (λ (position : Pos). IsStep c.args.code.now
     (area_opened (state_of c.args.code.now c.args.state.now) position c.in-Some-private_scope.scope
     c.in-Some-size_of.bytes) c.open_inside.new.state c.args.told.now.items c.open_inside.new.told.items)
-    c.class_place.ensures (c.in_ok-open_inside.ensures c.args.code.now))
+    c.class_position.ensures (c.in_ok-open_inside.ensures c.args.code.now))

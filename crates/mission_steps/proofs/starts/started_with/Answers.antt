@@ -1,7 +1,7 @@
 use Rattle.std.proofs.Common.{Some, None, subst, sym}
 use Rattle.scj_base.specs.declared.places.Pos.{Pos}
 use Rattle.scj_base.specs.declared.faults.RunFault.TheVariants.{StoreFull}
-use Rattle.scj_rules.specs.Bodies.{class_place}
+use Rattle.scj_rules.specs.Bodies.{class_position}
 use Rattle.scj_model.specs.Code.{code_of}
 use Rattle.scj_model.specs.State.{ReleaseAt}
 use Rattle.scj_model.specs.Steps.{fault_in}
@@ -26,7 +26,7 @@ returns-in_ok-put_back-in-Some c =
     c.innermost-parent.result c.open_area.result (Some c.in-Some.area)
     (state_of c.args.code.now c.open_area.new.state) c.innermost-parent.ensures c.in-Some.is
     (c.open_area.ensures.opened c.args.code.now (ReleaseAt c.args.start.now.index) no_activity
-    (class_place (code_of c.args.code.now.program).program c.args.start.now.row.class)))
+    (class_position (code_of c.args.code.now.program).program c.args.start.now.row.class)))
     c.in_ok-areas.ensures c.in_ok-activity-in-Some.ensures.seen
     (c.in_ok-put_back-in-Some.ensures.put c.args.code.now)
 
@@ -41,13 +41,13 @@ returns-in_ok-fault_in-in-None c =
     c.innermost-parent.result c.open_area.result None
     (state_of c.args.code.now c.open_area.new.state) c.innermost-parent.ensures c.in-None.is
     (c.open_area.ensures.opened c.args.code.now (ReleaseAt c.args.start.now.index) no_activity
-    (class_place (code_of c.args.code.now.program).program c.args.start.now.row.class)))
+    (class_position (code_of c.args.code.now.program).program c.args.start.now.row.class)))
     (subst (λ (position : Pos). IsStep c.args.code.now
     (fault_in (state_of c.args.code.now c.open_area.new.state) (ReleaseAt c.args.start.now.index) no_activity
-    position StoreFull) c.fault_in.new.state c.args.told.now.items c.fault_in.new.told.items) c.class_place.ensures
+    position StoreFull) c.fault_in.new.state c.args.told.now.items c.fault_in.new.told.items) c.class_position.ensures
     (subst (λ (activity : StoredActivity). IsStep c.args.code.now
     (fault_in (state_of c.args.code.now c.open_area.new.state) (ReleaseAt c.args.start.now.index)
-    (activity_seen c.args.code.now activity) c.class_place.result StoreFull) c.fault_in.new.state
+    (activity_seen c.args.code.now activity) c.class_position.result StoreFull) c.fault_in.new.state
     c.args.told.now.items c.fault_in.new.told.items) c.empty.ensures
     (c.in_ok-fault_in-in-None.ensures c.args.code.now)))
 

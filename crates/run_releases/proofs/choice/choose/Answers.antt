@@ -8,7 +8,7 @@ pub loop-left-init : goal.loop-left-init
 loop-left-init c =
     record {
       within = omega arith;
-      best = none_behind c.args.registry.now c.args.rows.now c.args.places.now _ (omega arith);
+      best = none_behind c.args.registry.now c.args.rows.now c.args.indices.now _ (omega arith);
     }
 
 pub loop-left-preserved : goal.loop-left-preserved
@@ -18,7 +18,7 @@ loop-left-preserved c =
       best =
           c.preferred-found.ensures
           ∙ rw c.candidate_there.ensures
-          (one_before c.args.registry.now c.args.rows.now c.args.places.now (c.loop-left.left - 1) c.loop-left.left
+          (one_before c.args.registry.now c.args.rows.now c.args.indices.now (c.loop-left.left - 1) c.loop-left.left
           c.loop-left.found (omega arith) (omega arith) c.loop-left.invariant.best);
     }
 
@@ -26,11 +26,11 @@ pub returns-in-Some : goal.returns-in-Some
 returns-in-Some c =
     ap (λ (x : Candidate). Some x.index) c.candidate.view_is
     ∙ (ap (option_map (λ (x : Candidate). x.index)) (sym c.in-Some.is)
-    ∙ all_chosen c.args.registry.now c.args.rows.now c.args.places.now c.loop-left.left c.loop-left.found
+    ∙ all_chosen c.args.registry.now c.args.rows.now c.args.indices.now c.loop-left.left c.loop-left.found
     (omega arith) c.loop-left.invariant.best)
 
 pub returns-in-None : goal.returns-in-None
 returns-in-None c =
     ap (option_map (λ (x : Candidate). x.index)) (sym c.in-None.is)
-    ∙ all_chosen c.args.registry.now c.args.rows.now c.args.places.now c.loop-left.left c.loop-left.found
+    ∙ all_chosen c.args.registry.now c.args.rows.now c.args.indices.now c.loop-left.left c.loop-left.found
     (omega arith) c.loop-left.invariant.best

@@ -6,8 +6,8 @@ use Rattle.run_releases.proofs.choice.choose.Given as goal
 abbrev pub invariant-loop-left : goal.invariant-loop-left
 invariant-loop-left l =
     record {
-      within : l.left ≤ length l.places;
-      best : l.found ≡ most_urgent (candidates_at l.registry l.rows (drop l.left l.places));
+      within : l.left ≤ length l.indices;
+      best : l.found ≡ most_urgent (candidates_at l.registry l.rows (drop l.left l.indices));
     }
 
 abbrev pub decreases-loop-left : goal.decreases-loop-left

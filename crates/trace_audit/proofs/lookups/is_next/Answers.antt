@@ -6,9 +6,9 @@ use Rattle.trace_audit.proofs.lookups.is_next.Goals as goal
 pub returns-then-number-ne0 : goal.returns-then-number-ne0
 returns-then-number-ne0 c =
     let next : c.args.handler ≡ c.args.handler - 1 + 1 = omega arith in
-    let len : c.len.result ≡ length c.in-Some.row.now.places.items = search rules in
+    let len : c.len.result ≡ length c.in-Some.row.now.indices.items = search rules in
     ap (λ (n : ℕ). c.args.number - 1 == n) len
-    ∙ (one_less c.args.number (length c.in-Some.row.now.places.items) c.if-number-ne0.true
+    ∙ (one_less c.args.number (length c.in-Some.row.now.indices.items) c.if-number-ne0.true
     ∙ sym (is_next_some c.args.handlers.now c.args.handler c.args.number (c.args.handler - 1) c.in-Some.row.now next
     (sym c.in-Some.ensures)))
 

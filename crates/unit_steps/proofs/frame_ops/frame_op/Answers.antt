@@ -54,13 +54,13 @@ returns-clause-led c = λ activity e.
     let found = activity_of (state_of code c.args.state.now) (job_seen c.args.job) in
     let next = rw c.in-Some-2.is at c.in_ok-done.ensures.some in
     operation_led code c.args.plan.now.readings (state_of code c.args.state.now)
-    (record { job = c.args.job; position = c.place_of.result }) c.take_out.new.state c.apply_effect.new.state c.in-Some.activity
+    (record { job = c.args.job; position = c.position_of.result }) c.take_out.new.state c.apply_effect.new.state c.in-Some.activity
     activity c.next_on_top.new.frames (went c.in_ok-acted.acted) c.args.told.now.items c.apply_effect.new.told.items c.in-Some-2.done.op
     c.in-Some-2.done.effect (taken_is code found c.in-Some.activity activity (c.in-Some.ensures.taken code) e)
     next
     (has_effect code c.args.plan.now.readings c.args.state.now c.take_out.new.state (job_seen c.args.job)
     c.in-Some.activity c.next_on_top.new.frames c.in-Some-2.done.op c.in-Some-2.done.effect
-    (c.in-Some.ensures.left code) (sym (c.in-Some.ensures.taken code)) c.requires.stands next) c.place_of.ensures (c.in-Some.ensures.left code)
+    (c.in-Some.ensures.left code) (sym (c.in-Some.ensures.taken code)) c.requires.stands next) c.position_of.ensures (c.in-Some.ensures.left code)
     c.in_ok-acted.ensures.applied
 
 pub returns-clause-refused : goal.returns-clause-refused

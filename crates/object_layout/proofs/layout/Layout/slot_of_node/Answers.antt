@@ -8,6 +8,6 @@ returns-in-Some c =
     let row = c.in-Some.row.now in
     c.slot_at.ensures
     ∙ ap (option_map (λ k. row.hidden + k))
-    (c.place_of.ensures.value ∙ ap (position (λ other. c.args.node == other)) c.deref.ensures.value)
+    (c.index_of.ensures.value ∙ ap (position (λ other. c.args.node == other)) c.deref.ensures.value)
     ∙ slot_in_row (declarations_of c.args.self.now) c.args.class c.args.node row
     (c.objects-table.ensures.rows.each c.args.class row (sym c.in-Some.ensures))

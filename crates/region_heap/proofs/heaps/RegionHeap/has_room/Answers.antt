@@ -14,7 +14,7 @@ room_in-requires-clause-marks c =
 
 pub returns-in-Ok : goal.returns-in-Ok
 returns-in-Ok c =
-    let h : HasRoomAt c.self.inside.areas.items c.args.area c.args.count c.in-Ok._place =
+    let h : HasRoomAt c.self.inside.areas.items c.args.area c.args.count c.in-Ok._index =
     rw c.deref.ensures.value at c.in-Ok.ensures.room in
     λ s. rw (← c.self.view_is)
     (room_is _ _ _ _ _ _ _ _ c.self.invariant.0 c.self.invariant.1 s c.args.area c.args.count _ h)

@@ -3,7 +3,7 @@ use Rattle.std.proofs.Common.{◌≡◌, ◌∙◌, ◌++◌, map, ap, subst}
 use Rattle.scj_model.specs.Apply.{tell_dropped}
 use Rattle.run_releases.specs.Rows.{StoredReleases, dropped_row, with_releases}
 use Rattle.run_releases.specs.Releases.{all_dropped}
-use Rattle.run_releases.specs.Counts.{live_places, tell_at}
+use Rattle.run_releases.specs.Counts.{live_indices, tell_at}
 use Rattle.run_releases.specs.OtherReleases.{all_let_go, at_unit}
 use Rattle.run_releases.proofs.Counted.{dropped_counted, dropped_everywhere}
 use Rattle.run_releases.proofs.Seen.{dropped_seen, told_seen}
@@ -38,7 +38,7 @@ pub returns-clause-told : goal.returns-clause-told
 returns-clause-told c = λ code s.
     let was : StoredReleases = record { rows = c.self.inside.rows.items; earlier = c.self.inside.earlier } in
     let P : StoredReleases → Type 0 = λ rs.
-    flat_map (tell_at was.rows c.args.unit) (live_places was.rows) ≡ tell_dropped
+    flat_map (tell_at was.rows c.args.unit) (live_indices was.rows) ≡ tell_dropped
     (at_unit (with_releases code s rs) c.args.unit) in
     c.in_ok-tell_all.ensures
     ∙ ap (λ es. c.args.told.now.items ++ es)

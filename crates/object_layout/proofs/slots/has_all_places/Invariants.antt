@@ -1,9 +1,0 @@
-use Rattle.std.proofs.Common.{◌≡◌, ◌<◌, ℕ, Some, slice_get}
-use Rattle.object_layout.specs.declared.objects.ObjectRow.{ObjectRow}
-use Rattle.object_layout.specs.Slots.{HasPlaces}
-use Rattle.object_layout.proofs.slots.has_all_places.Given as goal
-
--- the table has the places of the rows so far
-abbrev pub invariant-loop-at : goal.invariant-loop-at
-invariant-loop-at l = (class : ℕ) (row : ObjectRow) → class < l.at → slice_get l.rows class ≡ Some row →
-    HasPlaces l.places row.fields.items

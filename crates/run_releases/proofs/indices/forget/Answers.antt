@@ -1,0 +1,7 @@
+use Rattle.std.proofs.Common.{◌==◌, not, rules}
+use Rattle.std.proofs.lemmas.Fn.{filter_same}
+use Rattle.run_releases.proofs.indices.forget.Goals as goal
+
+pub returns : goal.returns
+returns c =
+    filter_same _ (λ other. not (other == c.args.index)) _ (λ x b f' k. search rules) _ _ c.retain.ensures.filtered
