@@ -1,6 +1,6 @@
 -- What field accesses, operators, array elements and casts of an accepted program have.
 use Rattle.std.proofs.Common.{◌≡◌, ℕ, List, [], refl, sym, ap, ◌∙◌, subst, Option, Some, None, Bool, true, false, not, ◌||◌, ◌&&◌, true≢false, inl, inr, option_and_then, slice_get, if◌then◌else◌}
-use Rattle.scj_base.specs.declared.places.Pos.{Pos}
+use Rattle.scj_base.specs.declared.positions.Position.{Position}
 use Rattle.scj_tree.specs.declared.nodes.Node.{Node}
 use Rattle.scj_tree.specs.declared.nodes.Node.TheVariants.{FieldAccess}
 use Rattle.scj_tree.specs.Forest.{Forest, IsForest}
@@ -136,7 +136,7 @@ module _ (forest : Forest) (accepted : IsAccepted forest) (whole : IsForest fore
     has_field : lacks_field p r name ≡ false
     has_object : lacks_object_of_field p id name r ≡ false
 
-  by_receiver : (id object : ℕ) (position : Pos) (name : List ℕ) (r : Receiver) → slice_get forest.nodes id ≡ Some (FieldAccess position name object) → receiver p types object ≡ Some r → ByReceiver id object name r
+  by_receiver : (id object : ℕ) (position : Position) (name : List ℕ) (r : Receiver) → slice_get forest.nodes id ≡ Some (FieldAccess position name object) → receiver p types object ≡ Some r → ByReceiver id object name r
   unfolding type_of scope_of binding_of
   by_receiver id object position name r there e =
       let w = right_access p types id position name object (unbroken forest accepted whole sorted id (FieldAccess position name object) there) in
@@ -202,7 +202,7 @@ module _ (forest : Forest) (accepted : IsAccepted forest) (whole : IsForest fore
   unfolding type_of_receiver
   array_of_length u name e = (and_true (is_array u) (is_length name) e).0
 
-  pub access_facts : (b c id object : ℕ) (position : Pos) (name : List ℕ) (k : Kind) → slice_get forest.nodes id ≡ Some (FieldAccess position name object) → Inside p b c id → Judged p id (Some k) → AccessFacts p b c id object name k
+  pub access_facts : (b c id object : ℕ) (position : Position) (name : List ℕ) (k : Kind) → slice_get forest.nodes id ≡ Some (FieldAccess position name object) → Inside p b c id → Judged p id (Some k) → AccessFacts p b c id object name k
   unfolding children is_argument is_expression object_of takes_parts HasRightChildren declared_before
   access_facts b c id object position name k there inside judged =
       let s = sorted.each id (FieldAccess position name object) there in

@@ -1,7 +1,7 @@
 -- The arguments of a call or a `new` fit the parameters, where T6 and E3 aren't broken.
 use Rattle.std.proofs.Common.{◌≡◌, ℕ, List, [], ◌∷◌, map, refl, sym, ap, ◌∙◌, subst, Option, Some, None, Bool, true, false, ◌&&◌, true≢false, ◌⊎◌, inl, inr, option_and_then, option_map, ◌==◌}
 use Rattle.scj_base.specs.declared.findings.Rule.TheVariants.{E3}
-use Rattle.scj_base.specs.declared.places.Pos.{Pos}
+use Rattle.scj_base.specs.declared.positions.Position.{Position}
 use Rattle.scj_tree.specs.declared.nodes.Node.{Node}
 use Rattle.scj_tree.specs.declared.nodes.Node.TheVariants.{Text, Binary, Unary, Cast, Parenthesized, SimpleName, FieldAccess, Call, Element, New, NewArray, Number, True, False, Null, This as ThisNode}
 use Rattle.scj_tree.specs.Forest.{Forest, IsForest}
@@ -89,7 +89,7 @@ unfolding seen_kinds
 seen_nil home now = refl
 
 -- an argument is a text, or an expression
-text_or_expression : (n : Node) → is_argument n ≡ true → (is_expression n ≡ true) ⊎ ((position : Pos) × (text : List ℕ) × (n ≡ Text position text))
+text_or_expression : (n : Node) → is_argument n ≡ true → (is_expression n ≡ true) ⊎ ((position : Position) × (text : List ℕ) × (n ≡ Text position text))
 unfolding is_argument is_expression
 text_or_expression (Text position text) e = inr (position, text, refl)
 text_or_expression (Binary a b c d) e = inl refl
@@ -136,7 +136,7 @@ module _ (forest : Forest) (accepted : IsAccepted forest) (whole : IsForest fore
   abbrev scopes : Scopes
   scopes = scope_at_node p
 
-  text_type : (id : ℕ) (position : Pos) (text : List ℕ) → type_of p types id (Text position text) ≡ Some Label
+  text_type : (id : ℕ) (position : Position) (text : List ℕ) → type_of p types id (Text position text) ≡ Some Label
   unfolding type_of
   text_type id position text = refl
 

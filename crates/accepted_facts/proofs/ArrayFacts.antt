@@ -1,7 +1,7 @@
 -- What elements, new arrays and casts of an accepted program have.
 use Rattle.std.proofs.Common.{◌≡◌, ℕ, List, [], ◌∷◌, refl, sym, ap, ◌∙◌, Option, Some, true, false, not, ◌||◌, ◌&&◌, true≢false, ◌⊎◌, inl, inr, option_and_then, option_map, slice_get}
 use Rattle.scj_base.specs.declared.findings.Rule.TheVariants.{E9, E10}
-use Rattle.scj_base.specs.declared.places.Pos.{Pos}
+use Rattle.scj_base.specs.declared.positions.Position.{Position}
 use Rattle.scj_tree.specs.declared.nodes.Node.{Node}
 use Rattle.scj_tree.specs.declared.nodes.Node.TheVariants.{Element, NewArray, Cast}
 use Rattle.scj_tree.specs.Forest.{Forest, IsForest}
@@ -66,7 +66,7 @@ module _ (forest : Forest) (accepted : IsAccepted forest) (whole : IsForest fore
   indexed : (array index : ℕ) (a i : Ty) → types array ≡ Some a → types index ≡ Some i → misfits_index types array index ≡ false → (is_array a ≡ true) × (is_int i ≡ true)
   indexed array index a i e f m = and_true (is_array a) (is_int i) (not_false _ (sym (ap (λ (o : Option Ty). holds o (λ a. holds (types index) (λ i. not (is_array a && is_int i)))) e ∙ ap (λ (o : Option Ty). holds o (λ i. not (is_array a && is_int i))) f) ∙ m))
 
-  pub element_facts : (b c id array index : ℕ) (position : Pos) (k : Kind) → slice_get forest.nodes id ≡ Some (Element position array index) → Inside p b c id → Judged p id (Some k) → ElementFacts p b c id array index k
+  pub element_facts : (b c id array index : ℕ) (position : Position) (k : Kind) → slice_get forest.nodes id ≡ Some (Element position array index) → Inside p b c id → Judged p id (Some k) → ElementFacts p b c id array index k
   unfolding children is_argument is_expression object_of takes_parts HasRightChildren declared_before type_of scope_of Judged
   element_facts b c id array index position k there inside judged =
       let node : Node = Element position array index in
@@ -91,7 +91,7 @@ module _ (forest : Forest) (accepted : IsAccepted forest) (whole : IsForest fore
 
   -- ---- new arrays
 
-  use_of_array : (id element size : ℕ) (position : Pos) → use_breaks p types scopes id (NewArray position element size) ≡ [] → holds (written_type p element) (misfits_element p id) ≡ false
+  use_of_array : (id element size : ℕ) (position : Position) → use_breaks p types scopes id (NewArray position element size) ≡ [] → holds (written_type p element) (misfits_element p id) ≡ false
   unfolding use_breaks e1 e2 e3 e4_and_e5 e6 e7 e8 e9 e10
   use_of_array id element size position e = right _ E10 position e
 
@@ -113,7 +113,7 @@ module _ (forest : Forest) (accepted : IsAccepted forest) (whole : IsForest fore
   array_of_kind (ClassTy c) array e = ap is_array (sym (some_inj (ClassArray c) array e))
   array_of_kind _ array e = absurd (cc (e))
 
-  pub new_array_facts : (b c id element size : ℕ) (position : Pos) (k : Kind) → slice_get forest.nodes id ≡ Some (NewArray position element size) → Inside p b c id → Judged p id (Some k) → NewArrayFacts p b c id element size k
+  pub new_array_facts : (b c id element size : ℕ) (position : Position) (k : Kind) → slice_get forest.nodes id ≡ Some (NewArray position element size) → Inside p b c id → Judged p id (Some k) → NewArrayFacts p b c id element size k
   unfolding children is_argument is_expression object_of takes_parts HasRightChildren declared_before type_of scope_of Judged
   new_array_facts b c id element size position k there inside judged =
       let node : Node = NewArray position element size in
@@ -145,7 +145,7 @@ module _ (forest : Forest) (accepted : IsAccepted forest) (whole : IsForest fore
 
   -- ---- casts
 
-  use_of_cast : (id operand : ℕ) (position name_position : Pos) (name : List ℕ) → use_breaks p types scopes id (Cast position name_position name operand) ≡ [] → misfits_scope p (scopes operand) name ≡ false
+  use_of_cast : (id operand : ℕ) (position name_position : Position) (name : List ℕ) → use_breaks p types scopes id (Cast position name_position name operand) ≡ [] → misfits_scope p (scopes operand) name ≡ false
   unfolding use_breaks e1 e2 e3 e4_and_e5 e6 e7 e8 e9 e10
   use_of_cast id operand position name_position name e = right _ E9 position (both_empty (broken (misfits_scope p (scopes operand) name) E9 position) [] e).0
 
@@ -165,7 +165,7 @@ module _ (forest : Forest) (accepted : IsAccepted forest) (whole : IsForest fore
   second_of : (u v : Ty) → not (are_related p.classes u v) ≡ false → (assigns p.classes u v || assigns p.classes v u) ≡ true
   second_of u v e = (and_true (is_reference u) (assigns p.classes u v || assigns p.classes v u) (not_false _ e)).1
 
-  pub cast_facts : (b c id operand : ℕ) (position name_position : Pos) (name : List ℕ) (k : Kind) → slice_get forest.nodes id ≡ Some (Cast position name_position name operand) → Inside p b c id → Judged p id (Some k) → CastFacts p b c id name operand k
+  pub cast_facts : (b c id operand : ℕ) (position name_position : Position) (name : List ℕ) (k : Kind) → slice_get forest.nodes id ≡ Some (Cast position name_position name operand) → Inside p b c id → Judged p id (Some k) → CastFacts p b c id name operand k
   unfolding children is_argument is_expression object_of takes_parts HasRightChildren declared_before type_of scope_of binding_of Judged
   cast_facts b c id operand position name_position name k there inside judged =
       let node : Node = Cast position name_position name operand in

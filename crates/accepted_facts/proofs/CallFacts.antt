@@ -1,7 +1,7 @@
 -- What a call of a user's method on an object has.
 use Rattle.std.proofs.Common.{◌≡◌, ℕ, ◌+◌, List, [], ◌++◌, length, map, filter, flat_map, position, refl, sym, ap, ◌∙◌, subst, Option, Some, None, Bool, true, false, not, ◌&&◌, true≢false, inl, inr, option_and_then, option_map, unwrap_or, is_some, slice_get, if◌then◌else◌, ◌==◌}
 use Rattle.scj_base.specs.declared.findings.Rule.TheVariants.{E2}
-use Rattle.scj_base.specs.declared.places.Pos.{Pos}
+use Rattle.scj_base.specs.declared.positions.Position.{Position}
 use Rattle.scj_builtins.specs.Framework.{managed_memory, framework_methods}
 use Rattle.scj_tree.specs.declared.nodes.Node.{Node}
 use Rattle.scj_tree.specs.declared.nodes.Node.TheVariants.{Call}
@@ -114,7 +114,7 @@ module _ (forest : Forest) (accepted : IsAccepted forest) (whole : IsForest fore
     runs : holds (called_user_method p types id object name) (misfits_call p scopes id object) ≡ false
     passes : found_at (called_user_method p types id object name) (e3_of_call p scopes (receiver_scope p scopes id object) (current_at p id) arguments) ≡ []
 
-  use_of_call : (id : ℕ) (position : Pos) (name : List ℕ) (object : Option ℕ) (arguments : List ℕ) → use_breaks p types scopes id (Call position name object arguments) ≡ [] → UseOfCall id name object arguments
+  use_of_call : (id : ℕ) (position : Position) (name : List ℕ) (object : Option ℕ) (arguments : List ℕ) → use_breaks p types scopes id (Call position name object arguments) ≡ [] → UseOfCall id name object arguments
   unfolding use_breaks e1 e2 e3
   use_of_call id position name object arguments e =
       let node : Node = Call position name object arguments in
@@ -128,7 +128,7 @@ module _ (forest : Forest) (accepted : IsAccepted forest) (whole : IsForest fore
   -- ---- the parts of a call whose receiver, method and arguments are known
 
   record Called (b c id : ℕ) (name : List ℕ) (object : Option ℕ) (arguments : List ℕ) (f : FoundMethod) : Type 0 where
-    position : Pos
+    position : Position
     stands : slice_get forest.nodes id ≡ Some (Call position name object arguments)
     inside : Inside p b c id
     r : Receiver
@@ -149,7 +149,7 @@ module _ (forest : Forest) (accepted : IsAccepted forest) (whole : IsForest fore
   user_called : (id : ℕ) (name : List ℕ) (object : Option ℕ) (r : Receiver) (f : FoundMethod) → call_receiver p types id object ≡ Some r → called_method p r name ≡ Some f → f.method.builtin ≡ None → called_user_method p types id object name ≡ Some f
   user_called id name object r f e m n = ap (λ (o : Option Receiver). of_user (option_and_then (λ r. called_method p r name) o)) e ∙ ap of_user m ∙ user_is f n
 
-  call_bound : (id : ℕ) (position : Pos) (name : List ℕ) (object : Option ℕ) (arguments : List ℕ) (f : FoundMethod) (r : Receiver) (n class : ℕ) → slice_get forest.nodes id ≡ Some (Call position name object arguments) → call_receiver p types id object ≡ Some r → called_method p r name ≡ Some f → f.method.builtin ≡ None → f.method.declared.modifiers.is_static ≡ false
+  call_bound : (id : ℕ) (position : Position) (name : List ℕ) (object : Option ℕ) (arguments : List ℕ) (f : FoundMethod) (r : Receiver) (n class : ℕ) → slice_get forest.nodes id ≡ Some (Call position name object arguments) → call_receiver p types id object ≡ Some r → called_method p r name ≡ Some f → f.method.builtin ≡ None → f.method.declared.modifiers.is_static ≡ false
       → method_number p.nodes p.users f.method.declared.node ≡ Some n → class_of_receiver r ≡ Some class → (f.on == managed_memory) ≡ false → binding_at_node p id ≡ MethodCalled (record { id = n; on = class; gives = not (is_same_type f.method.declared.declared_type void_type) })
   unfolding binding_of method_binding target called_on
   call_bound id position name object arguments f r n class there e m b plain k cl on =
@@ -171,7 +171,7 @@ module _ (forest : Forest) (accepted : IsAccepted forest) (whole : IsForest fore
       go true e = absurd (true≢false (sym u ∙ ap is_user_class (same_number class managed_memory e)))
 
   -- what a call on an object gives
-  call_gives : (id : ℕ) (position : Pos) (name : List ℕ) (object : Option ℕ) (arguments : List ℕ) (f : FoundMethod) (r : Receiver) (ts : List Ty) (scope now : Scope) (o : Option Kind) → slice_get forest.nodes id ≡ Some (Call position name object arguments) → call_receiver p types id object ≡ Some r → called_method p r name ≡ Some f → all_types types arguments ≡ Some ts
+  call_gives : (id : ℕ) (position : Position) (name : List ℕ) (object : Option ℕ) (arguments : List ℕ) (f : FoundMethod) (r : Receiver) (ts : List Ty) (scope now : Scope) (o : Option Kind) → slice_get forest.nodes id ≡ Some (Call position name object arguments) → call_receiver p types id object ≡ Some r → called_method p r name ≡ Some f → all_types types arguments ≡ Some ts
       → receiver_scope p scopes id object ≡ Some scope → current_at p id ≡ Some now → HasType (types id) → Judged p id o → o ≡ seen_option scope now (kind_given p f)
   unfolding type_of scope_of scope_of_call kind_given Judged
   call_gives id position name object arguments f r ts scope now o there e m k s h t judged = by_kind o judged
@@ -285,7 +285,7 @@ module _ (forest : Forest) (accepted : IsAccepted forest) (whole : IsForest fore
       first false b h e = refl
 
   -- what a call of a user's method on an object has
-  pub call_facts : (b c id : ℕ) (position : Pos) (name : List ℕ) (object : Option ℕ) (arguments : List ℕ) (f : FoundMethod) (o : Option Kind) → slice_get forest.nodes id ≡ Some (Call position name object arguments) → Inside p b c id → method_called p types id object name ≡ Some f → f.method.builtin ≡ None → f.method.declared.modifiers.is_static ≡ false → Judged p id o
+  pub call_facts : (b c id : ℕ) (position : Position) (name : List ℕ) (object : Option ℕ) (arguments : List ℕ) (f : FoundMethod) (o : Option Kind) → slice_get forest.nodes id ≡ Some (Call position name object arguments) → Inside p b c id → method_called p types id object name ≡ Some f → f.method.builtin ≡ None → f.method.declared.modifiers.is_static ≡ false → Judged p id o
       → CallFacts p b c id object arguments f o
   unfolding children is_argument is_expression object_of takes_parts HasRightChildren declared_before call_receiver receiver_scope class_of_receiver
   call_facts b c id position name None arguments f o there inside method user plain judged =

@@ -1,7 +1,7 @@
 -- What calls of the framework's methods have: their arguments fit, and E7 and E8 hold of those that enter memories.
 use Rattle.std.proofs.Common.{◌≡◌, ℕ, List, [], ◌∷◌, ◌++◌, refl, sym, ap, ◌∙◌, subst, Option, Some, None, Bool, true, false, not, ◌||◌, ◌&&◌, true≢false, ◌⊎◌, inl, inr, option_and_then, option_map, is_some, slice_get, if◌then◌else◌, ◌==◌, codes}
 use Rattle.scj_base.specs.declared.findings.Rule.TheVariants.{E2, E7, E8}
-use Rattle.scj_base.specs.declared.places.Pos.{Pos}
+use Rattle.scj_base.specs.declared.positions.Position.{Position}
 use Rattle.scj_builtins.specs.Framework.{managed_memory_enter_private_memory, managed_memory_execute_in_area_of}
 use Rattle.scj_tree.specs.declared.nodes.Node.{Node}
 use Rattle.scj_tree.specs.declared.nodes.Node.TheVariants.{Call}
@@ -91,7 +91,7 @@ module _ (forest : Forest) (accepted : IsAccepted forest) (whole : IsForest fore
     ts : List Ty
     typed : all_types types arguments ≡ Some ts
 
-  call_parts : (b c id : ℕ) (position : Pos) (name : List ℕ) (object : Option ℕ) (arguments : List ℕ) → slice_get forest.nodes id ≡ Some (Call position name object arguments) → Inside p b c id → CallParts b c id name object arguments
+  call_parts : (b c id : ℕ) (position : Position) (name : List ℕ) (object : Option ℕ) (arguments : List ℕ) → slice_get forest.nodes id ≡ Some (Call position name object arguments) → Inside p b c id → CallParts b c id name object arguments
   unfolding children is_argument is_expression object_of takes_parts HasRightChildren declared_before call_receiver
   call_parts b c id position name None arguments there inside =
       let node : Node = Call position name None arguments in
@@ -123,7 +123,7 @@ module _ (forest : Forest) (accepted : IsAccepted forest) (whole : IsForest fore
       }
 
   -- the parameters of the method that is called take the arguments
-  pub argument_facts : (b c id : ℕ) (position : Pos) (name : List ℕ) (object : Option ℕ) (arguments : List ℕ) (f : FoundMethod) → slice_get forest.nodes id ≡ Some (Call position name object arguments) → Inside p b c id → method_called p types id object name ≡ Some f → ArgumentFacts p id arguments f
+  pub argument_facts : (b c id : ℕ) (position : Position) (name : List ℕ) (object : Option ℕ) (arguments : List ℕ) (f : FoundMethod) → slice_get forest.nodes id ≡ Some (Call position name object arguments) → Inside p b c id → method_called p types id object name ≡ Some f → ArgumentFacts p id arguments f
   argument_facts b c id position name object arguments f there inside method =
       let x = call_parts b c id position name object arguments there inside in
       let m : called_method p x.r name ≡ Some f = sym (ap (option_and_then (λ r. called_method p r name)) x.is_receiver) ∙ method in
@@ -137,7 +137,7 @@ module _ (forest : Forest) (accepted : IsAccepted forest) (whole : IsForest fore
     enters : holds (called_builtin p types id object name) (λ number. enters_wrong p types id number second) ≡ false
     executes : holds (called_builtin p types id object name) (λ number. executes_wrong p types scopes number first second) ≡ false
 
-  use_of_two : (id first second : ℕ) (position : Pos) (name : List ℕ) (object : Option ℕ) → use_breaks p types scopes id (Call position name object (first ∷ second ∷ [])) ≡ [] → UseOfTwo id first second name object
+  use_of_two : (id first second : ℕ) (position : Position) (name : List ℕ) (object : Option ℕ) → use_breaks p types scopes id (Call position name object (first ∷ second ∷ [])) ≡ [] → UseOfTwo id first second name object
   unfolding use_breaks e1 e2 e3 e4_and_e5 e6 e7 e8 e9 e10
   use_of_two id first second position name object e =
       let arguments : List ℕ = first ∷ second ∷ [] in
@@ -179,7 +179,7 @@ module _ (forest : Forest) (accepted : IsAccepted forest) (whole : IsForest fore
   second_among : (x y : ℕ) → is_among y (x ∷ y ∷ []) ≡ true
   second_among x y = or_right (y == x) (is_among y (y ∷ [])) (or_left (y == y) (is_among y []) (is_same_number y y refl))
 
-  pub enter_facts : (b c id size r : ℕ) (position : Pos) (name : List ℕ) (object : Option ℕ) (f : FoundMethod) → slice_get forest.nodes id ≡ Some (Call position name object (size ∷ r ∷ [])) → Inside p b c id → method_called p types id object name ≡ Some f → f.method.builtin ≡ Some managed_memory_enter_private_memory → EnterFacts p b c id r
+  pub enter_facts : (b c id size r : ℕ) (position : Position) (name : List ℕ) (object : Option ℕ) (f : FoundMethod) → slice_get forest.nodes id ≡ Some (Call position name object (size ∷ r ∷ [])) → Inside p b c id → method_called p types id object name ≡ Some f → f.method.builtin ≡ Some managed_memory_enter_private_memory → EnterFacts p b c id r
   enter_facts b c id size r position name object f there inside method number =
       let x = call_parts b c id position name object (size ∷ r ∷ []) there inside in
       let among = second_among size r in
@@ -236,7 +236,7 @@ module _ (forest : Forest) (accepted : IsAccepted forest) (whole : IsForest fore
       let h = runs_in_has_scope forest accepted whole sorted m.0.on m.0.method.declared.node m.0.method u.is_there u.stands_in_class in
       subst (λ (g : FoundMethod). HasScope (runs_in p g.on g.method)) q.1 h
 
-  pub execute_facts : (b c id o r : ℕ) (position : Pos) (name : List ℕ) (object : Option ℕ) (f : FoundMethod) → slice_get forest.nodes id ≡ Some (Call position name object (o ∷ r ∷ [])) → Inside p b c id → method_called p types id object name ≡ Some f → f.method.builtin ≡ Some managed_memory_execute_in_area_of → ExecuteFacts p b c id o r
+  pub execute_facts : (b c id o r : ℕ) (position : Position) (name : List ℕ) (object : Option ℕ) (f : FoundMethod) → slice_get forest.nodes id ≡ Some (Call position name object (o ∷ r ∷ [])) → Inside p b c id → method_called p types id object name ≡ Some f → f.method.builtin ≡ Some managed_memory_execute_in_area_of → ExecuteFacts p b c id o r
   execute_facts b c id o r position name object f there inside method number =
       let x = call_parts b c id position name object (o ∷ r ∷ []) there inside in
       let among = second_among o r in

@@ -1,6 +1,6 @@
 -- The facts at a whole controller, whose nodes are computed: none of the laws speaks of nothing.
 use Rattle.std.proofs.Common.{◌≡◌, ℕ, [], ◌∷◌, refl, Some, None, codes}
-use Rattle.scj_base.specs.declared.places.Pos.{Pos}
+use Rattle.scj_base.specs.declared.positions.Position.{Position}
 use Rattle.scj_tree.specs.declared.nodes.Node.TheVariants.{Assign, Call, FieldAccess, New, Return, SimpleName}
 use Rattle.scj_rules.specs.declared.typing.Scope.TheVariants.{Caller, In}
 use Rattle.scj_rules.specs.declared.typing.Ty.TheVariants.{Class as ClassTy}
@@ -27,7 +27,7 @@ use Rattle.accepted_facts.proofs.StatementFacts.{assign_facts}
 abbrev p : Declarations
 p = declarations_of controller
 
-abbrev at : ℕ → ℕ → Pos
+abbrev at : ℕ → ℕ → Position
 at line col = record { file = 1; line = line; col = col }
 
 -- the tank's method `set` assigns `level = v`

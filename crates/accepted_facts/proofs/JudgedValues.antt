@@ -1,6 +1,6 @@
 -- In an accepted program each expression in a body is judged: it has a kind, or gives nothing.
 use Rattle.std.proofs.Common.{◌≡◌, ℕ, ◌<◌, zero, suc, List, [], filter, refl, sym, ap, ◌∙◌, subst, arith, Option, Some, None, Bool, true, false, ◌&&◌, true≢false, inl, inr, option_and_then, option_map, is_some, slice_get, if◌then◌else◌, ◌==◌}
-use Rattle.scj_base.specs.declared.places.Pos.{Pos}
+use Rattle.scj_base.specs.declared.positions.Position.{Position}
 use Rattle.scj_builtins.specs.declared.kinds.GivesKind.{GivesKind}
 use Rattle.scj_builtins.specs.declared.kinds.GivesKind.TheVariants.{Nothing, Number as GivesNumber, Long, Truth, Sequencer, Mission}
 use Rattle.scj_builtins.specs.declared.methods.FrameworkMethod.{FrameworkMethod}
@@ -184,7 +184,7 @@ module _ (forest : Forest) (accepted : IsAccepted forest) (whole : IsForest fore
       let f = of_option (called_method p r name) (λ (f : FoundMethod). declared_type_of p f.method.declared) Label e in
       let q = of_class (class_of_receiver r) (λ class. method_named p.classes class name) f.0 f.1 in method_no_label q.0 name f.0 q.2 f.2
 
-  expression_no_label : (id : ℕ) (node : Node) → is_expression node ≡ true → ((position : Pos) (inner : ℕ) → node ≡ Parenthesized position inner → NoLabel (types inner)) → NoLabel (type_of p types id node)
+  expression_no_label : (id : ℕ) (node : Node) → is_expression node ≡ true → ((position : Position) (inner : ℕ) → node ≡ Parenthesized position inner → NoLabel (types inner)) → NoLabel (type_of p types id node)
   unfolding type_of is_expression
   expression_no_label id (Number position value is_negative) k h e = int_no_label e
   expression_no_label id (True position) k h e = boolean_no_label e
@@ -217,7 +217,7 @@ module _ (forest : Forest) (accepted : IsAccepted forest) (whole : IsForest fore
   abbrev NoLabelBelow : ℕ → Type 0
   NoLabelBelow n = (x : ℕ) (node : Node) → x < n → slice_get forest.nodes x ≡ Some node → is_expression node ≡ true → NoLabel (types x)
 
-  inner_at : (id : ℕ) (node : Node) (position : Pos) (inner : ℕ) → slice_get forest.nodes id ≡ Some node → node ≡ Parenthesized position inner → (o : Of is_expression forest.nodes inner) × (inner < id)
+  inner_at : (id : ℕ) (node : Node) (position : Position) (inner : ℕ) → slice_get forest.nodes id ≡ Some node → node ≡ Parenthesized position inner → (o : Of is_expression forest.nodes inner) × (inner < id)
   unfolding HasRightChildren children
   inner_at id node position inner there e =
       let stands : slice_get forest.nodes id ≡ Some (Parenthesized position inner) = there ∙ ap (λ n. Some n) e in

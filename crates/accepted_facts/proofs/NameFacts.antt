@@ -1,6 +1,6 @@
 -- What names and field accesses of an accepted program stand for, and their kinds.
 use Rattle.std.proofs.Common.{◌≡◌, ℕ, List, refl, sym, ap, ◌∙◌, subst, Option, Some, None, Bool, true, false, not, ◌&&◌, true≢false, ◌⊎◌, inl, inr, option_and_then, slice_get, position, if◌then◌else◌, ◌==◌}
-use Rattle.scj_base.specs.declared.places.Pos.{Pos}
+use Rattle.scj_base.specs.declared.positions.Position.{Position}
 use Rattle.scj_tree.specs.declared.nodes.Node.{Node}
 use Rattle.scj_tree.specs.declared.nodes.Node.TheVariants.{SimpleName}
 use Rattle.scj_tree.specs.Forest.{Forest, IsForest}
@@ -256,7 +256,7 @@ module _ (forest : Forest) (accepted : IsAccepted forest) (whole : IsForest fore
       go None a None g true None object class bound kind = absurd (cc (kind))
       go None a None g false o object class bound kind = absurd (cc (kind))
 
-  pub name_facts : (b c id : ℕ) (position : Pos) (name : List ℕ) (k : Kind) → slice_get forest.nodes id ≡ Some (SimpleName position name) → Inside p b c id → IsValue p id (SimpleName position name) → Judged p id (Some k) → NameFacts p b c id name k
+  pub name_facts : (b c id : ℕ) (position : Position) (name : List ℕ) (k : Kind) → slice_get forest.nodes id ≡ Some (SimpleName position name) → Inside p b c id → IsValue p id (SimpleName position name) → Judged p id (Some k) → NameFacts p b c id name k
   unfolding Judged type_of scope_of binding_of class_at_name
   name_facts b c id position name k there inside v judged =
       let w = right_name p (type_at_node p) id position name (unbroken forest accepted whole sorted id (SimpleName position name) there) in

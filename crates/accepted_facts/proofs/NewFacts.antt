@@ -1,7 +1,7 @@
 -- What a `new` of an accepted program has.
 use Rattle.std.proofs.Common.{◌≡◌, ℕ, ◌<◌, List, [], ◌∷◌, ◌++◌, length, map, refl, sym, ap, ◌∙◌, subst, Option, Some, None, Bool, true, false, not, ◌||◌, ◌&&◌, true≢false, ◌⊎◌, inl, inr, option_and_then, option_map, unwrap_or, is_some, slice_get, if◌then◌else◌, ◌==◌}
 use Rattle.scj_base.specs.declared.findings.Rule.TheVariants.{C11, E1}
-use Rattle.scj_base.specs.declared.places.Pos.{Pos}
+use Rattle.scj_base.specs.declared.positions.Position.{Position}
 use Rattle.scj_builtins.specs.declared.kinds.ClassKind.{ClassKind}
 use Rattle.scj_builtins.specs.Framework.{object}
 use Rattle.scj_tree.specs.declared.nodes.Node.{Node}
@@ -115,7 +115,7 @@ module _ (forest : Forest) (accepted : IsAccepted forest) (whole : IsForest fore
       ]
 
   -- a parameter of a constructor, with what the constructor is
-  constructor_parameter : (b c q : ℕ) (position : Pos) (name : List ℕ) (flags parameters super_call : Option ℕ) (body : ℕ) (n : Node) (d : Declared) → slice_get forest.nodes b ≡ Some (Constructor position name flags parameters super_call body) → (context p b).class ≡ Some c
+  constructor_parameter : (b c q : ℕ) (position : Position) (name : List ℕ) (flags parameters super_call : Option ℕ) (body : ℕ) (n : Node) (d : Declared) → slice_get forest.nodes b ≡ Some (Constructor position name flags parameters super_call body) → (context p b).class ≡ Some c
       → parameters ≡ Some q → slice_get forest.nodes q ≡ Some n → (ds : List Declared) → parameters_of p.nodes n ≡ Some ds → Element d ds → IsParameter forest accepted whole sorted b c d
   unfolding children is_member is_no_class
   constructor_parameter b c q position name flags parameters super_call body n d at class e stands ds k h =
@@ -192,7 +192,7 @@ module _ (forest : Forest) (accepted : IsAccepted forest) (whole : IsForest fore
     lies : misfits_scope p id name ≡ false
     passes : found_at (class_number p.names name) (λ class. e3_of_constructor p scopes (scope_of_new p id class) arguments class) ≡ []
 
-  use_of_new : (id : ℕ) (position name_position : Pos) (name arguments : List ℕ) → use_breaks p types scopes id (New position name_position name arguments) ≡ [] → UseOfNew id name arguments
+  use_of_new : (id : ℕ) (position name_position : Position) (name arguments : List ℕ) → use_breaks p types scopes id (New position name_position name arguments) ≡ [] → UseOfNew id name arguments
   unfolding use_breaks e1 e2 e3 e4_and_e5 e6 e7 e8 e9 e10
   use_of_new id position name_position name arguments e =
       let one = both_empty (broken (misfits_scope p id name) E1 position) (found_at (class_number p.names name) (λ class. e3_of_constructor p scopes (scope_of_new p id class) arguments class) ++ []) e in
@@ -246,12 +246,12 @@ module _ (forest : Forest) (accepted : IsAccepted forest) (whole : IsForest fore
   unfolding kind_of_constructor_parameter
   takes_are class ks e = record { are = e }
 
-  new_bound : (id : ℕ) (position name_position : Pos) (name arguments : List ℕ) (class : ℕ) → slice_get forest.nodes id ≡ Some (New position name_position name arguments) → is_form_part p id ≡ false → class_number p.names name ≡ Some class → binding_at_node p id ≡ ClassNamed class
+  new_bound : (id : ℕ) (position name_position : Position) (name arguments : List ℕ) (class : ℕ) → slice_get forest.nodes id ≡ Some (New position name_position name arguments) → is_form_part p id ≡ false → class_number p.names name ≡ Some class → binding_at_node p id ≡ ClassNamed class
   unfolding binding_of
   new_bound id position name_position name arguments class there part n =
       binding_is forest accepted whole sorted id (New position name_position name arguments) there ∙ ap (λ t. if t then Plain else class_binding (class_number p.names name)) part ∙ ap (plain_or (λ c. ClassNamed c)) n
 
-  new_kind : (id : ℕ) (position name_position : Pos) (name arguments : List ℕ) (class : ℕ) (now : Scope) (ts : List Ty) (k : Kind) → slice_get forest.nodes id ≡ Some (New position name_position name arguments) → is_form_part p id ≡ false → class_number p.names name ≡ Some class → all_types types arguments ≡ Some ts → scope_of_new p id class ≡ Some now → Judged p id (Some k) → k ≡ reference (ClassTy class) now
+  new_kind : (id : ℕ) (position name_position : Position) (name arguments : List ℕ) (class : ℕ) (now : Scope) (ts : List Ty) (k : Kind) → slice_get forest.nodes id ≡ Some (New position name_position name arguments) → is_form_part p id ≡ false → class_number p.names name ≡ Some class → all_types types arguments ≡ Some ts → scope_of_new p id class ≡ Some now → Judged p id (Some k) → k ≡ reference (ClassTy class) now
   unfolding type_of scope_of Judged
   new_kind id position name_position name arguments class now ts k there part n e s judged =
       let node : Node = New position name_position name arguments in
@@ -260,7 +260,7 @@ module _ (forest : Forest) (accepted : IsAccepted forest) (whole : IsForest fore
       let scoped : scopes id ≡ Some now = scope_is forest accepted whole sorted id node there ∙ ap (option_and_then (scope_of_new p id)) n ∙ s in
       some_inj k (reference (ClassTy class) now) (sym judged ∙ ap (λ (o : Option Ty). kind_of o (scopes id)) typed ∙ ap (kind_of (Some (ClassTy class))) scoped ∙ class_kind class now)
 
-  pub new_facts : (b c id : ℕ) (position name_position : Pos) (name arguments : List ℕ) (k : Kind) → slice_get forest.nodes id ≡ Some (New position name_position name arguments) → Inside p b c id → is_form_part p id ≡ false → Judged p id (Some k) → NewFacts p b c id name arguments k
+  pub new_facts : (b c id : ℕ) (position name_position : Position) (name arguments : List ℕ) (k : Kind) → slice_get forest.nodes id ≡ Some (New position name_position name arguments) → Inside p b c id → is_form_part p id ≡ false → Judged p id (Some k) → NewFacts p b c id name arguments k
   unfolding children is_argument is_expression object_of takes_parts HasRightChildren declared_before
   new_facts b c id position name_position name arguments k there inside part judged =
       let node : Node = New position name_position name arguments in

@@ -1,7 +1,7 @@
 -- What operators of an accepted program have.
 use Rattle.std.proofs.Common.{◌≡◌, ℕ, List, [], ◌∷◌, refl, sym, ap, ◌∙◌, subst, Option, Some, None, Bool, true, false, ◌||◌, ◌&&◌, true≢false, ◌⊎◌, inl, inr, option_and_then, slice_get, if◌then◌else◌, ◌==◌}
 use Rattle.scj_base.specs.Vocabulary.{sign_not}
-use Rattle.scj_base.specs.declared.places.Pos.{Pos}
+use Rattle.scj_base.specs.declared.positions.Position.{Position}
 use Rattle.scj_tree.specs.declared.nodes.Node.{Node}
 use Rattle.scj_tree.specs.declared.nodes.Node.TheVariants.{Binary, Unary}
 use Rattle.scj_tree.specs.Forest.{Forest, IsForest}
@@ -149,7 +149,7 @@ module _ (forest : Forest) (accepted : IsAccepted forest) (whole : IsForest fore
   unfolding Judged
   judged_as x t k e h = ap (λ o. kind_of o (scopes x)) e ∙ h
 
-  pub binary_facts : (b c id operator left operand : ℕ) (position : Pos) (k : Kind) → slice_get forest.nodes id ≡ Some (Binary position operator left operand) → Inside p b c id → Judged p id (Some k) → BinaryFacts p b c id operator left operand k
+  pub binary_facts : (b c id operator left operand : ℕ) (position : Position) (k : Kind) → slice_get forest.nodes id ≡ Some (Binary position operator left operand) → Inside p b c id → Judged p id (Some k) → BinaryFacts p b c id operator left operand k
   unfolding children is_argument is_expression object_of takes_parts HasRightChildren declared_before type_of
   binary_facts b c id operator left operand position k there inside judged =
       let node : Node = Binary position operator left operand in
@@ -185,7 +185,7 @@ module _ (forest : Forest) (accepted : IsAccepted forest) (whole : IsForest fore
           let same : number ≡ k = some_inj number k (sym (int_of o) ∙ ap (λ t. kind_of (Some t) o) g.1 ∙ h) in
           (int_kind_of a s g.0 ∙ ap (λ k. Some k) same, inr (sym same))
 
-  pub unary_facts : (b c id operator operand : ℕ) (position : Pos) (k : Kind) → slice_get forest.nodes id ≡ Some (Unary position operator operand) → Inside p b c id → Judged p id (Some k) → UnaryFacts p b c id operator operand k
+  pub unary_facts : (b c id operator operand : ℕ) (position : Position) (k : Kind) → slice_get forest.nodes id ≡ Some (Unary position operator operand) → Inside p b c id → Judged p id (Some k) → UnaryFacts p b c id operator operand k
   unfolding children is_argument is_expression object_of takes_parts HasRightChildren declared_before type_of
   unary_facts b c id operator operand position k there inside judged =
       let node : Node = Unary position operator operand in

@@ -1,6 +1,6 @@
 -- The parameters of a user's method are variables of its body, and have kinds.
 use Rattle.std.proofs.Common.{◌≡◌, ℕ, List, [], ◌∷◌, ◌++◌, map, refl, sym, ap, ◌∙◌, subst, Option, Some, None, true, option_and_then, unwrap_or, slice_get, if◌then◌else◌, ◌==◌}
-use Rattle.scj_base.specs.declared.places.Pos.{Pos}
+use Rattle.scj_base.specs.declared.positions.Position.{Position}
 use Rattle.scj_tree.specs.declared.nodes.Node.{Node}
 use Rattle.scj_tree.specs.declared.nodes.Node.TheVariants.{Method as MethodNode, Parameters, Parameter, Local, LocalWithValue}
 use Rattle.scj_tree.specs.Forest.{Forest, IsForest}
@@ -77,7 +77,7 @@ module _ (forest : Forest) (accepted : IsAccepted forest) (whole : IsForest fore
   pub at_front : (q : ℕ) (o : Option ℕ) (ys : List ℕ) → o ≡ Some q → is_among q (optional o ++ ys) ≡ true
   at_front q o ys e = ap (λ o. is_among q (optional o ++ ys)) e ∙ or_left (q == q) _ (is_same_number q q refl)
 
-  method_parameter : (b c q : ℕ) (position : Pos) (name : List ℕ) (flags parameters : Option ℕ) (result_type : ℕ) (body : Option ℕ) (n : Node) (d : Declared) → slice_get forest.nodes b ≡ Some (MethodNode position name flags result_type parameters body) → (context p b).class ≡ Some c
+  method_parameter : (b c q : ℕ) (position : Position) (name : List ℕ) (flags parameters : Option ℕ) (result_type : ℕ) (body : Option ℕ) (n : Node) (d : Declared) → slice_get forest.nodes b ≡ Some (MethodNode position name flags result_type parameters body) → (context p b).class ≡ Some c
       → parameters ≡ Some q → slice_get forest.nodes q ≡ Some n → (ds : List Declared) → parameters_of p.nodes n ≡ Some ds → In d ds → IsParameter b c d
   unfolding children is_member is_no_class
   method_parameter b c q position name flags parameters result_type body n d at class e stands ds k h =

@@ -1,7 +1,7 @@
 -- What a declaration with a value and a `return` of an accepted program have.
 use Rattle.std.proofs.Common.{◌≡◌, ℕ, List, [], ◌∷◌, ◌++◌, refl, sym, ap, ◌∙◌, Option, Some, None, Bool, true, false, not, ◌&&◌, true≢false, ◌⊎◌, inl, inr, option_and_then, option_map, slice_get, if◌then◌else◌, ◌==◌}
 use Rattle.scj_base.specs.declared.findings.Rule.TheVariants.{T2, T7, T9, E4, E6}
-use Rattle.scj_base.specs.declared.places.Pos.{Pos}
+use Rattle.scj_base.specs.declared.positions.Position.{Position}
 use Rattle.scj_tree.specs.declared.nodes.Node.{Node}
 use Rattle.scj_tree.specs.declared.nodes.Node.TheVariants.{Method as MethodNode, LocalWithValue, Return}
 use Rattle.scj_tree.specs.Forest.{Forest, IsForest}
@@ -85,7 +85,7 @@ module _ (forest : Forest) (accepted : IsAccepted forest) (whole : IsForest fore
 
   -- ---- declarations with a value (JLS 14.4)
 
-  rules_of_local : (id : ℕ) (position name_position : Pos) (name : List ℕ) (flags : Option ℕ) (declared_type value : ℕ) → slice_get forest.nodes id ≡ Some (LocalWithValue position name_position name flags declared_type value)
+  rules_of_local : (id : ℕ) (position name_position : Position) (name : List ℕ) (flags : Option ℕ) (declared_type value : ℕ) → slice_get forest.nodes id ≡ Some (LocalWithValue position name_position name flags declared_type value)
       → (misfits_initial_value p types declared_type value ≡ false) × (misfit_scope (scopes value) (variable_scope_at p id) ≡ false)
   unfolding type_breaks t1 t2 t3 t4 t5 t6 t7 t8 t9 t10 t11 t12 t13 t14 use_breaks e1 e2 e3 e4_and_e5 e6 e7 e8 e9 e10
   rules_of_local id position name_position name flags declared_type value there =
@@ -95,7 +95,7 @@ module _ (forest : Forest) (accepted : IsAccepted forest) (whole : IsForest fore
         right (misfit_scope (scopes value) (variable_scope_at p id)) E4 position (both_empty (broken (misfit_scope (scopes value) (variable_scope_at p id)) E4 position) [] (use_unbroken forest accepted whole sorted id node there)).0,
       )
 
-  local_is : (id : ℕ) (position name_position : Pos) (name : List ℕ) (flags : Option ℕ) (declared_type value : ℕ) → slice_get p.nodes id ≡ Some (LocalWithValue position name_position name flags declared_type value) → (d : Declared) × (variable_at p.nodes id ≡ Some d) × (declared_type_of p d ≡ written_type p declared_type)
+  local_is : (id : ℕ) (position name_position : Position) (name : List ℕ) (flags : Option ℕ) (declared_type value : ℕ) → slice_get p.nodes id ≡ Some (LocalWithValue position name_position name flags declared_type value) → (d : Declared) × (variable_at p.nodes id ≡ Some d) × (declared_type_of p d ≡ written_type p declared_type)
   unfolding variable_of
   local_is id position name_position name flags declared_type value there = (_, ap (λ (o : Option Node). option_and_then (variable_of p.nodes id) o) there, refl)
 
@@ -103,7 +103,7 @@ module _ (forest : Forest) (accepted : IsAccepted forest) (whole : IsForest fore
   behind q [] ys h = h
   behind q (x ∷ xs) ys h = or_right (q == x) (is_among q (xs ++ ys)) (behind q xs ys h)
 
-  pub initial_value_facts : (b c id value declared_type : ℕ) (position name_position : Pos) (name : List ℕ) (flags : Option ℕ) → slice_get forest.nodes id ≡ Some (LocalWithValue position name_position name flags declared_type value) → Inside p b c id → InitialValueFacts p b c id value
+  pub initial_value_facts : (b c id value declared_type : ℕ) (position name_position : Position) (name : List ℕ) (flags : Option ℕ) → slice_get forest.nodes id ≡ Some (LocalWithValue position name_position name flags declared_type value) → Inside p b c id → InitialValueFacts p b c id value
   unfolding children is_inner object_of takes_parts HasRightChildren declared_before kind_of_variable
   initial_value_facts b c id value declared_type position name_position name flags there inside =
       let node : Node = LocalWithValue position name_position name flags declared_type value in
@@ -155,7 +155,7 @@ module _ (forest : Forest) (accepted : IsAccepted forest) (whole : IsForest fore
       go None k = refl
       go (Some node) k = ap (λ (o : Option ℕ). elim o as (λ _. WrittenType) [ None ↦ void_type | Some result ↦ type_at p.nodes result ]) (no_method_result b node k)
 
-  rules_of_return : (id : ℕ) (position : Pos) (value : ℕ) → slice_get forest.nodes id ≡ Some (Return position (Some value)) → (misfits_result p types id value ≡ false) × (misfit_scope (scopes value) (result_scope_at p id) ≡ false)
+  rules_of_return : (id : ℕ) (position : Position) (value : ℕ) → slice_get forest.nodes id ≡ Some (Return position (Some value)) → (misfits_result p types id value ≡ false) × (misfit_scope (scopes value) (result_scope_at p id) ≡ false)
   unfolding use_breaks e1 e2 e3 e4_and_e5 e6 e7 e8 e9 e10
   rules_of_return id position value there = (
     right_return p types id position value (unbroken forest accepted whole sorted id (Return position (Some value)) there),
@@ -181,7 +181,7 @@ module _ (forest : Forest) (accepted : IsAccepted forest) (whole : IsForest fore
   unfolding is_same_type
   void_not_long e = true≢false (sym e)
 
-  pub return_facts : (b c id value : ℕ) (position : Pos) → slice_get forest.nodes id ≡ Some (Return position (Some value)) → Inside p b c id → ReturnFacts p b c id value
+  pub return_facts : (b c id value : ℕ) (position : Position) → slice_get forest.nodes id ≡ Some (Return position (Some value)) → Inside p b c id → ReturnFacts p b c id value
   unfolding children is_inner object_of takes_parts HasRightChildren declared_before result_scope_at
   return_facts b c id value position there inside = by_member (method_at p.nodes b) refl
     where
@@ -244,7 +244,7 @@ module _ (forest : Forest) (accepted : IsAccepted forest) (whole : IsForest fore
           [ inl long ↦ void_not_long long.0 | inr q ↦ true≢false (sym void_type_same ∙ q.0) ])
 
   -- a `return` without a value stands in no method that gives one
-  pub returns_nothing : (b c id : ℕ) (position : Pos) (m : DeclaredMethod) → slice_get forest.nodes id ≡ Some (Return position None) → Inside p b c id → method_at p.nodes b ≡ Some m → m.declared.declared_type ≡ void_type
+  pub returns_nothing : (b c id : ℕ) (position : Position) (m : DeclaredMethod) → slice_get forest.nodes id ≡ Some (Return position None) → Inside p b c id → method_at p.nodes b ≡ Some m → m.declared.declared_type ≡ void_type
   unfolding type_breaks t1 t2 t3 t4 t5 t6 t7 t8 t9 t10 t11 t12 t13 t14
   returns_nothing b c id position m there inside k =
       let e = right (lacks_value p id) T9 position (both_empty (broken (lacks_value p id) T9 position) [] (unbroken forest accepted whole sorted id (Return position None) there)).0 in

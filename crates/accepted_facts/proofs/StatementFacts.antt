@@ -2,7 +2,7 @@
 use Rattle.std.proofs.Common.{◌≡◌, ℕ, List, [], ◌∷◌, ◌++◌, refl, sym, ap, ◌∙◌, subst, Option, Some, None, Bool, true, false, not, ◌||◌, ◌&&◌, true≢false, ◌⊎◌, inl, inr, option_and_then, is_some, slice_get, if◌then◌else◌, ◌==◌}
 use Rattle.scj_base.specs.declared.findings.Rule.{Rule}
 use Rattle.scj_base.specs.declared.findings.Rule.TheVariants.{T8, E5}
-use Rattle.scj_base.specs.declared.places.Pos.{Pos}
+use Rattle.scj_base.specs.declared.positions.Position.{Position}
 use Rattle.scj_tree.specs.declared.nodes.Node.{Node}
 use Rattle.scj_tree.specs.declared.nodes.Node.TheVariants.{Assign, If, While, For, SimpleName, FieldAccess, Element}
 use Rattle.scj_tree.specs.Forest.{Forest, IsForest}
@@ -168,7 +168,7 @@ module _ (forest : Forest) (accepted : IsAccepted forest) (whole : IsForest fore
       let k = boolean_is t.0 (sym (ap (λ (o : Option Ty). holds o (λ t. not (is_boolean t))) t.1) ∙ right (holds (types x) (λ t. not (is_boolean t))) T8 (position_at p.nodes x) (both_empty (broken (holds (types x) (λ t. not (is_boolean t))) T8 (position_at p.nodes x)) [] e).0) in
       boolean_judged forest accepted whole sorted x (t.1 ∙ ap (λ t. Some t) k)
 
-  pub if_condition : (b c id condition then_part : ℕ) (position : Pos) (else_part : Option ℕ) → slice_get forest.nodes id ≡ Some (If position condition then_part else_part) → Inside p b c id → Operand p b c id condition truth
+  pub if_condition : (b c id condition then_part : ℕ) (position : Position) (else_part : Option ℕ) → slice_get forest.nodes id ≡ Some (If position condition then_part else_part) → Inside p b c id → Operand p b c id condition truth
   unfolding children is_inner object_of takes_parts HasRightChildren declared_before type_breaks t1 t2 t3 t4 t5 t6 t7 t8 t9 t10 t11 t12 t13 t14
   if_condition b c id condition then_part position else_part there inside =
       let node : Node = If position condition then_part else_part in
@@ -176,7 +176,7 @@ module _ (forest : Forest) (accepted : IsAccepted forest) (whole : IsForest fore
       let v = statement_value b c id condition node there inside refl (same_first forest accepted whole sorted condition (then_part ∷ optional else_part)) (of_expression forest accepted whole sorted condition s.0) refl refl in
       operand_at forest accepted whole sorted b c id condition node truth there (same_first forest accepted whole sorted condition (then_part ∷ optional else_part)) refl v (condition_at b c id condition v (unbroken forest accepted whole sorted id node there))
 
-  pub while_condition : (b c id condition body : ℕ) (position : Pos) → slice_get forest.nodes id ≡ Some (While position condition body) → Inside p b c id → Operand p b c id condition truth
+  pub while_condition : (b c id condition body : ℕ) (position : Position) → slice_get forest.nodes id ≡ Some (While position condition body) → Inside p b c id → Operand p b c id condition truth
   unfolding children is_inner object_of takes_parts HasRightChildren declared_before type_breaks t1 t2 t3 t4 t5 t6 t7 t8 t9 t10 t11 t12 t13 t14
   while_condition b c id condition body position there inside =
       let node : Node = While position condition body in
@@ -184,7 +184,7 @@ module _ (forest : Forest) (accepted : IsAccepted forest) (whole : IsForest fore
       let v = statement_value b c id condition node there inside refl (same_first forest accepted whole sorted condition (body ∷ [])) (of_expression forest accepted whole sorted condition s.0) refl refl in
       operand_at forest accepted whole sorted b c id condition node truth there (same_first forest accepted whole sorted condition (body ∷ [])) refl v (condition_at b c id condition v (unbroken forest accepted whole sorted id node there))
 
-  pub for_condition : (b c id first condition step body : ℕ) (position : Pos) → slice_get forest.nodes id ≡ Some (For position first condition step body) → Inside p b c id → ForFacts p b c id condition
+  pub for_condition : (b c id first condition step body : ℕ) (position : Position) → slice_get forest.nodes id ≡ Some (For position first condition step body) → Inside p b c id → ForFacts p b c id condition
   unfolding children is_inner object_of takes_parts HasRightChildren type_breaks t1 t2 t3 t4 t5 t6 t7 t8 t9 t10 t11 t12 t13 t14
   for_condition b c id first condition step body position there inside =
       let node : Node = For position first condition step body in
@@ -284,7 +284,7 @@ module _ (forest : Forest) (accepted : IsAccepted forest) (whole : IsForest fore
   Stores id target value = misfit_scope (scopes value) (scopes target) && not (is_guarded_store p types id target value)
 
   -- E4 and E5 at an assignment: the scope fits, or a guard allows the store
-  scopes_pass : (id target value : ℕ) (position : Pos) (node : Node) → slice_get forest.nodes target ≡ Some node →
+  scopes_pass : (id target value : ℕ) (position : Position) (node : Node) → slice_get forest.nodes target ≡ Some node →
       found_at (read p.nodes (target_rule p target) target) (λ rule. broken (Stores id target value) rule position) ≡ [] →
       (misfit_scope (scopes value) (scopes target) ≡ false) ⊎ (is_guarded_store p types id target value ≡ true)
   scopes_pass id target value position node there e =
@@ -298,7 +298,7 @@ module _ (forest : Forest) (accepted : IsAccepted forest) (whole : IsForest fore
       either true true e = inr refl
       either true false e = absurd (true≢false e)
 
-  use_of_assign : (id target value : ℕ) (position : Pos) → use_breaks p types scopes id (Assign position target value) ≡ [] → found_at (read p.nodes (target_rule p target) target) (λ rule. broken (Stores id target value) rule position) ≡ []
+  use_of_assign : (id target value : ℕ) (position : Position) → use_breaks p types scopes id (Assign position target value) ≡ [] → found_at (read p.nodes (target_rule p target) target) (λ rule. broken (Stores id target value) rule position) ≡ []
   unfolding use_breaks e1 e2 e3 e4_and_e5 e6 e7 e8 e9 e10
   use_of_assign id target value position e = (both_empty (found_at (read p.nodes (target_rule p target) target) (λ rule. broken (Stores id target value) rule position)) [] e).0
 
@@ -319,7 +319,7 @@ module _ (forest : Forest) (accepted : IsAccepted forest) (whole : IsForest fore
       let j = value_fits b c id value u (Some Unknown) (unscoped k) v node there expression (unscoped_kind u (scopes target) k h kind) fit (unknown_taken (scopes value)) in
       (j.0, j.1, inr (j.2, guarded))
 
-  pub assign_facts : (b c id target value : ℕ) (position : Pos) → slice_get forest.nodes id ≡ Some (Assign position target value) → Inside p b c id → AssignFacts p b c id target value
+  pub assign_facts : (b c id target value : ℕ) (position : Position) → slice_get forest.nodes id ≡ Some (Assign position target value) → Inside p b c id → AssignFacts p b c id target value
   unfolding children is_inner object_of takes_parts HasRightChildren declared_before Judged
   assign_facts b c id target value position there inside =
       let node : Node = Assign position target value in

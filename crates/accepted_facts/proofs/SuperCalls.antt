@@ -1,6 +1,6 @@
 -- What a call of a superclass's constructor has.
 use Rattle.std.proofs.Common.{◌≡◌, ℕ, List, [], refl, sym, ap, ◌∙◌, Option, Some, None, Bool, true, false, not, ◌&&◌, option_and_then, slice_get, if◌then◌else◌}
-use Rattle.scj_base.specs.declared.places.Pos.{Pos}
+use Rattle.scj_base.specs.declared.positions.Position.{Position}
 use Rattle.scj_tree.specs.declared.nodes.Node.{Node}
 use Rattle.scj_tree.specs.declared.nodes.Node.TheVariants.{SuperCall}
 use Rattle.scj_tree.specs.Forest.{Forest, IsForest}
@@ -59,7 +59,7 @@ module _ (forest : Forest) (accepted : IsAccepted forest) (whole : IsForest fore
       and_none (context p x).in_super_call (holds (context p x).class (λ class. holds (form_in p class) (is_among x)))
       (ap (λ (o : Option ℕ). holds o (λ class. holds (form_in p class) (is_among x))) inside.class ∙ ap (λ (o : Option (List ℕ)). holds o (is_among x)) form)
 
-  argument_at : (b c id x superclass : ℕ) (position : Pos) (arguments : List ℕ) → slice_get forest.nodes id ≡ Some (SuperCall position arguments) → Inside p b c id → superclass_in p.classes c ≡ Some superclass → has_form superclass ≡ false → is_among x arguments ≡ true → ValueAt forest accepted whole sorted b c id x
+  argument_at : (b c id x superclass : ℕ) (position : Position) (arguments : List ℕ) → slice_get forest.nodes id ≡ Some (SuperCall position arguments) → Inside p b c id → superclass_in p.classes c ≡ Some superclass → has_form superclass ≡ false → is_among x arguments ≡ true → ValueAt forest accepted whole sorted b c id x
   unfolding children is_inner object_of HasRightChildren child_context
   argument_at b c id x superclass position arguments there inside up none among =
       let node : Node = SuperCall position arguments in
@@ -77,7 +77,7 @@ module _ (forest : Forest) (accepted : IsAccepted forest) (whole : IsForest fore
         };
       }
 
-  use_of_super : (id : ℕ) (position : Pos) (arguments : List ℕ) → use_breaks p types scopes id (SuperCall position arguments) ≡ [] → found_at (superclass_at p id) (e3_of_constructor p scopes (this_at p id) arguments) ≡ []
+  use_of_super : (id : ℕ) (position : Position) (arguments : List ℕ) → use_breaks p types scopes id (SuperCall position arguments) ≡ [] → found_at (superclass_at p id) (e3_of_constructor p scopes (this_at p id) arguments) ≡ []
   unfolding use_breaks e1 e2 e3 e4_and_e5 e6 e7 e8 e9 e10
   use_of_super id position arguments e = (both_empty (found_at (superclass_at p id) (e3_of_constructor p scopes (this_at p id) arguments)) [] e).0
 
@@ -94,7 +94,7 @@ module _ (forest : Forest) (accepted : IsAccepted forest) (whole : IsForest fore
       ∙ ap (λ t. not t && misfit p types (constructor_parameters p.classes superclass) arguments) none
       ∙ ap (λ (o : Option (List Ty)). holds o (λ ts. not (accepts_arguments p (constructor_parameters p.classes superclass) ts))) k) ∙ e)
 
-  pub super_call_facts : (b c id superclass : ℕ) (position : Pos) (arguments : List ℕ) → slice_get forest.nodes id ≡ Some (SuperCall position arguments) → Inside p b c id → superclass_at p id ≡ Some superclass → SuperCallFacts p b c id superclass arguments
+  pub super_call_facts : (b c id superclass : ℕ) (position : Position) (arguments : List ℕ) → slice_get forest.nodes id ≡ Some (SuperCall position arguments) → Inside p b c id → superclass_at p id ≡ Some superclass → SuperCallFacts p b c id superclass arguments
   unfolding binding_of children declared_before
   super_call_facts b c id superclass position arguments there inside up =
       let node : Node = SuperCall position arguments in

@@ -4,7 +4,7 @@ use Rattle.std.proofs.lemmas.Bool.Decides.{nat_tests}
 use Rattle.std.proofs.lemmas.Option.{slice_get_within}
 use Rattle.scj_base.specs.declared.findings.Found.{Found}
 use Rattle.scj_base.specs.declared.findings.Rule.{Rule}
-use Rattle.scj_base.specs.declared.places.Pos.{Pos}
+use Rattle.scj_base.specs.declared.positions.Position.{Position}
 use Rattle.scj_tree.specs.declared.nodes.Node.{Node}
 use Rattle.scj_tree.specs.Forest.{Forest}
 use Rattle.scj_tree.specs.Recursion.{lookup, joined_below}
@@ -48,7 +48,7 @@ nothing_at p rule e id node at =
     sym (ap (λ o. elim o as (λ _. List Found) [ None ↦ [] | Some node ↦ rule id node ]) at)
     ∙ empty_below (λ id. elim (slice_get p.nodes id) as (λ _. List Found) [ None ↦ [] | Some node ↦ rule id node ]) (length p.nodes) id e (slice_get_within p.nodes id node at)
 
-pub right : (test : Bool) (rule : Rule) (position : Pos) → broken test rule position ≡ [] → test ≡ false
+pub right : (test : Bool) (rule : Rule) (position : Position) → broken test rule position ≡ [] → test ≡ false
 right true rule position e = absurd (cc (e))
 right false rule position e = refl
 

@@ -6,7 +6,7 @@ use Rattle.std.specs.List.{cons_option}
 use Rattle.scj_base.specs.Bytes.{is_same}
 use Rattle.scj_builtins.specs.declared.classes.FrameworkClass.{FrameworkClass}
 use Rattle.scj_builtins.specs.Framework.{framework_classes}
-use Rattle.scj_base.specs.declared.places.Pos.{Pos}
+use Rattle.scj_base.specs.declared.positions.Position.{Position}
 use Rattle.scj_tree.specs.declared.nodes.Node.{Node}
 use Rattle.scj_tree.specs.declared.nodes.Node.TheVariants.{Class}
 use Rattle.scj_tree.specs.Counts.{times}
@@ -41,7 +41,7 @@ class_made nodes x _ is_class = (_, refl)
 
 -- a class as it is written stands at its node
 pub record IsClassNode (nodes : List Node) (x : ℕ) (c : WrittenClass) : Type 0 where
-  pub position : Pos
+  pub position : Position
   pub flags : Option ℕ
   pub header : Option ℕ
   pub is_there : slice_get nodes x ≡ Some (Class position c.name flags header c.members)

@@ -1,7 +1,7 @@
 -- The children of a member or class that was read are of the right sorts, and so are those of all nodes of a program.
 use Rattle.std.specs.Prelude.{List, [], length, ℕ, ◌++◌, ◌∷◌, ◌≡◌}
 use Rattle.std.proofs.Common.{refl, sym, ap, ◌∙◌, subst, append-nil}
-use Rattle.scj_base.specs.declared.places.Pos.{Pos}
+use Rattle.scj_base.specs.declared.positions.Position.{Position}
 use Rattle.scj_tree.specs.declared.nodes.Node.{Node}
 use Rattle.scj_tree.specs.declared.nodes.Node.TheVariants.{SuperCall, Block}
 use Rattle.scj_tree.specs.Forest.{Forest, joined}
@@ -29,7 +29,7 @@ literal_sorted true_literal = made is_literal _ stays refl tt
 literal_sorted false_literal = made is_literal _ stays refl tt
 literal_sorted null_literal = made is_literal _ stays refl tt
 
-block_made : {N N1 : List Node} {ids : List ℕ} (q : Pos) → ReadsAll is_statement N N1 ids → Reads is_block N (put N1 (Block q ids)) (next N1)
+block_made : {N N1 : List Node} {ids : List ℕ} (q : Position) → ReadsAll is_statement N N1 ids → Reads is_block N (put N1 (Block q ids)) (next N1)
 unfolding HasRightChildren children is_block
 block_made {N} {N1} {ids} q x = made is_block (Block q ids) x.goes refl x.are
 

@@ -4,7 +4,7 @@ use Rattle.std.proofs.Common.{◌≡◌, ℕ, ◌<◌, ◌≤◌, zero, suc, Lis
 use Rattle.std.proofs.lemmas.Bool.Decides.{nat_tests}
 use Rattle.scj_base.specs.declared.findings.Rule.{Rule}
 use Rattle.scj_base.specs.declared.findings.Rule.TheVariants.{A1, A7, A8, A9}
-use Rattle.scj_base.specs.declared.places.Pos.{Pos}
+use Rattle.scj_base.specs.declared.positions.Position.{Position}
 use Rattle.scj_tree.specs.declared.nodes.Node.{Node}
 use Rattle.scj_tree.specs.declared.nodes.Node.TheVariants.{Class, Field, Method, Parameter, Local, LocalWithValue}
 use Rattle.scj_tree.specs.Forest.{Forest, IsForest}
@@ -55,7 +55,7 @@ declared_right p t o e h k =
     (sym (ap (λ (o : Option ScopedDeclaration). found_at o (λ t. broken_value t.scope (is_unknown_scope p t) A1)) e) ∙ h)
     (sym (ap (λ (o : Option ScopedDeclaration). found_at o (λ t. broken_value t.scope (contradicts p t) A9)) e) ∙ k)
 
-class_declares_none : (p : Declarations) (id : ℕ) (position : Pos) (name : List ℕ) (flags header : Option ℕ) (members : List ℕ) (t : ScopedDeclaration) → scoped_declaration_at p id (Class position name flags header members) ≡ Some t → ⊥
+class_declares_none : (p : Declarations) (id : ℕ) (position : Position) (name : List ℕ) (flags header : Option ℕ) (members : List ℕ) (t : ScopedDeclaration) → scoped_declaration_at p id (Class position name flags header members) ≡ Some t → ⊥
 unfolding scoped_declaration_at
 class_declares_none p id position name flags header members t e = cc (e)
 

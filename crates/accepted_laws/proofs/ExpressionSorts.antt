@@ -1,7 +1,7 @@
 -- The children of an expression that was read are of the right sorts: by the grammar of expressions.
 use Rattle.std.specs.Prelude.{Bool, List, None, false, length, ℕ}
 use Rattle.std.proofs.Common.{refl}
-use Rattle.scj_base.specs.declared.places.Pos.{Pos}
+use Rattle.scj_base.specs.declared.positions.Position.{Position}
 use Rattle.scj_tree.specs.declared.nodes.Node.{Node}
 use Rattle.scj_tree.specs.declared.nodes.Node.TheVariants.{IntType, BooleanType, ClassType, SimpleName}
 use Rattle.scj_tree.specs.declared.readings.PostKind.{PostKind}
@@ -34,7 +34,7 @@ mutual
   unary1_sorted (cast e d) = let a = unary1_sorted d in made is_expression _ a.goes refl a.is
   unary1_sorted (post_unary d) = post_sorted d
 
-  pub post_sorted : {minimum : Bool} {kind : PostKind} {p : Pos} {N N1 : List Node} {i o : List Lexeme} {id : ℕ} → PostRead minimum kind p N i N1 o id → Reads is_expression N N1 id
+  pub post_sorted : {minimum : Bool} {kind : PostKind} {p : Position} {N N1 : List Node} {i o : List Lexeme} {id : ℕ} → PostRead minimum kind p N i N1 o id → Reads is_expression N N1 id
   post_sorted simple_name = made is_expression _ stays refl tt
   post_sorted (simple_call a) = let x = arguments_sorted a in made is_expression _ x.goes refl (tt, x.are)
   post_sorted (field_of d) = let a = post_sorted d in made is_expression _ a.goes refl a.is
@@ -66,14 +66,14 @@ mutual
   arguments_sorted (arguments d a) = one_more is_argument _ _ (begun_sorted d) (argument_sorted a)
 
 -- what reads as a variable may stand before `=`
-pub target_is : {m : Bool} {p : Pos} {N N1 : List Node} {i o : List Lexeme} {id : ℕ} → PostRead m Variable p N i N1 o id → Of is_target N1 id
+pub target_is : {m : Bool} {p : Position} {N N1 : List Node} {i o : List Lexeme} {id : ℕ} → PostRead m Variable p N i N1 o id → Of is_target N1 id
 unfolding is_target
 target_is simple_name = of_last is_target _ _ refl
 target_is (field_of d) = of_last is_target _ _ refl
 target_is (element_of h d x) = of_last is_target _ _ refl
 
 -- what reads as an invocation may stand before `;`
-pub invocation_is : {m : Bool} {p : Pos} {N N1 : List Node} {i o : List Lexeme} {id : ℕ} → PostRead m Invocation p N i N1 o id → Of is_invocation N1 id
+pub invocation_is : {m : Bool} {p : Position} {N N1 : List Node} {i o : List Lexeme} {id : ℕ} → PostRead m Invocation p N i N1 o id → Of is_invocation N1 id
 unfolding is_invocation
 invocation_is (simple_call a) = of_last is_invocation _ _ refl
 invocation_is (call_of d b) = of_last is_invocation _ _ refl

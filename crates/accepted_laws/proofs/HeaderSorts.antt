@@ -3,7 +3,7 @@ use Rattle.std.specs.Prelude.{Bool, List, None, Option, Some, [], false, ℕ, �
 use Rattle.std.proofs.Common.{refl, sym, ap, ◌∙◌, subst, true≢false, ◌||◌, ◌==◌}
 use Rattle.scj_rules.specs.Words.{is_among}
 use Rattle.scj_rules.proofs.ChainLemmas.{or_left, is_same_number}
-use Rattle.scj_base.specs.declared.places.Pos.{Pos}
+use Rattle.scj_base.specs.declared.positions.Position.{Position}
 use Rattle.scj_tree.specs.declared.nodes.Node.{Node}
 use Rattle.scj_tree.specs.declared.nodes.Node.TheVariants.{Flags, DefineScope, TypeArgument}
 use Rattle.scj_tree.specs.declared.readings.FlagSet.{FlagSet}
@@ -80,16 +80,16 @@ same_children f g s =
     ∙ ap (λ (o : Option ℕ). optional g.define_scope ++ (optional o ++ optional f.runs_in)) (sym s.scope)
     ∙ ap (λ (o : Option ℕ). optional g.define_scope ++ (optional g.scope ++ optional o)) (sym s.runs_in)
 
-has_place : (p : Pos) (o : Option Pos) → (elim o as (λ _. Option Pos) [ None ↦ Some p | Some q ↦ Some q ]) ≡ None → ⊥
+has_place : (p : Position) (o : Option Position) → (elim o as (λ _. Option Position) [ None ↦ Some p | Some q ↦ Some q ]) ≡ None → ⊥
 has_place p None e = cc (e)
 has_place p (Some q) e = cc (e)
 
-placed_is : (p : Pos) (flags : FlagSet) → (placed p flags).position ≡ None → ⊥
+placed_is : (p : Position) (flags : FlagSet) → (placed p flags).position ≡ None → ⊥
 unfolding placed
 placed_is p flags e = has_place p flags.position e
 
 -- a modifier more
-modified_sorted : {N N1 : List Node} (p : Pos) (f g : FlagSet) → SameNodes f g → ReadsFlags N N1 f → ReadsFlags N N1 (placed p g)
+modified_sorted : {N N1 : List Node} (p : Position) (f g : FlagSet) → SameNodes f g → ReadsFlags N N1 f → ReadsFlags N N1 (placed p g)
 unfolding placed
 modified_sorted {N} {N1} p f g s r =
     record {
@@ -148,7 +148,7 @@ three_rows : (child : ℕ) (d s r : Option ℕ) → is_among child (optional d +
 three_rows child d s r =
     among_both child (optional d) (optional s ++ optional r) ∙ ap (λ t. is_among child (optional d) || t) (among_both child (optional s) (optional r))
 
-scoped : {N N1 N2 : List Node} {flags : FlagSet} {id : ℕ} (p : Pos) → flags.scope ≡ None → ReadsFlags N N1 flags → Reads is_scope_name N1 N2 id → ReadsFlags N N2 (with_scope id (placed p flags))
+scoped : {N N1 N2 : List Node} {flags : FlagSet} {id : ℕ} (p : Position) → flags.scope ≡ None → ReadsFlags N N1 flags → Reads is_scope_name N1 N2 id → ReadsFlags N N2 (with_scope id (placed p flags))
 unfolding with_scope placed
 scoped {flags = flags} {id = id} p e r x =
     record {
@@ -166,7 +166,7 @@ scoped {flags = flags} {id = id} p e r x =
       runs_in = option_later is_scope_name x.goes flags.runs_in r.runs_in;
     }
 
-running : {N N1 N2 : List Node} {flags : FlagSet} {id : ℕ} (p : Pos) → flags.runs_in ≡ None → ReadsFlags N N1 flags → Reads is_scope_name N1 N2 id → ReadsFlags N N2 (with_runs_in id (placed p flags))
+running : {N N1 N2 : List Node} {flags : FlagSet} {id : ℕ} (p : Position) → flags.runs_in ≡ None → ReadsFlags N N1 flags → Reads is_scope_name N1 N2 id → ReadsFlags N N2 (with_runs_in id (placed p flags))
 unfolding with_runs_in placed
 running {flags = flags} {id = id} p e r x =
     record {
@@ -188,7 +188,7 @@ running {flags = flags} {id = id} p e r x =
     moved_behind child true s b d e = ap (λ t. t || b) (sym e)
     moved_behind child false s b d e = moved_last s b d e
 
-defining : {N N1 N2 : List Node} {flags : FlagSet} {id : ℕ} (p : Pos) → flags.define_scope ≡ None → ReadsFlags N N1 flags → Reads is_define_scope N1 N2 id → ReadsFlags N N2 (with_define_scope id (placed p flags))
+defining : {N N1 N2 : List Node} {flags : FlagSet} {id : ℕ} (p : Position) → flags.define_scope ≡ None → ReadsFlags N N1 flags → Reads is_define_scope N1 N2 id → ReadsFlags N N2 (with_define_scope id (placed p flags))
 unfolding with_define_scope placed
 defining {flags = flags} {id = id} p e r x =
     record {
@@ -206,7 +206,7 @@ defining {flags = flags} {id = id} p e r x =
       runs_in = option_later is_scope_name x.goes flags.runs_in r.runs_in;
     }
 
-define : {N N1 N2 : List Node} {first second : ℕ} (p : Pos) (parent_first : Bool) → Reads is_scope_name N N1 first → Reads is_scope_name N1 N2 second → Reads is_define_scope N (put N2 (DefineScope p first second parent_first)) (next N2)
+define : {N N1 N2 : List Node} {first second : ℕ} (p : Position) (parent_first : Bool) → Reads is_scope_name N N1 first → Reads is_scope_name N1 N2 second → Reads is_define_scope N (put N2 (DefineScope p first second parent_first)) (next N2)
 unfolding HasRightChildren children is_define_scope
 define {first = first} {second = second} p parent_first a b = made is_define_scope (DefineScope p first second parent_first) (goes_then a.goes b.goes) refl (of_later is_scope_name b.goes a.is, b.is)
 
@@ -243,13 +243,13 @@ flags_sorted {N = N} {N1 = N1} {flags = flags} d = go (has_effect flags) refl fl
     r : ReadsFlags N N1 flags
     r = row_sorted d
 
-    row : Pos → Node
+    row : Position → Node
     row p = Flags p flags.define_scope flags.scope flags.runs_in flags.is_static flags.is_abstract flags.is_synchronized
 
-    flag_node : Bool → Option Pos → Option Node
+    flag_node : Bool → Option Position → Option Node
     flag_node t o = if t then (elim o as (λ _. Option Node) [ None ↦ None | Some p ↦ Some (row p) ]) else None
 
-    go : (t : Bool) → has_effect flags ≡ t → (o : Option Pos) → flags.position ≡ o
+    go : (t : Bool) → has_effect flags ≡ t → (o : Option Position) → flags.position ≡ o
         → ReadsOption is_flags N (elim (flag_node t o) as (λ _. List Node) [ None ↦ N1 | Some node ↦ put N1 node ])
         (elim (flag_node t o) as (λ _. Option ℕ) [ None ↦ None | Some node ↦ Some (next N1) ])
     go false e o f = record { goes = goes_as r.ids [] (no_element r.ids (λ child. r.same child ∙ effectless_row flags e child)) r.goes; is = tt }
@@ -260,7 +260,7 @@ flags_sorted {N = N} {N1 = N1} {flags = flags} d = go (has_effect flags) refl fl
 
 -- ---- types
 
-argument_made : (N : List Node) (q : Pos) (v : List ℕ) → Reads is_type_argument N (put N (TypeArgument q v)) (next N)
+argument_made : (N : List Node) (q : Position) (v : List ℕ) → Reads is_type_argument N (put N (TypeArgument q v)) (next N)
 unfolding HasRightChildren children is_type_argument
 argument_made N q v = made is_type_argument (TypeArgument q v) stays refl tt
 

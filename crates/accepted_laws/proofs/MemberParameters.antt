@@ -3,7 +3,7 @@ use Rattle.std.proofs.Common.{◌≡◌, ℕ, ◌+◌, ◌<◌, ◌≤◌, zero,
 use Rattle.std.proofs.lemmas.Bool.Decides.{nat_tests}
 use Rattle.std.proofs.lemmas.Option.{slice_get_within}
 use Rattle.std.specs.List.{cons_option}
-use Rattle.scj_base.specs.declared.places.Pos.{Pos}
+use Rattle.scj_base.specs.declared.positions.Position.{Position}
 use Rattle.scj_tree.specs.declared.nodes.Node.{Node}
 use Rattle.scj_tree.specs.declared.nodes.Node.TheVariants.{Flags, DefineScope, ScopeName, TypeArgument, IntType, BooleanType, ClassType, VoidType, LongType, Method as MethodNode, Constructor, Parameters, Parameter, Local, LocalWithValue}
 use Rattle.scj_tree.specs.Forest.{Forest, IsForest}
@@ -220,7 +220,7 @@ listed_parameters nodes (x ∷ ids) h = go (variable_at nodes x) (made h.0) (lis
 -- the list of parameters of a member: where it stands, and what stands before it
 record HasList (nodes : List Node) (node : Node) (list : List ℕ) : Type 0 where
   q : ℕ
-  position : Pos
+  position : Position
   is_there : slice_get nodes q ≡ Some (Parameters position list)
   before : List ℕ
   behind : List ℕ
@@ -348,7 +348,7 @@ module _ (forest : Forest) (whole : IsForest forest) (sorted : IsWellSorted fore
   no_flags_member (Flags position define_scope scope runs_in is_static is_abstract is_synchronized) e = absurd (true≢false (sym e))
   no_flags_member _ e = refl
 
-  parameters_plain : (position : Pos) (list : List ℕ) → (is_flags (Parameters position list) ≡ false) × (is_member (Parameters position list) ≡ false) × (children (Parameters position list) ≡ list)
+  parameters_plain : (position : Position) (list : List ℕ) → (is_flags (Parameters position list) ≡ false) × (is_member (Parameters position list) ≡ false) × (children (Parameters position list) ≡ list)
   unfolding is_flags is_member children
   parameters_plain position list = (refl, refl, refl)
 
@@ -411,12 +411,12 @@ module _ (forest : Forest) (whole : IsForest forest) (sorted : IsWellSorted fore
   without : (b : ℕ) → body_parameters p b ≡ [] → BeginWithParameters p b
   without b e = record { others = variables_of p b; is = ap (λ (ds : List Declared). map (λ (d : Declared). d.node) ds ++ variables_of p b) (sym e) }
 
-  parameters_at_list : (q : ℕ) (node : Node) → slice_get nodes q ≡ Some node → is_parameter_list node ≡ true → HasRightChildren nodes node → (position : Pos) × (list : List ℕ) × (slice_get nodes q ≡ Some (Parameters position list)) × AllOf is_parameter nodes list
+  parameters_at_list : (q : ℕ) (node : Node) → slice_get nodes q ≡ Some node → is_parameter_list node ≡ true → HasRightChildren nodes node → (position : Position) × (list : List ℕ) × (slice_get nodes q ≡ Some (Parameters position list)) × AllOf is_parameter nodes list
   unfolding is_parameter_list HasRightChildren
   parameters_at_list q (Parameters position list) there e h = (position, list, there, h)
   parameters_at_list q _ there e h = absurd (true≢false (sym e))
 
-  list_node : (q : ℕ) → Of is_parameter_list nodes q → (position : Pos) × (list : List ℕ) × (slice_get nodes q ≡ Some (Parameters position list)) × AllOf is_parameter nodes list
+  list_node : (q : ℕ) → Of is_parameter_list nodes q → (position : Position) × (list : List ℕ) × (slice_get nodes q ≡ Some (Parameters position list)) × AllOf is_parameter nodes list
   list_node q o = parameters_at_list q o.node o.is_there o.passes (sorted.each q o.node o.is_there)
 
   no_parameters : (b : ℕ) → slice_get nodes b ≡ None → body_parameters p b ≡ []
@@ -427,7 +427,7 @@ module _ (forest : Forest) (whole : IsForest forest) (sorted : IsWellSorted fore
   unfolding body_parameters declarations_of
   parameters_are b node there = ap (λ (o : Option Node). unwrap_or (option_and_then (read nodes (parameters_of nodes)) (option_and_then parameter_list o)) []) there
 
-  listed_are : (q : ℕ) (position : Pos) (list : List ℕ) → slice_get nodes q ≡ Some (Parameters position list) → unwrap_or (read nodes (parameters_of nodes) q) [] ≡ filter_map (variable_at nodes) list
+  listed_are : (q : ℕ) (position : Position) (list : List ℕ) → slice_get nodes q ≡ Some (Parameters position list) → unwrap_or (read nodes (parameters_of nodes) q) [] ≡ filter_map (variable_at nodes) list
   unfolding parameters_of
   listed_are q position list e = ap (λ (o : Option Node). unwrap_or (option_and_then (parameters_of nodes) o) []) e
 

@@ -2,7 +2,7 @@
 use Rattle.std.proofs.Common.{◌≡◌, ℕ, ◌+◌, ◌<◌, zero, suc, List, [], ◌∷◌, ◌++◌, length, map, refl, sym, ap, ◌∙◌, subst, arith, Option, Some, None, Bool, true, false, not, ◌&&◌, slice_get, ◌==◌, if◌then◌else◌, ◌⊎◌, inl, inr}
 use Rattle.std.proofs.lemmas.Bool.Decides.{nat_tests}
 use Rattle.scj_base.specs.declared.findings.Rule.{Rule}
-use Rattle.scj_base.specs.declared.places.Pos.{Pos}
+use Rattle.scj_base.specs.declared.positions.Position.{Position}
 use Rattle.scj_builtins.specs.declared.classes.FrameworkClass.{FrameworkClass}
 use Rattle.scj_builtins.specs.Framework.{framework_classes, object}
 use Rattle.scj_tree.specs.declared.nodes.Node.{Node}
@@ -36,7 +36,7 @@ pub at_class_unbroken : (forest : Forest) → IsAccepted forest → (class : ℕ
 at_class_unbroken forest a class row c there is =
     let n = no_break_at_class forest a class row c there is in no_class_break (declarations_of forest) class row c n.no_class_rule
 
-pub none_broken : {A : Type 0} (position : A → Pos) (rule : Rule) (xs : List A) → broken_at_each position rule xs ≡ [] → xs ≡ []
+pub none_broken : {A : Type 0} (position : A → Position) (rule : Rule) (xs : List A) → broken_at_each position rule xs ≡ [] → xs ≡ []
 none_broken position rule [] e = refl
 none_broken position rule (x ∷ xs) e = absurd (cc (e))
 

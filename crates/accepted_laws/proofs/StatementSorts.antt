@@ -1,7 +1,7 @@
 -- The children of a statement that was read are of the right sorts.
 use Rattle.std.specs.Prelude.{List, None, Option, [], false, ℕ, ◌++◌, ◌∷◌}
 use Rattle.std.proofs.Common.{refl, append_assoc}
-use Rattle.scj_base.specs.declared.places.Pos.{Pos}
+use Rattle.scj_base.specs.declared.positions.Position.{Position}
 use Rattle.scj_tree.specs.declared.nodes.Node.{Node}
 use Rattle.scj_tree.specs.declared.nodes.Node.TheVariants.{LocalWithValue, Assign, Binary, Parenthesized, SimpleName, Number}
 use Rattle.scj_tree.specs.Lexemes.{Lexeme}
@@ -13,29 +13,29 @@ use Rattle.accepted_laws.proofs.SortSteps.{GoesOn, Reads, ReadsAll, made, stays,
 use Rattle.accepted_laws.proofs.ExpressionSorts.{level_sorted, post_sorted, target_is, invocation_is}
 use Rattle.accepted_laws.proofs.HeaderSorts.{flags_sorted, type_sorted}
 
-name_sorted : (N : List Node) (q : Pos) (w : List ℕ) → GoesOn N (put N (SimpleName q w)) (next N ∷ [])
+name_sorted : (N : List Node) (q : Position) (w : List ℕ) → GoesOn N (put N (SimpleName q w)) (next N ∷ [])
 unfolding HasRightChildren children
 name_sorted N q w = put_on (SimpleName q w) stays tt
 
-name_target : (N : List Node) (q : Pos) (w : List ℕ) → Of is_target (put N (SimpleName q w)) (next N)
+name_target : (N : List Node) (q : Position) (w : List ℕ) → Of is_target (put N (SimpleName q w)) (next N)
 unfolding is_target
 name_target N q w = of_last is_target N (SimpleName q w) refl
 
-name_value : (N : List Node) (q : Pos) (w : List ℕ) → Of is_expression (put N (SimpleName q w)) (next N)
+name_value : (N : List Node) (q : Position) (w : List ℕ) → Of is_expression (put N (SimpleName q w)) (next N)
 unfolding is_expression
 name_value N q w = of_last is_expression N (SimpleName q w) refl
 
-second_sorted : (N : List Node) (q : Pos) (w : List ℕ) → GoesOn (put N (SimpleName q w)) (name_twice N q w) (second_name N q w ∷ [])
+second_sorted : (N : List Node) (q : Position) (w : List ℕ) → GoesOn (put N (SimpleName q w)) (name_twice N q w) (second_name N q w ∷ [])
 second_sorted N q w = name_sorted (put N (SimpleName q w)) q w
 
-twice_target : (N : List Node) (q : Pos) (w : List ℕ) → Of is_target (name_twice N q w) (next N)
+twice_target : (N : List Node) (q : Position) (w : List ℕ) → Of is_target (name_twice N q w) (next N)
 twice_target N q w = of_later is_target (second_sorted N q w) (name_target N q w)
 
-twice_value : (N : List Node) (q : Pos) (w : List ℕ) → Of is_expression (name_twice N q w) (second_name N q w)
+twice_value : (N : List Node) (q : Position) (w : List ℕ) → Of is_expression (name_twice N q w) (second_name N q w)
 twice_value N q w = name_value (put N (SimpleName q w)) q w
 
 -- the operation on the name and a value, and the assignment of it
-operated_sorted : {N M1 M : List Node} {target left right : ℕ} (p : Pos) (op : ℕ) → GoesOn N M1 (target ∷ []) → GoesOn M1 M (left ∷ right ∷ []) → Of is_target M target → Of is_expression M left → Of is_expression M right
+operated_sorted : {N M1 M : List Node} {target left right : ℕ} (p : Position) (op : ℕ) → GoesOn N M1 (target ∷ []) → GoesOn M1 M (left ∷ right ∷ []) → Of is_target M target → Of is_expression M left → Of is_expression M right
     → Reads is_assignment N (put (operation M p op left right) (Assign p target (next M))) (next (operation M p op left right))
 unfolding HasRightChildren children is_expression is_assignment
 operated_sorted {N} {M1} {M} {target} {left} {right} p op g h t l r =

@@ -1,7 +1,7 @@
 -- In an accepted program each variable and each field has a type, and so has each result but `long` (C9).
 use Rattle.std.proofs.Common.{◌≡◌, ℕ, List, [], refl, sym, ap, ◌∙◌, subst, Option, Some, None, Bool, true, false, not, true≢false, ◌⊎◌, inl, inr, option_and_then, option_map, unwrap_or, is_some, slice_get}
 use Rattle.scj_base.specs.declared.findings.Rule.TheVariants.{C9}
-use Rattle.scj_base.specs.declared.places.Pos.{Pos}
+use Rattle.scj_base.specs.declared.positions.Position.{Position}
 use Rattle.scj_tree.specs.declared.nodes.Node.{Node}
 use Rattle.scj_tree.specs.declared.nodes.Node.TheVariants.{IntType, BooleanType, ClassType, VoidType, LongType, Field, Method, Parameter, Local, LocalWithValue, Cast, New, NewArray}
 use Rattle.scj_tree.specs.Forest.{Forest}
@@ -41,14 +41,14 @@ module _ (p : Declarations) where
   written_at : (t : ℕ) (node : Node) → slice_get p.nodes t ≡ Some node → written_type p t ≡ type_written p.names (unwrap_or (type_of_node node) void_type)
   written_at t node there = ap (λ (o : Option Node). type_written p.names (unwrap_or (option_and_then type_of_node o) void_type)) there
 
-  class_type_made : (t : ℕ) (position : Pos) (name : List ℕ) (argument : Option ℕ) (is_array : Bool) → slice_get p.nodes t ≡ Some (ClassType position name argument is_array) → HasNumber (class_number p.names name) → HasType (written_type p t)
+  class_type_made : (t : ℕ) (position : Position) (name : List ℕ) (argument : Option ℕ) (is_array : Bool) → slice_get p.nodes t ≡ Some (ClassType position name argument is_array) → HasNumber (class_number p.names name) → HasType (written_type p t)
   unfolding type_of_node type_written
   class_type_made t position name argument true there n =
       (ClassArray n.0, written_at t (ClassType position name argument true) there ∙ ap (λ (o : Option ℕ). option_map (λ class. ClassArray class) o) n.1)
   class_type_made t position name argument false there n =
       (ClassTy n.0, written_at t (ClassType position name argument false) there ∙ ap (λ (o : Option ℕ). option_map (λ class. ClassTy class) o) n.1)
 
-  named_type : (t : ℕ) (position : Pos) (name : List ℕ) (argument : Option ℕ) (is_array : Bool) → slice_get p.nodes t ≡ Some (ClassType position name argument is_array) → at_node p (c9_type p) t ≡ [] → HasNumber (class_number p.names name)
+  named_type : (t : ℕ) (position : Position) (name : List ℕ) (argument : Option ℕ) (is_array : Bool) → slice_get p.nodes t ≡ Some (ClassType position name argument is_array) → at_node p (c9_type p) t ≡ [] → HasNumber (class_number p.names name)
   unfolding c9_type
   named_type t position name argument is_array there e =
       number_of_held (class_number p.names name) (is_type_class p)
@@ -139,11 +139,11 @@ module _ (forest : Forest) (accepted : IsAccepted forest) (sorted : IsWellSorted
       go (Some node) there k = result_typed id node m (children_at id node there) (c9_unbroken id node there) k
 
   -- a class is named after `new` and in a cast
-  pub new_names_class : (id : ℕ) (position name_position : Pos) (name : List ℕ) (arguments : List ℕ) → slice_get p.nodes id ≡ Some (New position name_position name arguments) → HasNumber (class_number p.names name)
+  pub new_names_class : (id : ℕ) (position name_position : Position) (name : List ℕ) (arguments : List ℕ) → slice_get p.nodes id ≡ Some (New position name_position name arguments) → HasNumber (class_number p.names name)
   unfolding c9
   new_names_class id position name_position name arguments there = numbered (class_number p.names name) (right (names_no_class p name) C9 name_position (c9_unbroken id (New position name_position name arguments) there))
 
-  pub cast_names_class : (id : ℕ) (position name_position : Pos) (name : List ℕ) (operand : ℕ) → slice_get p.nodes id ≡ Some (Cast position name_position name operand) → HasNumber (class_number p.names name)
+  pub cast_names_class : (id : ℕ) (position name_position : Position) (name : List ℕ) (operand : ℕ) → slice_get p.nodes id ≡ Some (Cast position name_position name operand) → HasNumber (class_number p.names name)
   unfolding c9
   cast_names_class id position name_position name operand there = numbered (class_number p.names name) (right (names_no_class p name) C9 name_position (c9_unbroken id (Cast position name_position name operand) there))
 
@@ -157,7 +157,7 @@ module _ (forest : Forest) (accepted : IsAccepted forest) (sorted : IsWellSorted
       (ClassArray n.0, ap (option_and_then array_of) (written_at p t (ClassType position name argument false) there ∙ ap (λ (o : Option ℕ). option_map (λ class. ClassTy class) o) n.1))
   element_made t _ there k e = absurd (true≢false (sym k))
 
-  pub new_array_has_type : (id : ℕ) (position : Pos) (element size : ℕ) → slice_get p.nodes id ≡ Some (NewArray position element size) → HasType (option_and_then array_of (written_type p element))
+  pub new_array_has_type : (id : ℕ) (position : Position) (element size : ℕ) → slice_get p.nodes id ≡ Some (NewArray position element size) → HasType (option_and_then array_of (written_type p element))
   unfolding c9 HasRightChildren
   new_array_has_type id position element size there =
       let o = (children_at id (NewArray position element size) there).0 in

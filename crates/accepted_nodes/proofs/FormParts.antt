@@ -1,6 +1,6 @@
 -- The parts of a framework's form stand where the form is written: as arguments of a super call, or of a part of the form.
 use Rattle.std.proofs.Common.{◌≡◌, ℕ, List, [], ◌∷◌, length, refl, sym, ap, ◌∙◌, subst, Option, Some, None, Bool, true, false, not, ◌&&◌, true≢false, ◌⊎◌, inl, inr, option_and_then, option_map, slice_get, if◌then◌else◌, ◌==◌}
-use Rattle.scj_base.specs.declared.places.Pos.{Pos}
+use Rattle.scj_base.specs.declared.positions.Position.{Position}
 use Rattle.scj_builtins.specs.Framework.{periodic_handler, mission_sequencer, periodic_parameters, aperiodic_parameters, relative_time}
 use Rattle.scj_tree.specs.declared.nodes.Node.{Node}
 use Rattle.scj_tree.specs.declared.nodes.Node.TheVariants.{SuperCall, New, Constructor}
@@ -43,13 +43,13 @@ if_some false o y e = absurd (cc (e))
 -- the node at which a super call is written
 pub record IsSuperCall (p : Declarations) (arguments : List ℕ) : Type 0 where
   pub node : ℕ
-  pub position : Pos
+  pub position : Position
   pub is_there : slice_get p.nodes node ≡ Some (SuperCall position arguments)
 
 -- `new` of a form's class at a node
 pub record IsNewAt (p : Declarations) (class : ℕ) (id : ℕ) (arguments : List ℕ) : Type 0 where
-  pub position : Pos
-  pub name_position : Pos
+  pub position : Position
+  pub name_position : Position
   pub name : List ℕ
   pub is_there : slice_get p.nodes id ≡ Some (New position name_position name arguments)
   pub names : class_number p.names name ≡ Some class

@@ -4,7 +4,7 @@ use Rattle.std.proofs.Common.{◌≡◌, ℕ, ◌+◌, ◌<◌, List, [], ◌∷
 use Rattle.std.proofs.lemmas.Option.{slice_get_within}
 use Rattle.scj_base.specs.Bytes.{is_same}
 use Rattle.scj_base.specs.declared.findings.Rule.TheVariants.{T10, T14}
-use Rattle.scj_base.specs.declared.places.Pos.{Pos}
+use Rattle.scj_base.specs.declared.positions.Position.{Position}
 use Rattle.scj_builtins.specs.declared.kinds.GivesKind.{GivesKind}
 use Rattle.scj_builtins.specs.declared.kinds.GivesKind.TheVariants.{Nothing, Number, Truth}
 use Rattle.scj_builtins.specs.declared.methods.FrameworkMethod.{FrameworkMethod}
@@ -203,7 +203,7 @@ module _ (forest : Forest) (accepted : IsAccepted forest) (whole : IsForest fore
       (t.0, ap (λ (m : DeclaredMethod). type_written p.names m.declared.declared_type) (sym m.2) ∙ t.1, t.2)
 
   -- T14: a user's method whose result is `long` is a size method
-  method_form : (id result_type : ℕ) (position : Pos) (name : List ℕ) (flags parameters body : Option ℕ) → type_breaks p (type_at_node p) id (Method position name flags result_type parameters body) ≡ [] → broken (misfits_long p id name result_type body) T14 position ≡ []
+  method_form : (id result_type : ℕ) (position : Position) (name : List ℕ) (flags parameters body : Option ℕ) → type_breaks p (type_at_node p) id (Method position name flags result_type parameters body) ≡ [] → broken (misfits_long p id name result_type body) T14 position ≡ []
   unfolding type_breaks t1 t2 t3 t4 t5 t6 t7 t8 t9 t10 t11 t12 t13 t14
   method_form id result_type position name flags parameters None e = e
   method_form id result_type position name flags parameters (Some body) e = (both_empty (broken (ends_without_return p result_type body) T10 position) (broken (misfits_long p id name result_type (Some body)) T14 position) e).1

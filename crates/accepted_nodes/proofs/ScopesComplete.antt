@@ -1,6 +1,6 @@
 -- In an accepted program each expression in a body whose value is a reference has a static scope: no scope is missing.
 use Rattle.std.proofs.Common.{◌≡◌, ℕ, ◌<◌, zero, suc, List, [], ◌∷◌, refl, sym, ap, ◌∙◌, arith, Option, Some, None, Bool, true, false, not, ◌||◌, ◌&&◌, true≢false, inl, inr, option_and_then, option_map, slice_get, if◌then◌else◌, ◌==◌}
-use Rattle.scj_base.specs.declared.places.Pos.{Pos}
+use Rattle.scj_base.specs.declared.positions.Position.{Position}
 use Rattle.scj_tree.specs.declared.nodes.Node.{Node}
 use Rattle.scj_tree.specs.declared.nodes.Node.TheVariants.{Binary, Unary, Cast, Parenthesized, SimpleName, FieldAccess, Call, Element, New, NewArray, Text, Number, True, False, Null, This as ThisNode}
 use Rattle.scj_tree.specs.Forest.{Forest, IsForest}
@@ -193,7 +193,7 @@ module _ (forest : Forest) (accepted : IsAccepted forest) (whole : IsForest fore
   scoped_at : (b c id x : ℕ) (t : Ty) → ScopedBelow b c id → ValueAt forest accepted whole sorted b c id x → types x ≡ Some t → is_reference t ≡ true → HasScope (scopes x)
   scoped_at b c id x t below v e r = below x v.node t v.less v.is_there v.inside v.value e r
 
-  parenthesized_scoped : (id : ℕ) (position : Pos) (inner : ℕ) → Scoped id (Parenthesized position inner)
+  parenthesized_scoped : (id : ℕ) (position : Position) (inner : ℕ) → Scoped id (Parenthesized position inner)
   unfolding type_of scope_of children is_argument is_expression object_of takes_parts HasRightChildren
   parenthesized_scoped id position inner b c t there inside below e r =
       let s = sorted.each id (Parenthesized position inner) there in
@@ -207,7 +207,7 @@ module _ (forest : Forest) (accepted : IsAccepted forest) (whole : IsForest fore
       go true e = refl
       go false e = absurd (true≢false e)
 
-  cast_scoped : (id : ℕ) (position name_position : Pos) (name : List ℕ) (operand : ℕ) → Scoped id (Cast position name_position name operand)
+  cast_scoped : (id : ℕ) (position name_position : Position) (name : List ℕ) (operand : ℕ) → Scoped id (Cast position name_position name operand)
   unfolding type_of scope_of children is_argument is_expression object_of takes_parts HasRightChildren scope_in_class
   cast_scoped id position name_position name operand b c t there inside below e r =
       let s = sorted.each id (Cast position name_position name operand) there in
@@ -227,7 +227,7 @@ module _ (forest : Forest) (accepted : IsAccepted forest) (whole : IsForest fore
   element_of_array (ClassArray class) t scope e r h = scope_or_has (class_scope p class) (option_map beside scope) (known class) (has_beside scope (h refl))
   element_of_array _ t scope e r h = absurd (cc (e))
 
-  element_scoped : (id : ℕ) (position : Pos) (array index : ℕ) → Scoped id (Element position array index)
+  element_scoped : (id : ℕ) (position : Position) (array index : ℕ) → Scoped id (Element position array index)
   unfolding type_of scope_of children is_argument is_expression object_of takes_parts HasRightChildren
   element_scoped id position array index b c t there inside below e r =
       let s = sorted.each id (Element position array index) there in
@@ -237,7 +237,7 @@ module _ (forest : Forest) (accepted : IsAccepted forest) (whole : IsForest fore
       let h = element_of_array a.0 t (scopes array) i.2 r (λ k. scoped_at b c id array a.0 below v a.1 k) in
       (h.0, ap (option_and_then (scope_of_element p (scopes array))) a.1 ∙ h.1)
 
-  new_scoped : (id : ℕ) (position name_position : Pos) (name arguments : List ℕ) → Scoped id (New position name_position name arguments)
+  new_scoped : (id : ℕ) (position name_position : Position) (name arguments : List ℕ) → Scoped id (New position name_position name arguments)
   unfolding scope_of scope_of_new
   new_scoped id position name_position name arguments b c t there inside below e r =
       let n = new_names_class forest accepted sorted id position name_position name arguments (at_p forest accepted whole sorted id _ there) in
@@ -271,7 +271,7 @@ module _ (forest : Forest) (accepted : IsAccepted forest) (whole : IsForest fore
   unfolding is_reference
   class_is_reference u class e = ap is_reference e
 
-  access_scoped : (id : ℕ) (position : Pos) (name : List ℕ) (object : ℕ) → Scoped id (FieldAccess position name object)
+  access_scoped : (id : ℕ) (position : Position) (name : List ℕ) (object : ℕ) → Scoped id (FieldAccess position name object)
   unfolding type_of scope_of children is_argument is_expression object_of takes_parts HasRightChildren
   access_scoped id position name object b c t there inside below e r =
       let s = sorted.each id (FieldAccess position name object) there in
@@ -354,7 +354,7 @@ module _ (forest : Forest) (accepted : IsAccepted forest) (whole : IsForest fore
   pub arguments_typed : (b c id : ℕ) (ids : List ℕ) → ((x : ℕ) → is_among x ids ≡ true → ValueAt forest accepted whole sorted b c id x) → (ts : List Ty) × (all_types types ids ≡ Some ts)
   arguments_typed b c id ids h = all_typed forest accepted whole sorted ids (λ x among. (let v = h x among in value_has_type forest accepted whole sorted b c x v.node v.is_there v.inside v.value))
 
-  call_scoped : (id : ℕ) (position : Pos) (name : List ℕ) (object : Option ℕ) (arguments : List ℕ) → Scoped id (Call position name object arguments)
+  call_scoped : (id : ℕ) (position : Position) (name : List ℕ) (object : Option ℕ) (arguments : List ℕ) → Scoped id (Call position name object arguments)
   unfolding type_of scope_of children is_argument is_expression object_of takes_parts HasRightChildren call_receiver receiver_scope
   call_scoped id position name None arguments b c t there inside below e r =
       let s = sorted.each id (Call position name None arguments) there in

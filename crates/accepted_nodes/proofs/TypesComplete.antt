@@ -1,7 +1,7 @@
 -- In an accepted program each expression in a body has a type: no type is missing.
 use Rattle.std.proofs.Common.{◌≡◌, ℕ, ◌<◌, zero, suc, List, [], ◌∷◌, refl, sym, ap, ◌∙◌, arith, Option, Some, None, Bool, true, false, not, ◌||◌, ◌&&◌, true≢false, ◌⊎◌, inl, inr, option_and_then, option_map, is_some, slice_get, if◌then◌else◌, ◌==◌}
 use Rattle.scj_base.specs.Bytes.{is_same}
-use Rattle.scj_base.specs.declared.places.Pos.{Pos}
+use Rattle.scj_base.specs.declared.positions.Position.{Position}
 use Rattle.scj_tree.specs.declared.nodes.Node.{Node}
 use Rattle.scj_tree.specs.declared.nodes.Node.TheVariants.{Binary, Unary, Cast, Parenthesized, SimpleName, FieldAccess, Call, Element, New, NewArray, Text, Number, True, False, Null, This as ThisNode}
 use Rattle.scj_tree.specs.Forest.{Forest, IsForest}
@@ -244,7 +244,7 @@ module _ (forest : Forest) (accepted : IsAccepted forest) (whole : IsForest fore
   abbrev Typed : ℕ → Node → Type 0
   Typed id node = (b c : ℕ) → slice_get forest.nodes id ≡ Some node → Inside p b c id → TypedBelow b c id → HasType (type_of p types id node)
 
-  binary_typed : (id : ℕ) (position : Pos) (operator left operand : ℕ) → Typed id (Binary position operator left operand)
+  binary_typed : (id : ℕ) (position : Position) (operator left operand : ℕ) → Typed id (Binary position operator left operand)
   unfolding type_of children is_argument is_expression object_of takes_parts HasRightChildren
   binary_typed id position operator left operand b c there inside below =
       let s = sorted.each id (Binary position operator left operand) there in
@@ -252,14 +252,14 @@ module _ (forest : Forest) (accepted : IsAccepted forest) (whole : IsForest fore
       let y = typed_child b c id _ there inside below refl operand (same_second left operand []) (of_expression operand s.1) refl refl in
       both_fit (types left) (types operand) (binary_type p.classes operator) x y (right_binary p types id position operator left operand (unbroken id _ there))
 
-  unary_typed : (id : ℕ) (position : Pos) (operator operand : ℕ) → Typed id (Unary position operator operand)
+  unary_typed : (id : ℕ) (position : Position) (operator operand : ℕ) → Typed id (Unary position operator operand)
   unfolding type_of children is_argument is_expression object_of takes_parts HasRightChildren
   unary_typed id position operator operand b c there inside below =
       let s = sorted.each id (Unary position operator operand) there in
       let x = typed_child b c id _ there inside below refl operand (same_first operand []) (of_expression operand s) refl refl in
       one_fits (types operand) (unary_type operator) x (right_unary p types id position operator operand (unbroken id _ there))
 
-  cast_typed : (id : ℕ) (position name_position : Pos) (name : List ℕ) (operand : ℕ) → Typed id (Cast position name_position name operand)
+  cast_typed : (id : ℕ) (position name_position : Position) (name : List ℕ) (operand : ℕ) → Typed id (Cast position name_position name operand)
   unfolding type_of children is_argument is_expression object_of takes_parts HasRightChildren
   cast_typed id position name_position name operand b c there inside below =
       let s = sorted.each id (Cast position name_position name operand) there in
@@ -267,7 +267,7 @@ module _ (forest : Forest) (accepted : IsAccepted forest) (whole : IsForest fore
       let n = cast_names_class forest accepted sorted id position name_position name operand (at_p id _ there) in
       (ClassTy n.0, ap (option_and_then (λ t. class_type_named p name)) x.1 ∙ ap (option_map (λ class. ClassTy class)) n.1)
 
-  element_typed : (id : ℕ) (position : Pos) (array index : ℕ) → Typed id (Element position array index)
+  element_typed : (id : ℕ) (position : Position) (array index : ℕ) → Typed id (Element position array index)
   unfolding type_of children is_argument is_expression object_of takes_parts HasRightChildren
   element_typed id position array index b c there inside below =
       let s = sorted.each id (Element position array index) there in
@@ -277,7 +277,7 @@ module _ (forest : Forest) (accepted : IsAccepted forest) (whole : IsForest fore
       let t = element_there x.0 y.0 (sym (ap (λ (o : Option Ty). holds o (λ a. holds (types index) (λ i. not (is_array a && is_int i)))) x.1 ∙ ap (λ (o : Option Ty). holds o (λ i. not (is_array x.0 && is_int i))) y.1) ∙ r) in
       (t.0, ap (option_and_then (λ a. option_and_then (λ i. element_type a) (types index))) x.1 ∙ ap (option_and_then (λ i. element_type x.0)) y.1 ∙ t.1)
 
-  new_array_typed : (id : ℕ) (position : Pos) (element size : ℕ) → Typed id (NewArray position element size)
+  new_array_typed : (id : ℕ) (position : Position) (element size : ℕ) → Typed id (NewArray position element size)
   unfolding type_of children is_argument is_expression object_of takes_parts HasRightChildren
   new_array_typed id position element size b c there inside below =
       let s = sorted.each id (NewArray position element size) there in
@@ -285,13 +285,13 @@ module _ (forest : Forest) (accepted : IsAccepted forest) (whole : IsForest fore
       let t = new_array_has_type forest accepted sorted id position element size (at_p id _ there) in
       (t.0, ap (option_and_then (λ n. option_and_then array_of (written_type p element))) x.1 ∙ t.1)
 
-  parenthesized_typed : (id : ℕ) (position : Pos) (inner : ℕ) → Typed id (Parenthesized position inner)
+  parenthesized_typed : (id : ℕ) (position : Position) (inner : ℕ) → Typed id (Parenthesized position inner)
   unfolding type_of children is_argument is_expression object_of takes_parts HasRightChildren
   parenthesized_typed id position inner b c there inside below =
       let s = sorted.each id (Parenthesized position inner) there in
       typed_child b c id _ there inside below refl inner (same_first inner []) (of_expression inner s) refl refl
 
-  access_there : (id : ℕ) (position : Pos) (name : List ℕ) (object : ℕ) → Typed id (FieldAccess position name object)
+  access_there : (id : ℕ) (position : Position) (name : List ℕ) (object : ℕ) → Typed id (FieldAccess position name object)
   unfolding type_of children is_argument is_expression object_of takes_parts HasRightChildren
   access_there id position name object b c there inside below =
       let s = sorted.each id (FieldAccess position name object) there in
@@ -302,7 +302,7 @@ module _ (forest : Forest) (accepted : IsAccepted forest) (whole : IsForest fore
       (t.0, ap (option_and_then (λ r. access_type p r name)) r.1 ∙ t.1)
 
   -- a call that has a receiver, and whose arguments have types
-  called_there : (id : ℕ) (position : Pos) (name : List ℕ) (object : Option ℕ) (arguments : List ℕ) (r : Receiver) (ts : List Ty) → call_receiver p types id object ≡ Some r → all_types types arguments ≡ Some ts
+  called_there : (id : ℕ) (position : Position) (name : List ℕ) (object : Option ℕ) (arguments : List ℕ) (r : Receiver) (ts : List Ty) → call_receiver p types id object ≡ Some r → all_types types arguments ≡ Some ts
       → RightCall p types id object arguments name → HasType (type_of p types id (Call position name object arguments))
   unfolding type_of
   called_there id position name object arguments r ts e f w =
@@ -314,7 +314,7 @@ module _ (forest : Forest) (accepted : IsAccepted forest) (whole : IsForest fore
   pub all_of : (x : ℕ) (ids : List ℕ) → AllOf is_argument forest.nodes ids → is_among x ids ≡ true → Of is_argument forest.nodes x
   all_of x ids h e = among_of forest.nodes is_argument x ids h e
 
-  call_there : (id : ℕ) (position : Pos) (name : List ℕ) (object : Option ℕ) (arguments : List ℕ) → Typed id (Call position name object arguments)
+  call_there : (id : ℕ) (position : Position) (name : List ℕ) (object : Option ℕ) (arguments : List ℕ) → Typed id (Call position name object arguments)
   unfolding children is_argument is_expression object_of takes_parts HasRightChildren call_receiver
   call_there id position name None arguments b c there inside below =
       let s = sorted.each id (Call position name None arguments) there in
@@ -328,7 +328,7 @@ module _ (forest : Forest) (accepted : IsAccepted forest) (whole : IsForest fore
       let r = receiver_there object o.node o.is_there (object_typed b c id _ there inside below refl object (same_first object arguments) o refl) in
       called_there id position name (Some object) arguments r.0 ts.0 r.1 ts.1 (right_call p types id position name (Some object) arguments (unbroken id _ there))
 
-  new_there : (id : ℕ) (position name_position : Pos) (name arguments : List ℕ) → is_form_part p id ≡ false → Typed id (New position name_position name arguments)
+  new_there : (id : ℕ) (position name_position : Position) (name arguments : List ℕ) → is_form_part p id ≡ false → Typed id (New position name_position name arguments)
   unfolding type_of children is_argument is_expression object_of takes_parts HasRightChildren
   new_there id position name_position name arguments plain b c there inside below =
       let s = sorted.each id (New position name_position name arguments) there in

@@ -2,7 +2,7 @@
 -- it goes in type and scope.
 use Rattle.std.proofs.Common.{◌≡◌, ℕ, List, [], ◌++◌, refl, sym, ap, ◌∙◌, Option, Some, None, false, not, true≢false, option_and_then, option_map, slice_get}
 use Rattle.scj_base.specs.declared.findings.Rule.TheVariants.{T2, T7, T8, T13, E4}
-use Rattle.scj_base.specs.declared.places.Pos.{Pos}
+use Rattle.scj_base.specs.declared.positions.Position.{Position}
 use Rattle.scj_tree.specs.declared.nodes.Node.{Node}
 use Rattle.scj_tree.specs.declared.nodes.Node.TheVariants.{If, While, For, LocalWithValue, This as ThisNode}
 use Rattle.scj_tree.specs.Forest.{Forest, IsForest}
@@ -66,31 +66,31 @@ module _ (forest : Forest) (accepted : IsAccepted forest) where
       ∙ right (holds (type_at_node p condition) (λ t. not (is_boolean t))) T8 (position_at p.nodes condition) (both_empty (broken (holds (type_at_node p condition) (λ t. not (is_boolean t))) T8 (position_at p.nodes condition)) [] e).0)
 
   -- the condition of an `if` is boolean
-  pub if_condition : (id : ℕ) (position : Pos) (condition then_part : ℕ) (else_part : Option ℕ) (t : Ty) → slice_get p.nodes id ≡ Some (If position condition then_part else_part) → type_at_node p condition ≡ Some t → t ≡ Boolean
+  pub if_condition : (id : ℕ) (position : Position) (condition then_part : ℕ) (else_part : Option ℕ) (t : Ty) → slice_get p.nodes id ≡ Some (If position condition then_part else_part) → type_at_node p condition ≡ Some t → t ≡ Boolean
   unfolding type_breaks t1 t2 t3 t4 t5 t6 t7 t8 t9 t10 t11 t12 t13 t14
   if_condition id position condition then_part else_part t there h =
       let n = no_break_at_node forest accepted id (If position condition then_part else_part) there in condition_boolean condition t n.no_type_rule h
 
   -- the condition of a `while` is boolean
-  pub while_condition : (id : ℕ) (position : Pos) (condition body : ℕ) (t : Ty) → slice_get p.nodes id ≡ Some (While position condition body) → type_at_node p condition ≡ Some t → t ≡ Boolean
+  pub while_condition : (id : ℕ) (position : Position) (condition body : ℕ) (t : Ty) → slice_get p.nodes id ≡ Some (While position condition body) → type_at_node p condition ≡ Some t → t ≡ Boolean
   unfolding type_breaks t1 t2 t3 t4 t5 t6 t7 t8 t9 t10 t11 t12 t13 t14
   while_condition id position condition body t there h =
       let n = no_break_at_node forest accepted id (While position condition body) there in condition_boolean condition t n.no_type_rule h
 
   -- the condition of a `for` is boolean
-  pub for_condition : (id : ℕ) (position : Pos) (first condition step body : ℕ) (t : Ty) → slice_get p.nodes id ≡ Some (For position first condition step body) → type_at_node p condition ≡ Some t → t ≡ Boolean
+  pub for_condition : (id : ℕ) (position : Position) (first condition step body : ℕ) (t : Ty) → slice_get p.nodes id ≡ Some (For position first condition step body) → type_at_node p condition ≡ Some t → t ≡ Boolean
   unfolding type_breaks t1 t2 t3 t4 t5 t6 t7 t8 t9 t10 t11 t12 t13 t14
   for_condition id position first condition step body t there h =
       let n = no_break_at_node forest accepted id (For position first condition step body) there in condition_boolean condition t n.no_type_rule h
 
-  variable_is : (id : ℕ) (position name_position : Pos) (name : List ℕ) (flags : Option ℕ) (declared_type value : ℕ) → slice_get p.nodes id ≡ Some (LocalWithValue position name_position name flags declared_type value)
+  variable_is : (id : ℕ) (position name_position : Position) (name : List ℕ) (flags : Option ℕ) (declared_type value : ℕ) → slice_get p.nodes id ≡ Some (LocalWithValue position name_position name flags declared_type value)
       → option_and_then (declared_type_of p) (variable_at p.nodes id) ≡ written_type p declared_type
   unfolding variable_of
   variable_is id position name_position name flags declared_type value there =
       ap (λ (o : Option Node). option_and_then (declared_type_of p) (option_and_then (variable_of p.nodes id) o)) there
 
   -- the value with which a local is declared fits the local
-  pub initial_value_fits : (id : ℕ) (position name_position : Pos) (name : List ℕ) (flags : Option ℕ) (declared_type value : ℕ) → slice_get p.nodes id ≡ Some (LocalWithValue position name_position name flags declared_type value)
+  pub initial_value_fits : (id : ℕ) (position name_position : Position) (name : List ℕ) (flags : Option ℕ) (declared_type value : ℕ) → slice_get p.nodes id ≡ Some (LocalWithValue position name_position name flags declared_type value)
       → (j k : Kind) → Judged p value (Some j) → kind_of_variable p id ≡ Some k → IsRealKind k → Fits p This Caller j k
   unfolding Judged kind_of_variable type_breaks t1 t2 t3 t4 t5 t6 t7 t8 t9 t10 t11 t12 t13 t14 use_breaks e1 e2 e3 e4_and_e5 e6 e7 e8 e9 e10
   initial_value_fits id position name_position name flags declared_type value there j k ej ek real_ =
@@ -109,7 +109,7 @@ module _ (forest : Forest) (accepted : IsAccepted forest) where
 
   module _ (whole : IsForest forest) (sorted : IsWellSorted forest.nodes) where
     -- `this` stands where there is an object, is of the class around it, and lies where that class's objects lie
-    pub this_is_own : (b c id : ℕ) (position : Pos) → slice_get p.nodes id ≡ Some (ThisNode position) → Inside p b c id → (own : OwnObject p b c) × Judged p id (Some (reference (ClassTy c) own.home))
+    pub this_is_own : (b c id : ℕ) (position : Position) → slice_get p.nodes id ≡ Some (ThisNode position) → Inside p b c id → (own : OwnObject p b c) × Judged p id (Some (reference (ClassTy c) own.home))
     unfolding Judged kind_of type_of scope_of type_breaks t1 t2 t3 t4 t5 t6 t7 t8 t9 t10 t11 t12 t13 t14
     this_is_own b c id position there inside =
         let ts = types_are p (behind_children forest whole) (type_phase_empty forest accepted) id (ThisNode position) there in

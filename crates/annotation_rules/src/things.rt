@@ -9,7 +9,7 @@ ghost use Rattle.scj_rules.specs.StaticScopes.{is_unknown_scope, contradicts, sc
 ghost use Rattle.scj_rules.specs.AnnotationRules.{a1_of_class, has_other_scope, a2_position, broken_value, field_rule, a3_to_a5_of, scoped_variable_at};
 
 use program_facts::Facts;
-use scj_base::{ClassId, Found, Memory, NodeId, Pos, Rule};
+use scj_base::{ClassId, Found, Memory, NodeId, Position, Rule};
 use scj_rules::{ClassScope, Declared, ScopedDeclaration, report_if};
 use scj_tree::Node;
 use scope_tree::scopes::{
@@ -102,7 +102,7 @@ pub fn note_class(
     found: &mut Vec<Found>,
     facts: &Facts,
     class: ClassId,
-    position: Pos,
+    position: Position,
 ) -> Result<(), Memory>
     ensures { let p = declarations_of facts.now in
         OnOk result (found.new.items ≡ found.old.items

@@ -1,7 +1,7 @@
 -- How the steps of which operations are made go on in the memory.
 use Rattle.std.proofs.Common.{◌≡◌, ◌∙◌, ℕ, zero, suc, ◌+◌, nat_lt, Bool, true, false, not, List, [], ◌∷◌, ◌++◌, length, Option, Some, None, if◌then◌else◌, refl, sym, ap, subst, arith}
 use Rattle.std.specs.Prelude.{slice_get, slice_set, is_some}
-use Rattle.scj_base.specs.declared.places.Pos.{Pos}
+use Rattle.scj_base.specs.declared.positions.Position.{Position}
 use Rattle.scj_base.specs.declared.faults.RunFault.{RunFault}
 use Rattle.scj_base.specs.declared.values.Value.{Value}
 use Rattle.scj_model.specs.Code.{Code}
@@ -124,7 +124,7 @@ still_closed_all s [] = same_still s s (unchanged s s refl refl)
 still_closed_all s (f ∷ fs) =
     still_then_still s (closed s f.opened) _ (still_closed s f.opened) (still_closed_all (closed s f.opened) fs)
 
-pub still_fault : (s : State) (job : Job) (activity : Activity) (position : Pos) (fault : RunFault) →
+pub still_fault : (s : State) (job : Job) (activity : Activity) (position : Position) (fault : RunFault) →
     StillTo s (fault_in s job activity position fault)
 unfolding fault_in
 still_fault s TheSequencer activity position fault = same_still s _ (unchanged s _ refl refl)
@@ -132,7 +132,7 @@ still_fault s (ReleaseAt n) activity position fault =
     still_then_still s (closed_all s activity.frames) _ (still_closed_all s activity.frames)
     (same_still (closed_all s activity.frames) _ (unchanged (closed_all s activity.frames) _ refl refl))
 
-pub faulted : (s : State) (job : Job) (activity : Activity) (position : Pos) (fault : RunFault) →
+pub faulted : (s : State) (job : Job) (activity : Activity) (position : Position) (fault : RunFault) →
     GoesTo s (fault_in s job activity position fault)
 faulted s job activity position fault = goes_still s _ (still_fault s job activity position fault)
 
@@ -157,7 +157,7 @@ same_changed s t change r e f keeps =
 
 -- ---- effects
 
-pub still_called : (code : Code) (s : State) (job : Job) (activity : Activity) (frames : List Frame) (position : Pos)
+pub still_called : (code : Code) (s : State) (job : Job) (activity : Activity) (frames : List Frame) (position : Position)
     (g : Frame) → StillTo s (called code s job activity frames position g)
 unfolding called
 still_called code s job activity frames position g =
@@ -178,7 +178,7 @@ one_object s class area slots is_open =
     makes area is_open refl (omega (arith, more))
     (λ a d. used_beside s.objects a (new_object class area slots) (λ e. d (sym e)))
 
-pub goes_opening : (s : State) (job : Job) (activity : Activity) (position : Pos) (scope : ℕ) (parent : Option ℕ)
+pub goes_opening : (s : State) (job : Job) (activity : Activity) (position : Position) (scope : ℕ) (parent : Option ℕ)
     (bytes : ℕ) (next : State → ℕ → Step) → ((t : State) (a : ℕ) → SameTo t (next t a)) →
     GoesTo s (opening s job activity position scope parent bytes next)
 unfolding opening
@@ -188,7 +188,7 @@ goes_opening s job activity position scope parent bytes next h =
     (h (with_area s scope parent bytes) (length s.areas)))
     (faulted s job activity position _)
 
-pub goes_allocating : (s : State) (job : Job) (activity : Activity) (position : Pos) (class area : ℕ) (slots : List Value)
+pub goes_allocating : (s : State) (job : Job) (activity : Activity) (position : Position) (class area : ℕ) (slots : List Value)
     (next : State → ℕ → Step) → is_open_area s area ≡ true → ((t : State) (r : ℕ) → SameTo t (next t r)) →
     GoesTo s (allocating s job activity position class area slots next)
 unfolding allocating
@@ -198,7 +198,7 @@ goes_allocating s job activity position class area slots next is_open h =
     (h (with_object s class area slots) (length s.objects)))
     (faulted s job activity position _)
 
-pub goes_opened : (s : State) (job : Job) (activity : Activity) (frames : List Frame) (position : Pos) (g : Frame)
+pub goes_opened : (s : State) (job : Job) (activity : Activity) (frames : List Frame) (position : Position) (g : Frame)
     (scope bytes : ℕ) → GoesTo s (opened_in s job activity frames position g scope bytes)
 unfolding opened_in
 goes_opened s job activity frames position g scope bytes =
@@ -244,7 +244,7 @@ same_asked s r =
     (of_if (λ x. SameTo s x) (is_exec s.phase) _ _ (unchanged s _ refl refl) (unchanged s _ refl refl))
     (unchanged s _ refl refl)
 
-pub still_registered : (code : Code) (s : State) (job : Job) (activity : Activity) (position : Pos) (r : ℕ) (o : Object)
+pub still_registered : (code : Code) (s : State) (job : Job) (activity : Activity) (position : Position) (r : ℕ) (o : Object)
     (after : State) → StaysSame s after → StillTo s (registered code s job activity position r o after)
 unfolding registered
 still_registered code s job activity position r o after g =

@@ -2,7 +2,7 @@
 use Rattle.std.proofs.Common.{◌≡◌, ◌∙◌, ℕ, ◌≤◌, Bool, true, false, List, [], ◌∷◌, ◌++◌, length, Option, Some, None, if◌then◌else◌, refl, subst, ap, arith, length-append, length-drop, length-set}
 use Rattle.std.specs.Prelude.{◌==◌, ◌||◌, drop, option_map, slice_get, slice_set, unwrap_or, codes}
 use Rattle.std.proofs.lemmas.Bool.Decides.{nat_tests}
-use Rattle.scj_base.specs.declared.places.Pos.{Pos}
+use Rattle.scj_base.specs.declared.positions.Position.{Position}
 use Rattle.scj_base.specs.declared.values.Value.{Value}
 use Rattle.scj_rules.specs.declared.views.Body.{Body}
 use Rattle.scj_rules.specs.Words.{◌>>=◌, is_among}
@@ -70,7 +70,7 @@ goes_changed : (s t : State) (job : Job) (activity : Activity) (f : Frame) (belo
     GoesOn s (with_frame t job activity f below)
 goes_changed s t job activity f below g = goes_same s _ (same_then_same s t _ g (same_active t job _))
 
-goes_applied : (code : Code) (s : State) (job : Job) (activity : Activity) (below : List Frame) (position : Pos)
+goes_applied : (code : Code) (s : State) (job : Job) (activity : Activity) (below : List Frame) (position : Position)
     (effect : Effect) →
     IsSituated s.areas s.objects effect →
     GoesIf s (applied code s job activity below position effect)
@@ -203,13 +203,13 @@ goes_method code s r name =
     bind_goes s (object_at s r) _ (λ o _.
     bind_goes s (body_named code.program o.class name) _ (λ body _. goes_body code s r body))
 
-goes_area : (s : State) (position : Pos) (scope bytes : ℕ) → GoesTo s (area_opened s position scope bytes)
+goes_area : (s : State) (position : Position) (scope bytes : ℕ) → GoesTo s (area_opened s position scope bytes)
 unfolding area_opened
 goes_area s position scope bytes =
     goes_opening s TheSequencer s.activity position scope (innermost s.activity.areas) bytes _
     (λ t a. unchanged t _ refl refl)
 
-goes_safelet : (code : Code) (s : State) (position : Pos) (class area : ℕ) → is_open_area s area ≡ true →
+goes_safelet : (code : Code) (s : State) (position : Position) (class area : ℕ) → is_open_area s area ≡ true →
     GoesTo s (safelet_made code s position class area)
 unfolding safelet_made
 goes_safelet code s position class area is_open =

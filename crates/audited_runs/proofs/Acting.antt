@@ -2,7 +2,7 @@
 -- of no release.
 use Rattle.std.proofs.Common.{◌≡◌, ℕ, ◌+◌, ◌==◌, Bool, true, false, List, [], ◌∷◌, inl, inr, Some, None, if◌then◌else◌, refl, sym, ap, ◌∙◌, subst, arith}
 use Rattle.std.specs.Prelude.{ℤ}
-use Rattle.scj_base.specs.declared.places.Pos.{Pos}
+use Rattle.scj_base.specs.declared.positions.Position.{Position}
 use Rattle.scj_base.specs.declared.faults.RunFault.{RunFault}
 use Rattle.std.specs.Prelude.{slice_get}
 use Rattle.std.proofs.lemmas.Bool.Decides.{nat_tests}
@@ -42,7 +42,7 @@ unfolding entry_passes entry_told rest_done table_done
 print_tells_none unit label value =
     record { passes = λ plan r u. refl; done = λ r u. refl; is_other = λ e. cc (e) }
 
-pub fault_tells_none : (unit : ℕ) (fault : RunFault) (position : Pos) → TellsOfNone (event.Fault unit fault position)
+pub fault_tells_none : (unit : ℕ) (fault : RunFault) (position : Position) → TellsOfNone (event.Fault unit fault position)
 unfolding entry_passes entry_told rest_done table_done
 fault_tells_none unit fault position =
     record { passes = λ plan r u. refl; done = λ r u. refl; is_other = λ e. cc (e) }

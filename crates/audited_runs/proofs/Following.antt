@@ -1,7 +1,7 @@
 -- A replay follows the state of a run between two units, by the operation that the sequencer does next; and what the
 -- lines of the sequencer leave of that.
 use Rattle.std.proofs.Common.{◌≡◌, ℕ, Bool, true, false, List, [], ◌∷◌, length, inr, Some, None, if◌then◌else◌, refl, sym, ap, ◌∙◌, subst}
-use Rattle.scj_base.specs.declared.places.Pos.{Pos}
+use Rattle.scj_base.specs.declared.positions.Position.{Position}
 use Rattle.scj_base.specs.declared.faults.RunFault.{RunFault}
 use Rattle.scj_model.specs.declared.events.Event.{Event}
 use Rattle.scj_model.specs.declared.events.Event.TheVariants as event
@@ -179,7 +179,7 @@ pub record HaltTold (plan : Plan) (unit : ℕ) (r : Replay) (es : List Event) : 
   pub since : after.executes_since ≡ r.executes_since
   pub over : after.is_over ≡ true
 
-pub halt_told : (plan : Plan) (unit : ℕ) (r : Replay) (position : Pos) (fault : RunFault) → Live plan unit r →
+pub halt_told : (plan : Plan) (unit : ℕ) (r : Replay) (position : Position) (fault : RunFault) → Live plan unit r →
     HaltTold plan unit r (event.Fault unit fault position ∷ event.Halted unit ∷ [])
 unfolding entry_told unit_of
 halt_told plan unit r position fault live =
@@ -200,7 +200,7 @@ halt_told plan unit r position fault live =
       over = halted_over (begun m unit) unit;
     }
 
-pub faults_told : (plan : Plan) (s : State) (r : Replay) (activity : Activity) (position : Pos) (fault : RunFault) →
+pub faults_told : (plan : Plan) (s : State) (r : Replay) (activity : Activity) (position : Position) (fault : RunFault) →
     Sequences plan s r →
     SeqTold plan s.unit r (fault_in s TheSequencer activity position fault).state
     (fault_in s TheSequencer activity position fault).events

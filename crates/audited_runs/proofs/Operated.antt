@@ -1,7 +1,7 @@
 -- The next operation of a release, by its effect: what it tells, and what it leaves.
 use Rattle.std.proofs.Common.{◌≡◌, ℕ, ◌+◌, nat_lt, Bool, true, false, not, List, [], ◌∷◌, ◌++◌, length, Option, Some, None, if◌then◌else◌, refl, sym, ap, subst}
 use Rattle.std.specs.Prelude.{ℤ, option_map, slice_get, is_some, codes}
-use Rattle.scj_base.specs.declared.places.Pos.{Pos}
+use Rattle.scj_base.specs.declared.positions.Position.{Position}
 use Rattle.scj_base.specs.declared.faults.RunFault.TheVariants.{NotInitializing, TooManyHandlers}
 use Rattle.scj_base.specs.declared.values.Value.{Value}
 use Rattle.scj_rules.specs.Words.{◌>>=◌}
@@ -99,7 +99,7 @@ module _ (plan : Plan) (code : Code) (s : State) (p : ℕ) (r : Replay) (live : 
       (with_frame_executes f below)
       (none_told plan s.unit r (event.Print s.unit label value) (print_tells_none s.unit label value) live refl)
 
-  registered_told : (position : Pos) (object : ℕ) (o : Object) (after : State) →
+  registered_told : (position : Position) (object : ℕ) (o : Object) (after : State) →
       TellsOf plan s r (registered code s (ReleaseAt p) activity position object o after)
   unfolding registered
   registered_told position object o after =
@@ -112,7 +112,7 @@ module _ (plan : Plan) (code : Code) (s : State) (p : ℕ) (r : Replay) (live : 
       (event.Register s.unit (length s.registry + 1) (class_name code o.class) row.priority ∷ []))))))
       (sym (init_not_exec s.phase h.exec)) (fault_told plan s p activity.priority r live h activity position _)
 
-  applied_told : (below : List Frame) (position : Pos) (effect : Effect) →
+  applied_told : (below : List Frame) (position : Position) (effect : Effect) →
       TellsIf plan s r (applied code s (ReleaseAt p) activity below position effect)
   unfolding applied with_activity
   applied_told below position (Goes f) =

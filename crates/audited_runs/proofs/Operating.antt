@@ -1,7 +1,7 @@
 -- An operation of a release in execution: what it tells, and what it leaves.
 use Rattle.std.proofs.Common.{◌≡◌, ℕ, nat_lt, List, [], ◌∷◌, ◌++◌, length, Option, Some, None, refl, sym, subst}
 use Rattle.std.specs.Prelude.{unwrap_or, is_some}
-use Rattle.scj_base.specs.declared.places.Pos.{Pos}
+use Rattle.scj_base.specs.declared.positions.Position.{Position}
 use Rattle.scj_base.specs.declared.faults.RunFault.{RunFault}
 use Rattle.scj_base.specs.declared.values.Value.{Value}
 use Rattle.scj_model.specs.declared.events.Event.{Event}
@@ -47,7 +47,7 @@ tells_option plan s r (Some a) x f h k = k a refl
 -- ---- a fault ends the release
 
 module _ (plan : Plan) (s : State) (p active : ℕ) (r : Replay) (live : Live plan s.unit r) (h : Acts s p active r) where
-  pub fault_told : (activity : Activity) (position : Pos) (fault : RunFault) →
+  pub fault_told : (activity : Activity) (position : Position) (fault : RunFault) →
       TellsOf plan s r (fault_in s (ReleaseAt p) activity position fault)
   unfolding fault_in unit_of
   fault_told activity position fault =
@@ -91,7 +91,7 @@ module _ (plan : Plan) (s : State) (p active : ℕ) (r : Replay) (live : Live pl
 
   -- ---- calls, areas and objects
 
-  pub called_told : (code : Code) (activity : Activity) (frames : List Frame) (position : Pos) (g : Frame) →
+  pub called_told : (code : Code) (activity : Activity) (frames : List Frame) (position : Position) (g : Frame) →
       activity.priority ≡ active → TellsOf plan s r (called code s (ReleaseAt p) activity frames position g)
   unfolding called with_activity
   called_told code activity frames position g same =
@@ -110,7 +110,7 @@ module _ (plan : Plan) (s : State) (p active : ℕ) (r : Replay) (live : Live pl
         priority = ceiling;
       }) refl))))
 
-  pub opening_told : (activity : Activity) (position : Pos) (scope : ℕ) (parent : Option ℕ) (bytes : ℕ)
+  pub opening_told : (activity : Activity) (position : Position) (scope : ℕ) (parent : Option ℕ) (bytes : ℕ)
       (next : State → ℕ → Step) → ((t : State) (a : ℕ) → Beside s t → TellsOf plan s r (next t a)) →
       TellsOf plan s r (opening s (ReleaseAt p) activity position scope parent bytes next)
   unfolding opening
@@ -123,7 +123,7 @@ module _ (plan : Plan) (s : State) (p active : ℕ) (r : Replay) (live : Live pl
       }))
       (fault_told activity position _)
 
-  pub allocating_told : (activity : Activity) (position : Pos) (class area : ℕ) (slots : List Value)
+  pub allocating_told : (activity : Activity) (position : Position) (class area : ℕ) (slots : List Value)
       (next : State → ℕ → Step) → ((t : State) (a : ℕ) → Beside s t → TellsOf plan s r (next t a)) →
       TellsOf plan s r (allocating s (ReleaseAt p) activity position class area slots next)
   unfolding allocating
@@ -136,7 +136,7 @@ module _ (plan : Plan) (s : State) (p active : ℕ) (r : Replay) (live : Live pl
       }))
       (fault_told activity position _)
 
-  pub opened_told : (activity : Activity) (frames : List Frame) (position : Pos) (g : Frame) (scope bytes : ℕ) →
+  pub opened_told : (activity : Activity) (frames : List Frame) (position : Position) (g : Frame) (scope bytes : ℕ) →
       activity.priority ≡ active →
       TellsOf plan s r (opened_in s (ReleaseAt p) activity frames position g scope bytes)
   unfolding opened_in with_activity

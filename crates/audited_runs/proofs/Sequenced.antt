@@ -1,7 +1,7 @@
 -- Each operation of the sequencer outside execution: what it tells, and what it leaves.
 use Rattle.std.proofs.Common.{◌∙◌, ◌≡◌, ℕ, Bool, List, [], ◌∷◌, Option, Some, None, if◌then◌else◌, sym, ap, subst}
 use Rattle.std.specs.Prelude.{option_map, codes}
-use Rattle.scj_base.specs.declared.places.Pos.{Pos}
+use Rattle.scj_base.specs.declared.positions.Position.{Position}
 use Rattle.scj_rules.specs.declared.views.Body.{Body}
 use Rattle.scj_rules.specs.Words.{◌>>=◌}
 use Rattle.scj_rules.specs.ScopeRules.{immortal_scope, defined_by_chain}
@@ -50,7 +50,7 @@ module _ (plan : Plan) (s : State) (r : Replay) (h : Sequences plan s r) where
 
   -- ---- operations of a body
 
-  seq_applied : (code : Code) (activity : Activity) (below : List Frame) (position : Pos) (effect : Effect) →
+  seq_applied : (code : Code) (activity : Activity) (below : List Frame) (position : Position) (effect : Effect) →
       SeqIf plan s r (applied code s TheSequencer activity below position effect)
   unfolding applied with_activity
   seq_applied code activity below position (Goes f) = some _ (quiet plan s r h _ (gets plan s r h s _ (around_same s)))
@@ -100,13 +100,13 @@ module _ (plan : Plan) (s : State) (r : Replay) (h : Sequences plan s r) where
 
   -- ---- the sequencer's own operations
 
-  seq_area : (position : Pos) (scope bytes : ℕ) → SeqOf plan s r (area_opened s position scope bytes)
+  seq_area : (position : Position) (scope bytes : ℕ) → SeqOf plan s r (area_opened s position scope bytes)
   unfolding area_opened
   seq_area position scope bytes =
       seq_opening plan s r h s.activity position scope (innermost s.activity.areas) bytes _
       (λ t a k. quiet plan s r h _ (gets_done plan s r h t _ _ k))
 
-  seq_safelet : (code : Code) (position : Pos) (class area : ℕ) → SeqOf plan s r (safelet_made code s position class area)
+  seq_safelet : (code : Code) (position : Position) (class area : ℕ) → SeqOf plan s r (safelet_made code s position class area)
   unfolding safelet_made
   seq_safelet code position class area =
       seq_allocating plan s r h s.activity position class area (new_slots code.program class) _

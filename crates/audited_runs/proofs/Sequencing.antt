@@ -1,7 +1,7 @@
 -- The operations of the sequencer outside execution: what they tell, and what they leave.
 use Rattle.std.proofs.Common.{◌∙◌, ◌≡◌, ℕ, nat_lt, Bool, true, false, not, ◌&&◌, List, [], ◌∷◌, length, map, Option, Some, None, if◌then◌else◌, refl, sym, ap, subst}
 use Rattle.std.specs.Prelude.{ℤ, ◌+◌, ◌++◌, ◌==◌, unwrap_or, is_some}
-use Rattle.scj_base.specs.declared.places.Pos.{Pos}
+use Rattle.scj_base.specs.declared.positions.Position.{Position}
 use Rattle.scj_base.specs.declared.faults.RunFault.{RunFault}
 use Rattle.scj_base.specs.declared.faults.RunFault.TheVariants.{NotInitializing, TooManyHandlers}
 use Rattle.scj_base.specs.declared.values.Value.TheVariants.{Null}
@@ -70,7 +70,7 @@ module _ (plan : Plan) (s : State) (r : Replay) (h : Sequences plan s r) where
   seq_option None x f k l = k
   seq_option (Some a) x f k l = l a
 
-  pub seq_fault : (activity : Activity) (position : Pos) (fault : RunFault) →
+  pub seq_fault : (activity : Activity) (position : Position) (fault : RunFault) →
       SeqOf plan s r (fault_in s TheSequencer activity position fault)
   seq_fault activity position fault = faults_told plan s r activity position fault h
 
@@ -96,7 +96,7 @@ module _ (plan : Plan) (s : State) (r : Replay) (h : Sequences plan s r) where
       go true = refl
       go false = refl
 
-  pub seq_called : (code : Code) (activity : Activity) (frames : List Frame) (position : Pos) (g : Frame) →
+  pub seq_called : (code : Code) (activity : Activity) (frames : List Frame) (position : Position) (g : Frame) →
       SeqOf plan s r (called code s TheSequencer activity frames position g)
   unfolding called with_activity
   seq_called code activity frames position g =
@@ -111,7 +111,7 @@ module _ (plan : Plan) (s : State) (r : Replay) (h : Sequences plan s r) where
         };
       }) es) (sym (no_priority activity.priority ceiling)) (quiet _ (gets s _ (around_same s))))))
 
-  pub seq_opening : (activity : Activity) (position : Pos) (scope : ℕ) (parent : Option ℕ) (bytes : ℕ)
+  pub seq_opening : (activity : Activity) (position : Position) (scope : ℕ) (parent : Option ℕ) (bytes : ℕ)
       (next : State → ℕ → Step) → ((t : State) (a : ℕ) → Around s t → SeqOf plan s r (next t a)) →
       SeqOf plan s r (opening s TheSequencer activity position scope parent bytes next)
   unfolding opening
@@ -120,7 +120,7 @@ module _ (plan : Plan) (s : State) (r : Replay) (h : Sequences plan s r) where
       (k (with_area s scope parent bytes) (length s.areas) (around_parts s s.objects _ s.statics s.activity s.outcome))
       (seq_fault activity position _)
 
-  pub seq_allocating : (activity : Activity) (position : Pos) (class area : ℕ) (slots : List Value)
+  pub seq_allocating : (activity : Activity) (position : Position) (class area : ℕ) (slots : List Value)
       (next : State → ℕ → Step) → ((t : State) (a : ℕ) → Around s t → SeqOf plan s r (next t a)) →
       SeqOf plan s r (allocating s TheSequencer activity position class area slots next)
   unfolding allocating
@@ -130,7 +130,7 @@ module _ (plan : Plan) (s : State) (r : Replay) (h : Sequences plan s r) where
       (around_parts s _ s.areas s.statics s.activity s.outcome))
       (seq_fault activity position _)
 
-  pub seq_opened : (activity : Activity) (frames : List Frame) (position : Pos) (g : Frame) (scope bytes : ℕ) →
+  pub seq_opened : (activity : Activity) (frames : List Frame) (position : Position) (g : Frame) (scope bytes : ℕ) →
       SeqOf plan s r (opened_in s TheSequencer activity frames position g scope bytes)
   unfolding opened_in with_activity
   seq_opened activity frames position g scope bytes =
@@ -198,7 +198,7 @@ module _ (plan : Plan) (s : State) (r : Replay) (h : Sequences plan s r) where
       else silently t))
       (sym (ap (λ b. b && not t.is_end_asked) (ap is_exec a.beside.alike.phase ∙ h.out))) (quiet t a)
 
-  pub seq_registered : (code : Code) (activity : Activity) (position : Pos) (object : ℕ) (o : Object) (after : State) →
+  pub seq_registered : (code : Code) (activity : Activity) (position : Position) (object : ℕ) (o : Object) (after : State) →
       Around s after → SeqOf plan s r (registered code s TheSequencer activity position object o after)
   unfolding registered
   seq_registered code activity position object o after a = go (is_init s.phase) refl

@@ -2,7 +2,7 @@
 use Rattle.std.specs.Prelude.{Option, Some, None, slice_get, if◌then◌else◌, ◌++◌, ◌+◌, not, nat_lt, length, map, option_map}
 use Rattle.std.proofs.Common.{◌≡◌, ℕ, List, [], ◌∷◌, Bool, true, false, refl, sym, ◌∙◌, ap, subst, ◌⊎◌, inl, inr}
 use Rattle.scj_base.specs.declared.faults.RunFault.{RunFault}
-use Rattle.scj_base.specs.declared.places.Pos.{Pos}
+use Rattle.scj_base.specs.declared.positions.Position.{Position}
 use Rattle.scj_rules.specs.Words.{◌>>=◌}
 use Rattle.accepted_laws.proofs.Tools.{some_inj}
 use Rattle.scj_model.specs.declared.events.Event.{Event}
@@ -58,7 +58,7 @@ module _ (J : List Frame → Type 0) where
       go j left (inl none) = absurd (none_ended left none)
       go j left (inr was) = h.are j left was
 
-  pub jobs_faulted : (s : State) (job : Job) (activity : Activity) (position : Pos) (fault : RunFault) → Jobs s →
+  pub jobs_faulted : (s : State) (job : Job) (activity : Activity) (position : Position) (fault : RunFault) → Jobs s →
       Jobs (fault_in s job activity position fault).state
   unfolding fault_in
   jobs_faulted s TheSequencer activity position fault h =

@@ -3,7 +3,7 @@ use Rattle.std.specs.Prelude.{Option, Some, None, slice_set, if◌then◌else◌
 use Rattle.std.proofs.Common.{◌≡◌, ℕ, List, [], ◌∷◌, Bool, true, false, refl, sym, subst}
 use Rattle.scj_base.specs.declared.faults.RunFault.TheVariants.{MemoryFull, StoreFull, ScopedCycle, CeilingViolation, NotInitializing, TooManyHandlers, DepthFull}
 use Rattle.scj_base.specs.declared.faults.RunFault.{RunFault}
-use Rattle.scj_base.specs.declared.places.Pos.{Pos}
+use Rattle.scj_base.specs.declared.positions.Position.{Position}
 use Rattle.scj_base.specs.declared.values.Value.{Value}
 use Rattle.scj_base.specs.declared.values.Value.TheVariants.{Null, At}
 use Rattle.scj_rules.specs.declared.views.Body.{Body}
@@ -50,7 +50,7 @@ module _ (code : Code) (G : Body → Bool → Type 0) where
   KeepsBody body Stuck = Unit {0}
 
   module _ (s : State) (held : Jobs Frames s) (job : Job) (activity : Activity) (body : Body) (below : List Frame)
-      (under : Under body below) (position : Pos) where
+      (under : Under body below) (position : Position) where
     abbrev Kept : Effect → Type 0
     Kept e = Lead Frames (applied code s job activity below position e)
 

@@ -2,7 +2,7 @@
 use Rattle.std.specs.Prelude.{Option, Some, None, slice_get, ◌==◌}
 use Rattle.std.proofs.Common.{◌≡◌, ℕ, List, [], ◌∷◌, Bool, true, false, refl, ap, subst, arith, if◌then◌else◌}
 use Rattle.std.proofs.lemmas.Bool.Decides.{nat_tests}
-use Rattle.scj_base.specs.declared.places.Pos.{Pos}
+use Rattle.scj_base.specs.declared.positions.Position.{Position}
 use Rattle.scj_base.specs.declared.faults.RunFault.{RunFault}
 use Rattle.scj_builtins.specs.Framework.{managed_memory_enter_private_memory, services_set_ceiling, device_read}
 use Rattle.scj_tree.specs.declared.nodes.Node.{Node}
@@ -51,7 +51,7 @@ module _ (code : Code) (op : Op) where
 
   pub own_position : (fault : RunFault) (x : FaultsFor code op fault) → position_of_op code op ≡ position_of_node code x.id
   own_position fault x =
-      ap (λ (o : Option ℕ). elim o as (λ z. Pos) [ None ↦ nowhere | Some node ↦ position_of_node code node ])
+      ap (λ (o : Option ℕ). elim o as (λ z. Position) [ None ↦ nowhere | Some node ↦ position_of_node code node ])
       (own_node x.id x.node x.is_operation)
 
 module _ (code : Code) (id : ℕ) (fault : RunFault) where

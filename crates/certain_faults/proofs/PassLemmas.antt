@@ -6,7 +6,7 @@ use Rattle.std.proofs.lemmas.Bool.{cases_lt}
 use Rattle.std.proofs.lemmas.Option.{slice_get_within, slice_get_past}
 use Rattle.std.proofs.lemmas.List.Elements.{Contains-push, Contains-push_cases}
 use Rattle.scj_base.specs.declared.faults.RunFault.{RunFault}
-use Rattle.scj_base.specs.declared.places.Pos.{Pos}
+use Rattle.scj_base.specs.declared.positions.Position.{Position}
 use Rattle.scj_tree.specs.declared.nodes.Node.{Node}
 use Rattle.scj_tree.specs.Recursion.{lookup, below, bottom_up, by_smaller, joined_below}
 use Rattle.scj_tree.proofs.RecursionLemmas.{bottom_up-at, lookup-behind, length-bottom_up, by_smaller-is, from_joined, to_joined}
@@ -114,7 +114,7 @@ to_node code one c =
       | None ↦ []
       | Some fault ↦ record { pos = position_of_node code c.id; fault = fault } ∷ []
     ]) c.is_fault
-    ∙ ap (λ (p : Pos). record { pos = p; fault = one.fault } ∷ []) c.is_position))
+    ∙ ap (λ (p : Position). record { pos = p; fault = one.fault } ∷ []) c.is_position))
     (Contains-push [] one)
 
 is_node : (code : Code) (id : ℕ) (fault : RunFault) → certain_fault code id ≡ Some fault →

@@ -3,7 +3,7 @@
 use Rattle.std.specs.Prelude.{Option, Some, None, slice_get, if◌then◌else◌, length, option_map, codes, ◌&&◌, not, ◌+◌}
 use Rattle.std.proofs.Common.{◌≡◌, ℕ, List, [], ◌∷◌, Bool, true, false, refl, subst}
 use Rattle.scj_base.specs.declared.faults.RunFault.TheVariants.{MemoryFull, NullPointer, StoreFull}
-use Rattle.scj_base.specs.declared.places.Pos.{Pos}
+use Rattle.scj_base.specs.declared.positions.Position.{Position}
 use Rattle.scj_base.specs.declared.values.Value.{Value}
 use Rattle.scj_base.specs.declared.values.Value.TheVariants.{Null, At}
 use Rattle.scj_rules.specs.declared.views.Body.{Body}
@@ -38,7 +38,7 @@ module _ (code : Code) (J : List Frame → Type 0)
   -- ---- the sequencer's own operations
 
   module _ (s : State) (held : Jobs J s) where
-    opened_jobs : (place : Pos) (scope bytes : ℕ) → Jobs J (area_opened s place scope bytes).state
+    opened_jobs : (place : Position) (scope bytes : ℕ) → Jobs J (area_opened s place scope bytes).state
     unfolding area_opened opening
     opened_jobs place scope bytes = go (has_store_for s bytes)
       where
@@ -56,7 +56,7 @@ module _ (code : Code) (J : List Frame → Type 0)
             refl (sequencer_has J s held) held
         go false = jobs_faulted J s TheSequencer s.activity place StoreFull held
 
-    made_jobs : (place : Pos) (class area : ℕ) → Jobs J (safelet_made code s place class area).state
+    made_jobs : (place : Position) (class area : ℕ) → Jobs J (safelet_made code s place class area).state
     unfolding safelet_made allocating
     made_jobs place class area = go (has_room s area (length (new_slots code.program class)))
       where

@@ -7,14 +7,14 @@ ghost use Rattle.std.specs.Cmp.Rules.{comparing};
 ghost use Rattle.std.specs.Ordering.{as_partial_cmp};
 ghost use Rattle.certain_faults.specs.Report.{number_of, fault_order, is_same_fault};
 
-use scj_base::{Pos, RunFault};
+use scj_base::{Position, RunFault};
 use std::cmp::Ordering;
 
 /// A fault and its place. They are ordered by file, line, column and fault.
 #[derive(Clone, Copy, Debug)]
 pub struct CertainFault {
     /// Where the run tells the fault.
-    pub pos: Pos,
+    pub pos: Position,
     /// The fault.
     pub fault: RunFault,
 }

@@ -8,7 +8,7 @@ ghost use Rattle.class_rules.specs.Parts.{written_class};
 
 use class_rows::ClassTable;
 use node_views::{class_extends, interface_nodes, modifiers_at};
-use scj_base::{ClassId, Name, NodeId, Pos};
+use scj_base::{ClassId, Name, NodeId, Position};
 use scj_rules::{Modifiers, Written};
 use scj_tree::Node;
 
@@ -18,7 +18,7 @@ pub struct ClassParts<'a> {
     /// Its node.
     pub node: NodeId,
     /// Where it is named.
-    pub position: Pos,
+    pub position: Position,
     /// Its name.
     pub name: Name,
     /// The annotations and modifiers before it.

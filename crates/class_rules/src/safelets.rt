@@ -8,7 +8,7 @@ ghost use Rattle.class_rules.specs.Safelets.{safelet_at};
 
 use crate::parts::{ClassParts, parts_of};
 use class_rows::ClassTable;
-use scj_base::{ClassId, Found, Memory, Pos, Rule};
+use scj_base::{ClassId, Found, Memory, Position, Rule};
 use scj_rules::report_if;
 
 /// A class, where it is a safelet of the program.
@@ -43,7 +43,7 @@ pub fn note_c8(found: &mut Vec<Found>, classes: &ClassTable<'_>) -> Result<(), M
             is_seen = true;
         }
     }
-    let first = Pos {
+    let first = Position {
         file: 0,
         line: 1,
         col: 1,

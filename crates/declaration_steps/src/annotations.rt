@@ -9,7 +9,7 @@ use parser_nodes::growing_nodes::Nodes;
 use parser_nodes::stacks::Stack;
 use parser_nodes::views::View;
 use scj_base::vocabulary::{ASSIGN, COMMA, DOT, FALSE, LEFT_PARENTHESIS, RIGHT_PARENTHESIS, TRUE};
-use scj_base::{Memory, Pos, SharedName};
+use scj_base::{Memory, Position, SharedName};
 use scj_tree::FlagSet;
 use type_steps::declarations::flags_step;
 use type_steps::names::{is_effectless, is_word};
@@ -59,7 +59,7 @@ pub fn runs_in_named(
 pub fn define_scope_named(
     nodes: &mut Nodes,
     stack: &mut Stack,
-    position: Pos,
+    position: Position,
     is_local: bool,
     flags: FlagSet,
 ) -> Result<Option<Mode>, Memory>
@@ -79,7 +79,7 @@ pub fn define_scope_named(
 pub fn annotation_named(
     nodes: &mut Nodes,
     stack: &mut Stack,
-    position: Pos,
+    position: Position,
     name: &SharedName,
     is_local: bool,
     flags: FlagSet,
@@ -110,7 +110,7 @@ pub fn at_step(
     nodes: &mut Nodes,
     stack: &mut Stack,
     view: &View,
-    position: Pos,
+    position: Position,
 ) -> Result<Option<Mode>, Memory>
     ensures step { let awaited = at_step position nodes.old.all stack.old (seen view.now) in
         gives result nodes.new.all stack.new awaited ≡ awaited }

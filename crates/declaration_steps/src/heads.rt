@@ -15,7 +15,7 @@ use parser_nodes::items::with_item;
 use parser_nodes::stacks::Stack;
 use parser_nodes::views::View;
 use scj_base::vocabulary::{COMMA, EXTENDS, GREATER, IMPLEMENTS, LEFT_BRACE, LESS};
-use scj_base::{Memory, NodeId, Pos, SharedName};
+use scj_base::{Memory, NodeId, Position, SharedName};
 use scj_tree::{Node, NodeList};
 use type_steps::names::has_type_argument;
 
@@ -77,7 +77,7 @@ pub fn class_named_word(
     nodes: &mut Nodes,
     stack: &mut Stack,
     word: u8,
-    position: Pos,
+    position: Position,
 ) -> Result<Option<Mode>, Memory>
     ensures step { let awaited = class_named_step nodes.old.all stack.old (a_word word position) in
         gives result nodes.new.all stack.new awaited ≡ awaited }
@@ -146,7 +146,7 @@ pub fn superclass_sign(
     nodes: &mut Nodes,
     stack: &mut Stack,
     id: NodeId,
-    position: Pos,
+    position: Position,
     sign: u8,
 ) -> Result<Option<Mode>, Memory>
     ensures step { let awaited = superclass_sign id position nodes.old.all stack.old sign in
@@ -171,7 +171,7 @@ pub fn interface_sign(
     nodes: &mut Nodes,
     stack: &mut Stack,
     id: NodeId,
-    position: Pos,
+    position: Position,
     superclass: Option<NodeId>,
     interfaces: NodeList,
     sign: u8,
@@ -208,7 +208,7 @@ pub fn superclass_ended(
     stack: &mut Stack,
     view: &View,
     id: NodeId,
-    position: Pos,
+    position: Position,
     superclass: Option<NodeId>,
     interfaces: NodeList,
 ) -> Result<Option<Mode>, Memory>
@@ -241,7 +241,7 @@ pub fn interface_ended(
     stack: &mut Stack,
     view: &View,
     id: NodeId,
-    position: Pos,
+    position: Position,
     superclass: Option<NodeId>,
     interfaces: NodeList,
 ) -> Result<Option<Mode>, Memory>
@@ -293,7 +293,7 @@ pub fn super_named_step(
     nodes: &mut Nodes,
     stack: &mut Stack,
     view: &View,
-    position: Pos,
+    position: Position,
     name: &SharedName,
 ) -> Result<Option<Mode>, Memory>
     ensures step { let awaited = super_named_step position name.now nodes.old.all stack.old (seen view.now) in
@@ -321,7 +321,7 @@ pub fn super_type_ended(
     nodes: &mut Nodes,
     stack: &mut Stack,
     view: &View,
-    position: Pos,
+    position: Position,
     name: &SharedName,
 ) -> Result<Option<Mode>, Memory>
     ensures step { let awaited = super_ended (length nodes.old.all) (put nodes.old.all (SuperType position name.now None))
@@ -342,7 +342,7 @@ pub fn super_argument_name_step(
     nodes: &mut Nodes,
     stack: &mut Stack,
     view: &View,
-    position: Pos,
+    position: Position,
     name: &SharedName,
 ) -> Result<Option<Mode>, Memory>
     ensures step { let awaited = super_argument_name_step position name.now nodes.old.all stack.old (seen view.now) in
@@ -369,7 +369,7 @@ pub fn super_argument_end_step(
     nodes: &mut Nodes,
     stack: &mut Stack,
     view: &View,
-    position: Pos,
+    position: Position,
     name: &SharedName,
     argument: NodeId,
 ) -> Result<Option<Mode>, Memory>

@@ -11,7 +11,7 @@ use parser_nodes::read_members::member_read;
 use parser_nodes::stacks::Stack;
 use parser_nodes::views::View;
 use scj_base::vocabulary::{ASSIGN, FALSE, LEFT_PARENTHESIS, MINUS, NULL, SEMICOLON, TRUE};
-use scj_base::{Memory, NodeId, Pos, SharedName};
+use scj_base::{Memory, NodeId, Position, SharedName};
 use scj_tree::Node;
 
 /// Behind the type and the name of a member.
@@ -22,7 +22,7 @@ pub fn member_named_step(
     view: &View,
     flags: Option<NodeId>,
     declared_type: NodeId,
-    position: Pos,
+    position: Position,
     name: &SharedName,
 ) -> Result<Option<Mode>, Memory>
     ensures step { let awaited = member_named_step flags declared_type position name.now nodes.old.all stack.old
@@ -71,7 +71,7 @@ pub fn literal_word(
     nodes: &mut Nodes,
     stack: &mut Stack,
     word: u8,
-    position: Pos,
+    position: Position,
 ) -> Result<Option<Mode>, Memory>
     ensures step { let awaited = literal_word word position nodes.old.all stack.old in
         gives result nodes.new.all stack.new awaited ≡ awaited }
@@ -127,7 +127,7 @@ pub fn literal_minus_step(
     nodes: &mut Nodes,
     stack: &mut Stack,
     view: &View,
-    position: Pos,
+    position: Position,
 ) -> Result<Option<Mode>, Memory>
     ensures step { let awaited = literal_minus_step position nodes.old.all stack.old (seen view.now) in
         gives result nodes.new.all stack.new awaited ≡ awaited }
@@ -229,7 +229,7 @@ pub fn method_named_step(
     view: &View,
     flags: Option<NodeId>,
     result_type: NodeId,
-    position: Pos,
+    position: Position,
     name: &SharedName,
 ) -> Result<Option<Mode>, Memory>
     ensures step { let awaited = method_named_step flags result_type position name.now nodes.old.all stack.old

@@ -11,7 +11,7 @@ use parser_nodes::growing_nodes::Nodes;
 use parser_nodes::stacks::Stack;
 use parser_nodes::views::View;
 use scj_base::vocabulary::{ASSIGN, COMMA, DOT, LEFT_PARENTHESIS, RIGHT_PARENTHESIS};
-use scj_base::{Memory, NodeId, Pos};
+use scj_base::{Memory, NodeId, Position};
 use scj_tree::Node;
 use type_steps::flags::{with_define_scope, with_runs_in, with_scope};
 use type_steps::names::is_word;
@@ -83,7 +83,7 @@ pub fn define_valued(
     stack: &mut Stack,
     id: NodeId,
     sign: u8,
-    position: Pos,
+    position: Position,
     parent_first: bool,
     first: NodeId,
 ) -> Result<Option<Mode>, Memory>
@@ -237,7 +237,7 @@ pub fn value_scope_step(
     nodes: &mut Nodes,
     stack: &mut Stack,
     view: &View,
-    position: Pos,
+    position: Position,
 ) -> Result<Option<Mode>, Memory>
     ensures step { let awaited = value_scope_step position nodes.old.all stack.old (seen view.now) in
         gives result nodes.new.all stack.new awaited ≡ awaited }
@@ -260,7 +260,7 @@ pub fn value_dot_step(
     nodes: &mut Nodes,
     stack: &mut Stack,
     view: &View,
-    position: Pos,
+    position: Position,
 ) -> Result<Option<Mode>, Memory>
     ensures step { let awaited = value_dot_step position nodes.old.all stack.old (seen view.now) in
         gives result nodes.new.all stack.new awaited ≡ awaited }
@@ -282,7 +282,7 @@ pub fn define_open_step(
     nodes: &mut Nodes,
     stack: &mut Stack,
     view: &View,
-    position: Pos,
+    position: Position,
 ) -> Result<Option<Mode>, Memory>
     ensures step { let awaited = define_open_step position nodes.old.all stack.old (seen view.now) in
         gives result nodes.new.all stack.new awaited ≡ awaited }
@@ -303,7 +303,7 @@ pub fn define_name_step(
     nodes: &mut Nodes,
     stack: &mut Stack,
     view: &View,
-    position: Pos,
+    position: Position,
 ) -> Result<Option<Mode>, Memory>
     ensures step { let awaited = define_name_step position nodes.old.all stack.old (seen view.now) in
         gives result nodes.new.all stack.new awaited ≡ awaited }
@@ -333,7 +333,7 @@ pub fn define_assign_step(
     nodes: &mut Nodes,
     stack: &mut Stack,
     view: &View,
-    position: Pos,
+    position: Position,
     parent_first: bool,
 ) -> Result<Option<Mode>, Memory>
     ensures step { let awaited = define_assign_step position parent_first nodes.old.all stack.old (seen view.now) in
@@ -359,7 +359,7 @@ pub fn define_other_step(
     nodes: &mut Nodes,
     stack: &mut Stack,
     view: &View,
-    position: Pos,
+    position: Position,
     parent_first: bool,
     first: NodeId,
 ) -> Result<Option<Mode>, Memory>
@@ -391,7 +391,7 @@ pub fn define_other_assign_step(
     nodes: &mut Nodes,
     stack: &mut Stack,
     view: &View,
-    position: Pos,
+    position: Position,
     parent_first: bool,
     first: NodeId,
 ) -> Result<Option<Mode>, Memory>

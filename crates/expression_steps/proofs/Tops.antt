@@ -4,7 +4,7 @@ use Rattle.parser_machine.specs.Closing.{closed}
 use Rattle.parser_machine.specs.Operands.{awaits_target, name_sign_step, post_ended, post_step}
 use Rattle.parser_machine.specs.declared.entries.Entry.{Entry}
 use Rattle.parser_machine.specs.declared.entries.Entry.TheVariants.{Target}
-use Rattle.scj_base.specs.declared.places.Pos.{Pos}
+use Rattle.scj_base.specs.declared.positions.Position.{Position}
 use Rattle.scj_tree.specs.Nodes.{put}
 use Rattle.scj_tree.specs.Lexemes.{Lexeme, a_sign}
 use Rattle.scj_tree.specs.declared.nodes.Node.{Node}
@@ -12,14 +12,14 @@ use Rattle.scj_tree.specs.declared.nodes.Node.TheVariants.{SimpleName}
 use Rattle.scj_tree.specs.declared.readings.PostKind.{PostKind}
 use Rattle.scj_tree.specs.declared.readings.PostKind.TheVariants.{Variable}
 
-pub not_due_behind : (kind : PostKind) (p : Pos) (id : ℕ) (N : List Node) (s : List Entry) (t : Lexeme) →
+pub not_due_behind : (kind : PostKind) (p : Position) (id : ℕ) (N : List Node) (s : List Entry) (t : Lexeme) →
     awaits_target s ≡ false → post_ended kind p id N s t ≡ closed id N s t
 unfolding awaits_target post_ended
 not_due_behind kind p id N [] t h = refl
 not_due_behind kind p id N (Target ∷ s) t h = cc
 not_due_behind kind p id N (_ ∷ s) t h = refl
 
-pub not_due_at_name : (p : Pos) (w : List ℕ) (N : List Node) (s : List Entry) (n : ℕ) (q : Pos) →
+pub not_due_at_name : (p : Position) (w : List ℕ) (N : List Node) (s : List Entry) (n : ℕ) (q : Position) →
     awaits_target s ≡ false → name_sign_step p w N s n q ≡ post_step Variable p (length N) (put N (SimpleName p w)) s
     (a_sign n q)
 unfolding awaits_target name_sign_step

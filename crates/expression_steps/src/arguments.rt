@@ -12,7 +12,7 @@ use parser_nodes::growing_nodes::Nodes;
 use parser_nodes::stacks::Stack;
 use parser_nodes::views::View;
 use scj_base::vocabulary::{BOOLEAN, INT, LEFT_BRACKET, LEFT_PARENTHESIS, RIGHT_PARENTHESIS};
-use scj_base::{Memory, NodeId, Pos, SharedName};
+use scj_base::{Memory, NodeId, Position, SharedName};
 use scj_tree::Node;
 
 /// Behind `new` and a word.
@@ -21,8 +21,8 @@ pub fn new_word(
     nodes: &mut Nodes,
     stack: &mut Stack,
     word: u8,
-    position: Pos,
-    word_position: Pos,
+    position: Position,
+    word_position: Position,
 ) -> Result<Option<Mode>, Memory>
     ensures step { let awaited = new_step position nodes.old.all stack.old (a_word word word_position) in
         gives result nodes.new.all stack.new awaited ≡ awaited }
@@ -49,7 +49,7 @@ pub fn new_step(
     nodes: &mut Nodes,
     stack: &mut Stack,
     view: &View,
-    position: Pos,
+    position: Position,
 ) -> Result<Option<Mode>, Memory>
     ensures step { let awaited = new_step position nodes.old.all stack.old (seen view.now) in
         gives result nodes.new.all stack.new awaited ≡ awaited }
@@ -72,8 +72,8 @@ pub fn new_name_step(
     nodes: &mut Nodes,
     stack: &mut Stack,
     view: &View,
-    position: Pos,
-    name_position: Pos,
+    position: Position,
+    name_position: Position,
     name: &SharedName,
 ) -> Result<Option<Mode>, Memory>
     ensures step { let awaited = new_name_step position name_position name.now nodes.old.all stack.old (seen view.now) in
@@ -113,7 +113,7 @@ pub fn new_element_step(
     nodes: &mut Nodes,
     stack: &mut Stack,
     view: &View,
-    position: Pos,
+    position: Position,
     element: NodeId,
 ) -> Result<Option<Mode>, Memory>
     ensures step { let awaited = new_element_step position element nodes.old.all stack.old (seen view.now) in

@@ -12,7 +12,7 @@ use parser_nodes::items::with_item;
 use parser_nodes::stacks::Stack;
 use parser_nodes::views::View;
 use scj_base::vocabulary::{ASSIGN, COMMA, RIGHT_BRACKET, RIGHT_PARENTHESIS, SEMICOLON};
-use scj_base::{Memory, NodeId, Pos, SharedName};
+use scj_base::{Memory, NodeId, Position, SharedName};
 use scj_tree::{Node, NodeList, PostKind};
 
 /// Behind an assignment or a local with a value.
@@ -136,8 +136,8 @@ pub fn super_call_ended(
     nodes: &mut Nodes,
     stack: &mut Stack,
     list: NodeList,
-    block_position: Pos,
-    position: Pos,
+    block_position: Position,
+    position: Position,
 ) -> Result<Option<Mode>, Memory>
     ensures step { let awaited = arguments_ended list nodes.old.all (SuperCallOpen block_position position ∷ stack.old) in
         gives result nodes.new.all stack.new awaited ≡ awaited }
@@ -206,7 +206,7 @@ pub fn target_assigned(
     stack: &mut Stack,
     kind: PostKind,
     id: NodeId,
-    position: Pos,
+    position: Position,
 ) -> Result<Option<Mode>, Memory>
     ensures step { let awaited = target_assigned kind id position nodes.old.all stack.old in
         gives result nodes.new.all stack.new awaited ≡ awaited }
@@ -227,7 +227,7 @@ pub fn target_alone(
     nodes: &mut Nodes,
     stack: &mut Stack,
     kind: PostKind,
-    position: Pos,
+    position: Position,
     id: NodeId,
 ) -> Result<Option<Mode>, Memory>
     ensures step { let awaited = target_alone kind position id nodes.old.all stack.old in
@@ -259,7 +259,7 @@ pub fn target_ended(
     stack: &mut Stack,
     view: &View,
     kind: PostKind,
-    position: Pos,
+    position: Position,
     id: NodeId,
 ) -> Result<Option<Mode>, Memory>
     ensures step { let awaited = target_ended kind position id nodes.old.all stack.old (seen view.now) in
@@ -284,7 +284,7 @@ pub fn compound_ended(
     nodes: &mut Nodes,
     stack: &mut Stack,
     view: &View,
-    position: Pos,
+    position: Position,
     operator: u8,
     target: NodeId,
     left: NodeId,
@@ -315,7 +315,7 @@ pub fn group_ended(
     nodes: &mut Nodes,
     stack: &mut Stack,
     view: &View,
-    position: Pos,
+    position: Position,
     id: NodeId,
 ) -> Result<Option<Mode>, Memory>
     ensures step { let awaited = ended (GroupOpen position) id nodes.old.all stack.old (seen view.now) in
@@ -342,7 +342,7 @@ pub fn index_ended(
     nodes: &mut Nodes,
     stack: &mut Stack,
     view: &View,
-    position: Pos,
+    position: Position,
     array: NodeId,
     id: NodeId,
 ) -> Result<Option<Mode>, Memory>
@@ -374,7 +374,7 @@ pub fn length_ended(
     nodes: &mut Nodes,
     stack: &mut Stack,
     view: &View,
-    position: Pos,
+    position: Position,
     element: NodeId,
     id: NodeId,
 ) -> Result<Option<Mode>, Memory>
@@ -406,7 +406,7 @@ pub fn for_test_ended(
     nodes: &mut Nodes,
     stack: &mut Stack,
     view: &View,
-    position: Pos,
+    position: Position,
     first: NodeId,
     id: NodeId,
 ) -> Result<Option<Mode>, Memory>
@@ -434,7 +434,7 @@ pub fn if_test_ended(
     nodes: &mut Nodes,
     stack: &mut Stack,
     view: &View,
-    position: Pos,
+    position: Position,
     id: NodeId,
 ) -> Result<Option<Mode>, Memory>
     ensures step { let awaited = ended (IfTest position) id nodes.old.all stack.old (seen view.now) in
@@ -460,7 +460,7 @@ pub fn while_test_ended(
     nodes: &mut Nodes,
     stack: &mut Stack,
     view: &View,
-    position: Pos,
+    position: Position,
     id: NodeId,
 ) -> Result<Option<Mode>, Memory>
     ensures step { let awaited = ended (WhileTest position) id nodes.old.all stack.old (seen view.now) in
@@ -486,7 +486,7 @@ pub fn return_ended(
     nodes: &mut Nodes,
     stack: &mut Stack,
     view: &View,
-    position: Pos,
+    position: Position,
     id: NodeId,
 ) -> Result<Option<Mode>, Memory>
     ensures step { let awaited = ended (ReturnValue position) id nodes.old.all stack.old (seen view.now) in
@@ -512,7 +512,7 @@ pub fn value_ended(
     nodes: &mut Nodes,
     stack: &mut Stack,
     view: &View,
-    position: Pos,
+    position: Position,
     target: NodeId,
     id: NodeId,
 ) -> Result<Option<Mode>, Memory>
@@ -534,8 +534,8 @@ pub fn local_value_ended(
     nodes: &mut Nodes,
     stack: &mut Stack,
     view: &View,
-    position: Pos,
-    name_position: Pos,
+    position: Position,
+    name_position: Position,
     name: SharedName,
     flags: Option<NodeId>,
     declared_type: NodeId,

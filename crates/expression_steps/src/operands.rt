@@ -15,7 +15,7 @@ use scj_base::vocabulary::{
     DOT, FALSE, LEFT_BRACKET, LEFT_PARENTHESIS, MINUS, NEW, NOT, NULL, RIGHT_PARENTHESIS, THIS,
     TILDE, TRUE,
 };
-use scj_base::{Memory, NodeId, Pos, SharedName};
+use scj_base::{Memory, NodeId, Position, SharedName};
 use scj_tree::{Node, PostKind};
 
 /// Behind a whole expression of names, calls and brackets, of which `place` is the begin.
@@ -25,7 +25,7 @@ pub fn post_ended(
     stack: &mut Stack,
     view: &View,
     kind: PostKind,
-    position: Pos,
+    position: Position,
     id: NodeId,
 ) -> Result<Option<Mode>, Memory>
     ensures step { let awaited = post_ended kind position id nodes.old.all stack.old (seen view.now) in
@@ -45,7 +45,7 @@ pub fn post_step(
     stack: &mut Stack,
     view: &View,
     kind: PostKind,
-    position: Pos,
+    position: Position,
     id: NodeId,
 ) -> Result<Option<Mode>, Memory>
     ensures step { let awaited = post_step kind position id nodes.old.all stack.old (seen view.now) in
@@ -97,7 +97,7 @@ pub fn dot_name_step(
     stack: &mut Stack,
     view: &View,
     object: NodeId,
-    position: Pos,
+    position: Position,
     name: &SharedName,
 ) -> Result<Option<Mode>, Memory>
     ensures step { let awaited = dot_name_step object position name.now nodes.old.all stack.old (seen view.now) in
@@ -128,9 +128,9 @@ pub fn dot_name_step(
 pub fn compound_step(
     nodes: &mut Nodes,
     stack: &mut Stack,
-    position: Pos,
+    position: Position,
     name: &SharedName,
-    sign_position: Pos,
+    sign_position: Position,
     operator: u8,
 ) -> Result<Option<Mode>, Memory>
     ensures step { let awaited = compound_step position name.now sign_position operator nodes.old.all stack.old in
@@ -159,9 +159,9 @@ pub fn compound_step(
 pub fn stepping_step(
     nodes: &mut Nodes,
     stack: &mut Stack,
-    position: Pos,
+    position: Position,
     name: &SharedName,
-    sign_position: Pos,
+    sign_position: Position,
     operator: u8,
 ) -> Result<Option<Mode>, Memory>
     ensures step { let awaited = stepping_step position name.now sign_position operator nodes.old.all stack.old in
@@ -200,10 +200,10 @@ pub fn stepping_step(
 pub fn target_name_step(
     nodes: &mut Nodes,
     stack: &mut Stack,
-    position: Pos,
+    position: Position,
     name: &SharedName,
     sign: u8,
-    sign_position: Pos,
+    sign_position: Position,
 ) -> Result<Option<Mode>, Memory>
     ensures step { let awaited = target_name_step position name.now nodes.old.all stack.old sign sign_position in
         gives result nodes.new.all stack.new awaited ≡ awaited }
@@ -229,10 +229,10 @@ pub fn target_name_step(
 pub fn name_sign_step(
     nodes: &mut Nodes,
     stack: &mut Stack,
-    position: Pos,
+    position: Position,
     name: &SharedName,
     sign: u8,
-    sign_position: Pos,
+    sign_position: Position,
 ) -> Result<Option<Mode>, Memory>
     ensures step { let awaited = name_sign_step position name.now nodes.old.all stack.old sign sign_position in
         gives result nodes.new.all stack.new awaited ≡ awaited }
@@ -255,7 +255,7 @@ pub fn name_step(
     nodes: &mut Nodes,
     stack: &mut Stack,
     view: &View,
-    position: Pos,
+    position: Position,
     name: &SharedName,
 ) -> Result<Option<Mode>, Memory>
     ensures step { let awaited = name_step position name.now nodes.old.all stack.old (seen view.now) in
@@ -289,7 +289,7 @@ pub fn operand_word(
     nodes: &mut Nodes,
     stack: &mut Stack,
     word: u8,
-    position: Pos,
+    position: Position,
 ) -> Result<Option<Mode>, Memory>
     ensures step { let awaited = operand_word word position nodes.old.all stack.old in
         gives result nodes.new.all stack.new awaited ≡ awaited }
@@ -319,7 +319,7 @@ pub fn operand_sign(
     nodes: &mut Nodes,
     stack: &mut Stack,
     sign: u8,
-    position: Pos,
+    position: Position,
 ) -> Result<Option<Mode>, Memory>
     ensures step { let awaited = operand_sign sign position nodes.old.all stack.old in
         gives result nodes.new.all stack.new awaited ≡ awaited }
@@ -384,7 +384,7 @@ pub fn minus_step(
     nodes: &mut Nodes,
     stack: &mut Stack,
     view: &View,
-    position: Pos,
+    position: Position,
 ) -> Result<Option<Mode>, Memory>
     ensures step { let awaited = minus_step position nodes.old.all stack.old (seen view.now) in
         gives result nodes.new.all stack.new awaited ≡ awaited }
@@ -415,7 +415,7 @@ pub fn opened_step(
     nodes: &mut Nodes,
     stack: &mut Stack,
     view: &View,
-    position: Pos,
+    position: Position,
 ) -> Result<Option<Mode>, Memory>
     ensures step { let awaited = opened_step position nodes.old.all stack.old (seen view.now) in
         gives result nodes.new.all stack.new awaited ≡ awaited }
@@ -438,8 +438,8 @@ pub fn opened_name_step(
     nodes: &mut Nodes,
     stack: &mut Stack,
     view: &View,
-    position: Pos,
-    name_position: Pos,
+    position: Position,
+    name_position: Position,
     name: &SharedName,
 ) -> Result<Option<Mode>, Memory>
     ensures step { let awaited = opened_name_step position name_position name.now nodes.old.all stack.old (seen view.now) in
@@ -463,8 +463,8 @@ pub fn closed_name_step(
     nodes: &mut Nodes,
     stack: &mut Stack,
     view: &View,
-    position: Pos,
-    name_position: Pos,
+    position: Position,
+    name_position: Position,
     name: &SharedName,
 ) -> Result<Option<Mode>, Memory>
     ensures step { let awaited = closed_name_step position name_position name.now nodes.old.all stack.old (seen view.now) in

@@ -1,6 +1,6 @@
 -- What each expression of an accepted program has, by its kind.
 use Rattle.std.proofs.Common.{◌≡◌, ℕ, List, refl, sym, ap, ◌∙◌, Option, Some, None, Bool, true, false, true≢false, ◌⊎◌, inl, inr, slice_get}
-use Rattle.scj_base.specs.declared.places.Pos.{Pos}
+use Rattle.scj_base.specs.declared.positions.Position.{Position}
 use Rattle.scj_tree.specs.declared.nodes.Node.{Node}
 use Rattle.scj_tree.specs.declared.nodes.Node.TheVariants.{Binary, Unary, Cast, Parenthesized, SimpleName, FieldAccess, Call, Element, New, NewArray, Text, Number, True, False, Null, This as ThisNode}
 use Rattle.scj_tree.specs.Forest.{Forest, IsForest}
@@ -85,7 +85,7 @@ module _ (forest : Forest) (accepted : IsAccepted forest) (whole : IsForest fore
       CallFact code b c sig id object arguments o ⊎
       (StaticCallFact code b c sig id arguments o ⊎ BuiltinFact code b c sig id object arguments o)
 
-  calls : (b c : ℕ) (sig : Signature) (id : ℕ) (position : Pos) (name : List ℕ) (object : Option ℕ) (arguments : List ℕ)
+  calls : (b c : ℕ) (sig : Signature) (id : ℕ) (position : Position) (name : List ℕ) (object : Option ℕ) (arguments : List ℕ)
       (o : Option Kind) → IsBody p b c sig → slice_get forest.nodes id ≡ Some (Call position name object arguments) →
       Inside p b c id → Judged p id o → CallCases b c sig id object arguments o
   calls b c sig id position name object arguments o body there inside j = by_method v.method.method.builtin refl

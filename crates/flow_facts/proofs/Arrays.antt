@@ -1,6 +1,6 @@
 -- Elements of arrays, new arrays and casts.
 use Rattle.std.proofs.Common.{◌≡◌, ℕ, ◌<◌, ◌≤◌, List, length, refl, sym, ap, ◌∙◌, subst, Option, Some, None, true, false, ◌||◌, true≢false, ◌⊎◌, inl, inr, option_and_then, option_map, slice_get}
-use Rattle.scj_base.specs.declared.places.Pos.{Pos}
+use Rattle.scj_base.specs.declared.positions.Position.{Position}
 use Rattle.scj_tree.specs.declared.nodes.Node.TheVariants.{Element, NewArray, Cast}
 use Rattle.scj_tree.specs.Forest.{Forest, IsForest}
 use Rattle.scj_rules.specs.declared.scopes.ClassScope.{ClassScope}
@@ -143,7 +143,7 @@ module _ (forest : Forest) (accepted : IsAccepted forest) (whole : IsForest fore
     abbrev code : Code
     code = code_of forest
 
-    pub element_fact : (b c id array index : ℕ) (position : Pos) (o : Option Kind) →
+    pub element_fact : (b c id array index : ℕ) (position : Position) (o : Option Kind) →
         slice_get forest.nodes id ≡ Some (Element position array index) → Inside p b c id → Judged p id o →
         ElementFact p b c id array index o
     unfolding gives_value
@@ -166,7 +166,7 @@ module _ (forest : Forest) (accepted : IsAccepted forest) (whole : IsForest fore
         now ≡ sig.runs_in
     is_current b c sig now body e = some_inj now sig.runs_in (sym e ∙ body.runs_in)
 
-    array_bound : (id element size class : ℕ) (position : Pos) (of array : Ty) →
+    array_bound : (id element size class : ℕ) (position : Position) (of array : Ty) →
         slice_get forest.nodes id ≡ Some (NewArray position element size) → written_type p element ≡ Some of →
         array_of of ≡ Some array → array_class p array ≡ Some class → binding_at_node p id ≡ ClassNamed class
     unfolding binding_of
@@ -184,7 +184,7 @@ module _ (forest : Forest) (accepted : IsAccepted forest) (whole : IsForest fore
     class_array_of Boolean c e = absurd (let f : BoolArray ≡ ClassArray c = some_inj BoolArray (ClassArray c) e in cc (f))
     class_array_of _ c e = absurd (cc (e))
 
-    pub new_array_fact : (b c : ℕ) (sig : Signature) (id element size : ℕ) (position : Pos) (o : Option Kind) →
+    pub new_array_fact : (b c : ℕ) (sig : Signature) (id element size : ℕ) (position : Position) (o : Option Kind) →
         IsBody p b c sig → slice_get forest.nodes id ≡ Some (NewArray position element size) → Inside p b c id →
         Judged p id o → NewArrayFact code b c sig id size o
     unfolding code_of gives_value
@@ -220,7 +220,7 @@ module _ (forest : Forest) (accepted : IsAccepted forest) (whole : IsForest fore
         null_any (type_at_node p x) (scope_at_node p x) s
         (subst (λ t. kind_of (type_at_node p x) (scope_at_node p x) ≡ Some (reference t s)) e j)
 
-    pub cast_fact : (b c id operand : ℕ) (position name_position : Pos) (name : List ℕ) (o : Option Kind) →
+    pub cast_fact : (b c id operand : ℕ) (position name_position : Position) (name : List ℕ) (o : Option Kind) →
         slice_get forest.nodes id ≡ Some (Cast position name_position name operand) → Inside p b c id → Judged p id o →
         CastFact code b c id operand o
     unfolding code_of gives_value

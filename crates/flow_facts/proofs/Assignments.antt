@@ -1,7 +1,7 @@
 -- What an assignment of an accepted program has, by its target: a local, a field of the own object or of another one, a
 -- static field, or an element of an array. A target has what it has as an expression, and the value fits it.
 use Rattle.std.proofs.Common.{◌≡◌, ℕ, List, refl, sym, ap, ◌∙◌, subst, Option, Some, None, Bool, true, false, not, ◌&&◌, true≢false, inl, inr, option_and_then, option_map, slice_get, arith, if◌then◌else◌, ◌⊎◌}
-use Rattle.scj_base.specs.declared.places.Pos.{Pos}
+use Rattle.scj_base.specs.declared.positions.Position.{Position}
 use Rattle.scj_tree.specs.declared.nodes.Node.{Node}
 use Rattle.scj_tree.specs.declared.nodes.Node.TheVariants.{Assign, SimpleName, FieldAccess, Element}
 use Rattle.scj_tree.specs.Forest.{Forest, IsForest}
@@ -87,7 +87,7 @@ module _ (forest : Forest) (accepted : IsAccepted forest) (whole : IsForest fore
     abbrev code : Code
     code = code_of forest
 
-    length_target : (target object : ℕ) (position : Pos) (name : List ℕ) →
+    length_target : (target object : ℕ) (position : Position) (name : List ℕ) →
         slice_get forest.nodes target ≡ Some (FieldAccess position name object) → binding_at_node p target ≡ Length →
         holds (read p.nodes (is_length_target p (type_at_node p)) target) (λ b. b) ≡ true
     unfolding is_length_target binding_of
@@ -97,7 +97,7 @@ module _ (forest : Forest) (accepted : IsAccepted forest) (whole : IsForest fore
         ∙ receiver_length p name (receiver p (type_at_node p) object)
         (sym (binding_is forest accepted whole sorted target (FieldAccess position name object) there) ∙ e)
 
-    element_bound : (target array index : ℕ) (position : Pos) →
+    element_bound : (target array index : ℕ) (position : Position) →
         slice_get forest.nodes target ≡ Some (Element position array index) → binding_at_node p target ≡ Plain
     unfolding binding_of
     element_bound target array index position there =
@@ -121,7 +121,7 @@ module _ (forest : Forest) (accepted : IsAccepted forest) (whole : IsForest fore
         is_guarded_store p (type_at_node p) id target value ≡ true → GuardedTarget forest accepted whole sorted target node
     guarded_at id target value node there g = guarded_target forest accepted whole sorted id target value node there g
 
-    element_unguarded : (id target value array index : ℕ) (position : Pos) →
+    element_unguarded : (id target value array index : ℕ) (position : Position) →
         slice_get forest.nodes target ≡ Some (Element position array index) →
         is_guarded_store p (type_at_node p) id target value ≡ true → ⊥
     unfolding stored_field
@@ -129,7 +129,7 @@ module _ (forest : Forest) (accepted : IsAccepted forest) (whole : IsForest fore
         (let t = guarded_at id target value (Element position array index) there g in let e = t.is in cc (e))
 
     -- the field of a guarded store, by a simple name and by an access
-    own_in_this : (id target value : ℕ) (position : Pos) (name : List ℕ) (f : FoundField) →
+    own_in_this : (id target value : ℕ) (position : Position) (name : List ℕ) (f : FoundField) →
         slice_get forest.nodes target ≡ Some (SimpleName position name) → meaning p target name ≡ a_field f →
         is_guarded_store p (type_at_node p) id target value ≡ true → is_in_this f.field ≡ true
     unfolding stored_field field_of_this
@@ -139,7 +139,7 @@ module _ (forest : Forest) (accepted : IsAccepted forest) (whole : IsForest fore
         let h : f ≡ t.field = ap (λ (x : Option Subject × FoundField). x.1) (some_inj (Some this_object, f) (t.subject, t.field) e) in
         ap (λ (f : FoundField). is_in_this f.field) h ∙ t.in_this
 
-    field_in_this : (id target value object : ℕ) (position : Pos) (name : List ℕ) (f : FoundField) →
+    field_in_this : (id target value object : ℕ) (position : Position) (name : List ℕ) (f : FoundField) →
         slice_get forest.nodes target ≡ Some (FieldAccess position name object) →
         option_and_then (λ r. accessed_field p r name) (receiver p (type_at_node p) object) ≡ Some f →
         is_guarded_store p (type_at_node p) id target value ≡ true → is_in_this f.field ≡ true
@@ -163,7 +163,7 @@ module _ (forest : Forest) (accepted : IsAccepted forest) (whole : IsForest fore
         go (Some r) a h i {u} e = found (accessed_field p r name) a u h i e
 
     -- what is bound as a local, or as a static field, is none
-    local_unguarded : (id target value : ℕ) (position : Pos) (name : List ℕ) (n : ℕ) →
+    local_unguarded : (id target value : ℕ) (position : Position) (name : List ℕ) (n : ℕ) →
         slice_get forest.nodes target ≡ Some (SimpleName position name) → binding_at_node p target ≡ LocalVariable n →
         is_guarded_store p (type_at_node p) id target value ≡ true → ⊥
     unfolding stored_field field_of_this binding_of meaning_binding field_binding
@@ -200,7 +200,7 @@ module _ (forest : Forest) (accepted : IsAccepted forest) (whole : IsForest fore
     no_static n None false h e = cc (e)
     no_static n (Some k) false h e = cc (e)
 
-    static_name_unguarded : (id target value : ℕ) (position : Pos) (name : List ℕ) (n : ℕ) →
+    static_name_unguarded : (id target value : ℕ) (position : Position) (name : List ℕ) (n : ℕ) →
         slice_get forest.nodes target ≡ Some (SimpleName position name) → binding_at_node p target ≡ Static n →
         is_guarded_store p (type_at_node p) id target value ≡ true → ⊥
     unfolding stored_field field_of_this binding_of meaning_binding field_binding variable_binding
@@ -219,7 +219,7 @@ module _ (forest : Forest) (accepted : IsAccepted forest) (whole : IsForest fore
         go (a_class c) e i b = absurd (cc (e))
         go nothing e i b = absurd (cc (e))
 
-    static_access_unguarded : (id target value object : ℕ) (position : Pos) (name : List ℕ) (n : ℕ) →
+    static_access_unguarded : (id target value object : ℕ) (position : Position) (name : List ℕ) (n : ℕ) →
         slice_get forest.nodes target ≡ Some (FieldAccess position name object) → binding_at_node p target ≡ Static n →
         is_guarded_store p (type_at_node p) id target value ≡ true → ⊥
     unfolding stored_field binding_of access_binding field_binding
@@ -317,7 +317,7 @@ module _ (forest : Forest) (accepted : IsAccepted forest) (whole : IsForest fore
           (goes_here p given k real (subst (FitsAsSeen p given) (some_inj a.expected k e) (unguarded n)))
 
       -- one that is stored in a field, which is found so
-      field_fits : (position : Pos) → slice_get p.nodes id ≡ Some (Assign position target value) → (class n : ℕ)
+      field_fits : (position : Position) → slice_get p.nodes id ≡ Some (Assign position target value) → (class n : ℕ)
           (name : List ℕ) (home : Scope) (k : Kind) → IsSlotKind k → Some a.expected ≡ Some (seen_kind home Caller k) →
           (f : InstanceFieldOf p class name n k) → (Guarded → is_in_this f.field.field ≡ true) →
           FieldValueFits p b c id value class home k
@@ -358,8 +358,8 @@ module _ (forest : Forest) (accepted : IsAccepted forest) (whole : IsForest fore
                 (immortal_is_real x.has.kind x.has.is_immortal) x.is_given n;
           }
 
-      module _ (at_place : Pos) (assigned : slice_get p.nodes id ≡ Some (Assign at_place target value)) where
-        of_name : (position : Pos) (name : List ℕ) → slice_get forest.nodes target ≡ Some (SimpleName position name) →
+      module _ (at_place : Position) (assigned : slice_get p.nodes id ≡ Some (Assign at_place target value)) where
+        of_name : (position : Position) (name : List ℕ) → slice_get forest.nodes target ≡ Some (SimpleName position name) →
             slice_get p.nodes target ≡ Some (SimpleName position name) →
             NameFact forest accepted whole sorted b c target name (Some a.expected) → AssignFact code b c id target value
         unfolding code_of
@@ -394,7 +394,7 @@ module _ (forest : Forest) (accepted : IsAccepted forest) (whole : IsForest fore
             inr (inr (inr (inl (set_static (SimpleName position name) stands
             (λ g. static_name_unguarded id target value position name x.field there x.is g) x))))
 
-        of_access : (position : Pos) (name : List ℕ) (object : ℕ) →
+        of_access : (position : Position) (name : List ℕ) (object : ℕ) →
             slice_get forest.nodes target ≡ Some (FieldAccess position name object) →
             slice_get p.nodes target ≡ Some (FieldAccess position name object)
             → AccessFact forest accepted whole sorted b c target object name (Some a.expected) →
@@ -422,7 +422,7 @@ module _ (forest : Forest) (accepted : IsAccepted forest) (whole : IsForest fore
         of_access position name object there stands (inr (inr x)) =
             absurd (true≢false (sym (length_target target object position name there x.is) ∙ a.is_no_length))
 
-        of_element : (position : Pos) (array index : ℕ) → slice_get forest.nodes target ≡ Some (Element position array index) →
+        of_element : (position : Position) (array index : ℕ) → slice_get forest.nodes target ≡ Some (Element position array index) →
             slice_get p.nodes target ≡ Some (Element position array index) →
             ElementFact p b c target array index (Some a.expected) → AssignFact code b c id target value
         unfolding code_of
@@ -461,7 +461,7 @@ module _ (forest : Forest) (accepted : IsAccepted forest) (whole : IsForest fore
             (Some a.expected) there a.target_is.child.inside a.target_is.judged)
         by_target _ there k = absurd (true≢false (sym k))
 
-    pub assign_fact : (b c id target value : ℕ) (position : Pos) →
+    pub assign_fact : (b c id target value : ℕ) (position : Position) →
         slice_get forest.nodes id ≡ Some (Assign position target value) → Inside p b c id →
         AssignFact code b c id target value
     unfolding HasRightChildren

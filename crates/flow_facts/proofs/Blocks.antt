@@ -2,7 +2,7 @@
 -- declared before them; and what a block has.
 use Rattle.std.proofs.Common.{◌≡◌, ℕ, ◌+◌, ◌<◌, ◌≤◌, List, [], ◌∷◌, refl, sym, ap, ◌∙◌, subst, arith, Option, Some, None, Bool, true, false, not, ◌==◌, is_some, slice_get, if◌then◌else◌, inl, length, suc, inr}
 use Rattle.std.specs.List.{prefix_len}
-use Rattle.scj_base.specs.declared.places.Pos.{Pos}
+use Rattle.scj_base.specs.declared.positions.Position.{Position}
 use Rattle.scj_tree.specs.declared.nodes.Node.{Node}
 use Rattle.scj_tree.specs.declared.nodes.Node.TheVariants.{Block}
 use Rattle.scj_tree.specs.Counts.{times}
@@ -172,7 +172,7 @@ module _ (forest : Forest) (accepted : IsAccepted forest) (whole : IsForest fore
             (e ∙ ap (λ (o : Option ℕ). if is_some (variable_at nodes x) then Some x else o) (sym f.0)) v a)
 
     -- the statements of a block
-    pub block_statements : (b c id : ℕ) (position : Pos) (statements : List ℕ) →
+    pub block_statements : (b c id : ℕ) (position : Position) (statements : List ℕ) →
         slice_get nodes id ≡ Some (Block position statements) → Inside p b c id →
         HaveStatements p b c id (known_variables p id) statements
     unfolding HasRightChildren children declared_before is_inner

@@ -1,7 +1,7 @@
 -- The facts of statements and bodies at a whole controller, whose nodes are computed: none of the laws speaks of
 -- nothing.
 use Rattle.std.proofs.Common.{ℕ, ◌<◌, List, [], ◌∷◌, length, refl, Some, None, codes, true≢false, sym, arith}
-use Rattle.scj_base.specs.declared.places.Pos.{Pos}
+use Rattle.scj_base.specs.declared.positions.Position.{Position}
 use Rattle.scj_builtins.specs.Framework.{aperiodic_handler}
 use Rattle.scj_tree.specs.declared.nodes.Node.{Node}
 use Rattle.scj_tree.specs.declared.nodes.Node.TheVariants.{Assign, Block, Constructor, SuperCall}
@@ -35,7 +35,7 @@ p = declarations_of controller
 abbrev code : Code
 code = record { program = p; bindings = bindings_in p }
 
-abbrev at : ℕ → ℕ → Pos
+abbrev at : ℕ → ℕ → Position
 at line col = record { file = 1; line = line; col = col }
 
 -- ---- statements

@@ -1,7 +1,7 @@
 -- The parts of any call: its receiver, its arguments, and what the rules on uses say of it.
 use Rattle.std.proofs.Common.{◌≡◌, ℕ, List, [], ◌++◌, refl, sym, ap, ◌∙◌, Option, Some, None, Bool, true, false, true≢false, option_map, is_some, slice_get, if◌then◌else◌, ◌==◌}
 use Rattle.scj_base.specs.declared.findings.Rule.TheVariants.{E2}
-use Rattle.scj_base.specs.declared.places.Pos.{Pos}
+use Rattle.scj_base.specs.declared.positions.Position.{Position}
 use Rattle.scj_builtins.specs.Framework.{managed_memory}
 use Rattle.scj_tree.specs.declared.nodes.Node.{Node}
 use Rattle.scj_tree.specs.declared.nodes.Node.TheVariants.{Call}
@@ -63,7 +63,7 @@ module _ (forest : Forest) (accepted : IsAccepted forest) (whole : IsForest fore
       pub ts : List Ty
       pub typed : all_types types arguments ≡ Some ts
 
-    pub call_parts : (b c id : ℕ) (position : Pos) (name : List ℕ) (object : Option ℕ) (arguments : List ℕ) →
+    pub call_parts : (b c id : ℕ) (position : Position) (name : List ℕ) (object : Option ℕ) (arguments : List ℕ) →
         slice_get forest.nodes id ≡ Some (Call position name object arguments) → Inside p b c id →
         CallParts b c id name object arguments
     unfolding children is_argument is_expression object_of takes_parts HasRightChildren declared_before call_receiver
@@ -110,7 +110,7 @@ module _ (forest : Forest) (accepted : IsAccepted forest) (whole : IsForest fore
     -- ---- the rules on uses
 
     -- E3 at a call of a user's method
-    pub passed_rightly : (id : ℕ) (position : Pos) (name : List ℕ) (object : Option ℕ) (arguments : List ℕ) →
+    pub passed_rightly : (id : ℕ) (position : Position) (name : List ℕ) (object : Option ℕ) (arguments : List ℕ) →
         use_breaks p types scopes id (Call position name object arguments) ≡ [] →
         found_at (called_user_method p types id object name)
         (e3_of_call p scopes (receiver_scope p scopes id object) (current_at p id) arguments) ≡ []

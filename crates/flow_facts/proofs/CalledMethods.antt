@@ -1,6 +1,6 @@
 -- A call of a method of the framework, and the methods that take values: `allocInSame`, ceilings, prints and reads.
 use Rattle.std.proofs.Common.{◌≡◌, ℕ, List, [], ◌∷◌, refl, sym, ap, ◌∙◌, Option, Some, None, true, slice_get}
-use Rattle.scj_base.specs.declared.places.Pos.{Pos}
+use Rattle.scj_base.specs.declared.positions.Position.{Position}
 use Rattle.scj_builtins.specs.declared.methods.FrameworkMethod.{FrameworkMethod}
 use Rattle.scj_builtins.specs.Framework.{object as object_class, object_name, managed_memory_alloc_in_same, services_set_ceiling, trace_print, device_read}
 use Rattle.scj_tree.specs.declared.nodes.Node.TheVariants.{Call}
@@ -42,7 +42,7 @@ module _ (forest : Forest) (accepted : IsAccepted forest) (whole : IsForest fore
   -- a call of a method of the framework, with what is known of it
   pub record Called (b c id : ℕ) (name : List ℕ) (object : Option ℕ) (arguments : List ℕ) (f : FoundMethod)
       (row : FrameworkMethod) : Type 0 where
-    pub position : Pos
+    pub position : Position
     pub stands : slice_get forest.nodes id ≡ Some (Call position name object arguments)
     pub inside : Inside p b c id
     pub method : method_called p types id object name ≡ Some f

@@ -1,6 +1,6 @@
 -- Calls: the method that is called, and calls of users' methods on objects.
 use Rattle.std.proofs.Common.{◌≡◌, ℕ, List, sym, ap, ◌∙◌, subst, Option, Some, None, false, option_and_then, slice_get, refl}
-use Rattle.scj_base.specs.declared.places.Pos.{Pos}
+use Rattle.scj_base.specs.declared.positions.Position.{Position}
 use Rattle.scj_tree.specs.declared.nodes.Node.TheVariants.{Call}
 use Rattle.scj_tree.specs.Forest.{Forest, IsForest}
 use Rattle.scj_rules.specs.declared.typing.Scope.{Scope}
@@ -58,7 +58,7 @@ module _ (forest : Forest) (accepted : IsAccepted forest) (whole : IsForest fore
     pub typed : declared_type_of p method.method.declared ≡ Some type
     pub given : types id ≡ Some type
 
-  pub invoked : (id : ℕ) (position : Pos) (name : List ℕ) (object : Option ℕ) (arguments : List ℕ) (o : Option Kind) →
+  pub invoked : (id : ℕ) (position : Position) (name : List ℕ) (object : Option ℕ) (arguments : List ℕ) (o : Option Kind) →
       slice_get forest.nodes id ≡ Some (Call position name object arguments) → Judged p id o → Invoked id name object
   unfolding type_of call_type
   invoked id position name object arguments o there j =
@@ -95,7 +95,7 @@ module _ (forest : Forest) (accepted : IsAccepted forest) (whole : IsForest fore
 
   -- ---- calls on objects
 
-  pub call_fact : (b c : ℕ) (sig : Signature) (id : ℕ) (position : Pos) (name : List ℕ) (object : Option ℕ)
+  pub call_fact : (b c : ℕ) (sig : Signature) (id : ℕ) (position : Position) (name : List ℕ) (object : Option ℕ)
       (arguments : List ℕ) (o : Option Kind) → IsBody p b c sig →
       slice_get forest.nodes id ≡ Some (Call position name object arguments) → Inside p b c id →
       (m : Invoked id name object) → m.method.method.builtin ≡ None →

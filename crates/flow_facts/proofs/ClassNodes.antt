@@ -4,7 +4,7 @@ use Rattle.std.proofs.Common.{◌≡◌, ℕ, ◌+◌, ◌<◌, zero, suc, List,
 use Rattle.std.specs.List.{cons_option}
 use Rattle.std.proofs.lemmas.Option.{slice_get_within}
 use Rattle.scj_builtins.specs.Framework.{framework_classes}
-use Rattle.scj_base.specs.declared.places.Pos.{Pos}
+use Rattle.scj_base.specs.declared.positions.Position.{Position}
 use Rattle.scj_tree.specs.declared.nodes.Node.{Node}
 use Rattle.scj_tree.specs.declared.nodes.Node.TheVariants.{Class, Flags, Supers}
 use Rattle.scj_tree.specs.Forest.{Forest, IsForest, IsClass, is_class, AllClasses, joined}
@@ -162,7 +162,7 @@ module _ (forest : Forest) (accepted : IsAccepted forest) (whole : IsForest fore
     unfolding declarations_of
     no_parent_is x l q = no-parent forest whole x l q
 
-    in_members : (b k : ℕ) (node : Node) (place : Pos) (name : List ℕ) (flags header : Option ℕ) (members : List ℕ) →
+    in_members : (b k : ℕ) (node : Node) (place : Position) (name : List ℕ) (flags header : Option ℕ) (members : List ℕ) →
         slice_get nodes b ≡ Some node → is_member node ≡ true →
         slice_get nodes k ≡ Some (Class place name flags header members) →
         is_among b (children (Class place name flags header members)) ≡ true → is_among b members ≡ true

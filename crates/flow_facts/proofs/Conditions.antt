@@ -1,6 +1,6 @@
 -- What an `if`, a `while` and a `for` of an accepted program have: their conditions and their parts.
 use Rattle.std.proofs.Common.{◌≡◌, ℕ, List, [], ◌∷◌, refl, sym, ap, ◌∙◌, Option, Some, None, Bool, true, false, true≢false, ◌==◌, is_some, option_and_then, slice_get, if◌then◌else◌}
-use Rattle.scj_base.specs.declared.places.Pos.{Pos}
+use Rattle.scj_base.specs.declared.positions.Position.{Position}
 use Rattle.scj_tree.specs.declared.nodes.Node.{Node}
 use Rattle.scj_tree.specs.declared.nodes.Node.TheVariants.{Parameter, Local, LocalWithValue, Assign, If, While, For}
 use Rattle.scj_tree.specs.Forest.{Forest, IsForest}
@@ -60,7 +60,7 @@ module _ (forest : Forest) (accepted : IsAccepted forest) (whole : IsForest fore
     fourth : (w x y z : ℕ) (ids : List ℕ) → is_among z (w ∷ x ∷ y ∷ z ∷ ids) ≡ true
     fourth w x y z ids = or_right (z == w) (is_among z (x ∷ y ∷ z ∷ ids)) (third x y z ids)
 
-    pub if_fact : (b c id condition then_part : ℕ) (position : Pos) (else_part : Option ℕ) →
+    pub if_fact : (b c id condition then_part : ℕ) (position : Position) (else_part : Option ℕ) →
         slice_get nodes id ≡ Some (If position condition then_part else_part) → Inside p b c id →
         IfFact p b c id condition then_part else_part
     unfolding HasRightChildren children declared_before is_inner
@@ -83,7 +83,7 @@ module _ (forest : Forest) (accepted : IsAccepted forest) (whole : IsForest fore
             statement_below forest accepted whole sorted b c id x (If position condition then_part (Some x)) there2 inside
             refl (third condition then_part x []) s refl
 
-    pub while_fact : (b c id condition body : ℕ) (position : Pos) → slice_get nodes id ≡ Some (While position condition body) →
+    pub while_fact : (b c id condition body : ℕ) (position : Position) → slice_get nodes id ≡ Some (While position condition body) →
         Inside p b c id → WhileFact p b c id condition body
     unfolding HasRightChildren children declared_before is_inner
     while_fact b c id condition body position there inside =
@@ -102,7 +102,7 @@ module _ (forest : Forest) (accepted : IsAccepted forest) (whole : IsForest fore
     no_variable_at test x h o = ap (λ (n : Option Node). is_some (option_and_then (variable_of nodes x) n)) o.is_there
         ∙ h o.node o.passes
 
-    pub for_fact : (b c id first condition step body : ℕ) (position : Pos) →
+    pub for_fact : (b c id first condition step body : ℕ) (position : Position) →
         slice_get nodes id ≡ Some (For position first condition step body) → Inside p b c id →
         ForFact p b c id first condition step body
     unfolding HasRightChildren children declared_before is_inner

@@ -1,7 +1,7 @@
 -- The bodies of constructors: those that are written, and a class itself where its constructor isn't.
 use Rattle.std.proofs.Common.{◌≡◌, ℕ, List, [], ◌∷◌, ◌++◌, map, refl, sym, ap, ◌∙◌, subst, Option, Some, None, Bool, true, false, not, ◌||◌, ◌==◌, true≢false, option_and_then, option_map, unwrap_or, is_some, slice_get, if◌then◌else◌}
 use Rattle.scj_base.specs.declared.findings.Rule.TheVariants.{C11}
-use Rattle.scj_base.specs.declared.places.Pos.{Pos}
+use Rattle.scj_base.specs.declared.positions.Position.{Position}
 use Rattle.scj_builtins.specs.Framework.{object}
 use Rattle.scj_tree.specs.declared.nodes.Node.{Node}
 use Rattle.scj_tree.specs.declared.nodes.Node.TheVariants.{Class, Constructor}
@@ -59,7 +59,7 @@ module _ (forest : Forest) (accepted : IsAccepted forest) (whole : IsForest fore
 
   -- ---- what a constructor is
 
-  constructor_parameter : (b c q : ℕ) (position : Pos) (name : List ℕ) (flags parameters super_call : Option ℕ) (body : ℕ)
+  constructor_parameter : (b c q : ℕ) (position : Position) (name : List ℕ) (flags parameters super_call : Option ℕ) (body : ℕ)
       (n : Node) (d : Declared) →
       slice_get forest.nodes b ≡ Some (Constructor position name flags parameters super_call body) →
       (context p b).class ≡ Some c

@@ -2,7 +2,7 @@
 use Rattle.std.specs.List.{cons_option}
 use Rattle.std.proofs.Common.{◌≡◌, ℕ, zero, suc, List, [], ◌∷◌, length, filter_map, refl, sym, ap, ◌∙◌, subst, true≢false, ◌⊎◌, inl, inr, Option, Some, None, option_and_then, Bool, true, false, ◌==◌, if◌then◌else◌, slice_get}
 use Rattle.std.proofs.lemmas.Option.{slice_get_within}
-use Rattle.scj_base.specs.declared.places.Pos.{Pos}
+use Rattle.scj_base.specs.declared.positions.Position.{Position}
 use Rattle.scj_tree.specs.declared.nodes.Node.{Node}
 use Rattle.scj_tree.specs.declared.nodes.Node.TheVariants.{If, Call, SimpleName, This as ThisNode}
 use Rattle.scj_tree.specs.Forest.{Forest, IsForest}
@@ -135,7 +135,7 @@ module _ (forest : Forest) (accepted : IsAccepted forest) (whole : IsForest fore
 
   -- an `if` that is a guard
   record GuardIf (number : ℕ) (guard : Guard) : Type 0 where
-    position : Pos
+    position : Position
     condition : ℕ
     first : ℕ
     second : Option ℕ

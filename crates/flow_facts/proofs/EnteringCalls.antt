@@ -4,7 +4,7 @@ use Rattle.std.specs.Prelude.{if◌then◌else◌, unwrap_or}
 use Rattle.std.proofs.lemmas.Bool.Decides.{nat_tests}
 use Rattle.std.proofs.lemmas.Option.{slice_get_within}
 use Rattle.scj_base.specs.Bytes.{is_same}
-use Rattle.scj_base.specs.declared.places.Pos.{Pos}
+use Rattle.scj_base.specs.declared.positions.Position.{Position}
 use Rattle.scj_builtins.specs.Framework.{framework_classes, object as object_class, object_name, runnable, runnable_name, managed_memory, managed_memory_enter_private_memory, managed_memory_execute_in_area_of}
 use Rattle.scj_tree.specs.declared.nodes.Node.TheVariants.{Call}
 use Rattle.scj_tree.specs.Forest.{Forest, IsForest}
@@ -207,7 +207,7 @@ module _ (forest : Forest) (accepted : IsAccepted forest) (whole : IsForest fore
       (typed ∙ ap (λ (z : Ty). Some z) (kind_class t (scope_at_node p y) class s
       (sym (ap (λ o. kind_of o (scope_at_node p y)) typed) ∙ j)))
 
-  pub enter_fact : (b c : ℕ) (sig : Signature) (id : ℕ) (position : Pos) (name : List ℕ) (object : Option ℕ)
+  pub enter_fact : (b c : ℕ) (sig : Signature) (id : ℕ) (position : Position) (name : List ℕ) (object : Option ℕ)
       (arguments : List ℕ) (f : FoundMethod) (d e : Declared) → IsBody p b c sig →
       slice_get forest.nodes id ≡ Some (Call position name object arguments) → Inside p b c id →
       method_called p types id object name ≡ Some f → f.method.builtin ≡ Some managed_memory_enter_private_memory →
@@ -285,7 +285,7 @@ module _ (forest : Forest) (accepted : IsAccepted forest) (whole : IsForest fore
         | inr h ↦ h ∙ k
       ]
 
-  pub execute_fact : (b c id : ℕ) (position : Pos) (name : List ℕ) (object : Option ℕ) (arguments : List ℕ)
+  pub execute_fact : (b c id : ℕ) (position : Position) (name : List ℕ) (object : Option ℕ) (arguments : List ℕ)
       (f : FoundMethod) (d e : Declared) → slice_get forest.nodes id ≡ Some (Call position name object arguments) →
       Inside p b c id → method_called p types id object name ≡ Some f →
       f.method.builtin ≡ Some managed_memory_execute_in_area_of →

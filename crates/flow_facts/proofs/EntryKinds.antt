@@ -1,7 +1,7 @@
 -- Each body of an accepted program has the facts of its kind: a method's, a written constructor's, and a class's whose
 -- constructor isn't written.
 use Rattle.std.proofs.Common.{◌≡◌, ℕ, List, [], ◌∷◌, ◌++◌, refl, sym, ap, ◌∙◌, Option, Some, None, true, false, not, true≢false, is_some, option_and_then, slice_get}
-use Rattle.scj_base.specs.declared.places.Pos.{Pos}
+use Rattle.scj_base.specs.declared.positions.Position.{Position}
 use Rattle.scj_tree.specs.declared.nodes.Node.{Node}
 use Rattle.scj_tree.specs.declared.nodes.Node.TheVariants.{Class, Method as MethodNode, Constructor}
 use Rattle.scj_tree.specs.Forest.{Forest, IsForest}
@@ -72,7 +72,7 @@ module _ (forest : Forest) (accepted : IsAccepted forest) (whole : IsForest fore
 
   -- ---- a written constructor
 
-  plain_constructor : (b : ℕ) (position : Pos) (name : List ℕ) (flags parameters super_call : Option ℕ) (body : ℕ) →
+  plain_constructor : (b : ℕ) (position : Position) (name : List ℕ) (flags parameters super_call : Option ℕ) (body : ℕ) →
       slice_get nodes b ≡ Some (Constructor position name flags parameters super_call body) →
       (method_at p.nodes b ≡ None) × (is_static_member p.nodes b ≡ false)
   unfolding constructor_of declarations_of
@@ -82,7 +82,7 @@ module _ (forest : Forest) (accepted : IsAccepted forest) (whole : IsForest fore
       (Constructor position name flags parameters super_call body) _ there refl in
       (k.no_method, k.plain)
 
-  none_written : (b c body : ℕ) (position : Pos) (name : List ℕ) (flags parameters : Option ℕ) →
+  none_written : (b c body : ℕ) (position : Position) (name : List ℕ) (flags parameters : Option ℕ) →
       slice_get nodes b ≡ Some (Constructor position name flags parameters None body) →
       MemberAt forest accepted whole sorted b c → (context p b).class ≡ Some c →
       Unwritten forest accepted whole sorted is_read c
@@ -92,7 +92,7 @@ module _ (forest : Forest) (accepted : IsAccepted forest) (whole : IsForest fore
       (one_constructor forest accepted whole sorted b c _ (ap (option_and_then (constructor_of nodes b)) there) m
       class)
 
-  super_part : (b c body : ℕ) (sig : Signature) (position : Pos) (name : List ℕ) (flags parameters : Option ℕ)
+  super_part : (b c body : ℕ) (sig : Signature) (position : Position) (name : List ℕ) (flags parameters : Option ℕ)
       (super_call : Option ℕ) → slice_get nodes b ≡ Some (Constructor position name flags parameters super_call body) →
       MemberAt forest accepted whole sorted b c → (context p b).class ≡ Some c → this_in p c ≡ Some sig.runs_in →
       OptionSuperFact code b c sig super_call
@@ -103,7 +103,7 @@ module _ (forest : Forest) (accepted : IsAccepted forest) (whole : IsForest fore
       super_fact_at forest accepted whole sorted is_read b c call sig position name flags parameters body there m class
       home
 
-  block_of : (b c body : ℕ) (position : Pos) (name : List ℕ) (flags parameters super_call : Option ℕ) →
+  block_of : (b c body : ℕ) (position : Position) (name : List ℕ) (flags parameters super_call : Option ℕ) →
       slice_get nodes b ≡ Some (Constructor position name flags parameters super_call body) →
       (context p b).class ≡ Some c → BodyFact p b c body
   unfolding HasRightChildren children declared_before is_member parameter_list
@@ -115,7 +115,7 @@ module _ (forest : Forest) (accepted : IsAccepted forest) (whole : IsForest fore
       (among-behind body (optional super_call) (body ∷ []) (same_first forest accepted whole sorted body []))))
       (sorted.each b node there).3 refl
 
-  written_constructor_fact : (b c body : ℕ) (sig : Signature) (position : Pos) (name : List ℕ)
+  written_constructor_fact : (b c body : ℕ) (sig : Signature) (position : Position) (name : List ℕ)
       (flags parameters super_call : Option ℕ) →
       slice_get nodes b ≡ Some (Constructor position name flags parameters super_call body) → IsBody p b c sig →
       ConstructorFact code b c sig super_call × BodyFact p b c body
@@ -131,7 +131,7 @@ module _ (forest : Forest) (accepted : IsAccepted forest) (whole : IsForest fore
 
   -- ---- a class whose constructor isn't written
 
-  plain_class : (b : ℕ) (position : Pos) (name : List ℕ) (flags header : Option ℕ) (members : List ℕ) →
+  plain_class : (b : ℕ) (position : Position) (name : List ℕ) (flags header : Option ℕ) (members : List ℕ) →
       slice_get nodes b ≡ Some (Class position name flags header members) → (method_at p.nodes b ≡ None) ×
       (is_static_member p.nodes b ≡ false)
   unfolding method_of member_flags declarations_of
@@ -141,7 +141,7 @@ module _ (forest : Forest) (accepted : IsAccepted forest) (whole : IsForest fore
         there,
   )
 
-  class_fact : (b c : ℕ) (sig : Signature) (position : Pos) (name : List ℕ) (flags header : Option ℕ) (members : List ℕ) →
+  class_fact : (b c : ℕ) (sig : Signature) (position : Position) (name : List ℕ) (flags header : Option ℕ) (members : List ℕ) →
       slice_get nodes b ≡ Some (Class position name flags header members) → constructor_in p.classes c ≡ None →
       IsBody p b c sig → ConstructorFact code b c sig None
   unfolding is_no_class
@@ -157,7 +157,7 @@ module _ (forest : Forest) (accepted : IsAccepted forest) (whole : IsForest fore
 
   -- ---- all bodies
 
-  method_entry : (b c result_type body : ℕ) (sig : Signature) (position : Pos) (name : List ℕ)
+  method_entry : (b c result_type body : ℕ) (sig : Signature) (position : Position) (name : List ℕ)
       (flags parameters : Option ℕ) →
       slice_get nodes b ≡ Some (MethodNode position name flags result_type parameters (Some body)) → IsBody p b c sig →
       MethodFact p b c sig result_type body

@@ -1,7 +1,7 @@
 -- In an accepted program each argument of a framework's form counts: the form stands for as many numbers as are read of
 -- it.
 use Rattle.std.proofs.Common.{◌≡◌, ℕ, ◌+◌, ◌<◌, List, [], ◌∷◌, length, refl, sym, ap, ◌∙◌, subst, arith, Option, Some, Bool, true, false, not, ◌&&◌, true≢false, ◌⊎◌, inl, inr, ◌==◌, is_some, slice_get, if◌then◌else◌}
-use Rattle.scj_base.specs.declared.places.Pos.{Pos}
+use Rattle.scj_base.specs.declared.positions.Position.{Position}
 use Rattle.scj_builtins.specs.Framework.{periodic_parameters, relative_time}
 use Rattle.scj_tree.specs.declared.nodes.Node.{Node}
 use Rattle.scj_tree.specs.declared.nodes.Node.TheVariants.{SuperCall, New}
@@ -54,7 +54,7 @@ module _ (forest : Forest) (accepted : IsAccepted forest) (whole : IsForest fore
 
     -- a super call in a class whose form has these parts, and where the parts stand
     pub record InForm (b c call : ℕ) (arguments parts : List ℕ) : Type 0 where
-      pub position : Pos
+      pub position : Position
       pub is_there : slice_get nodes call ≡ Some (SuperCall position arguments)
       pub inside : Inside p b c call
       pub form : form_in p c ≡ Some parts
@@ -84,7 +84,7 @@ module _ (forest : Forest) (accepted : IsAccepted forest) (whole : IsForest fore
           child-less forest whole call x node s.is_there among,
         )
 
-    at_below : (b c call x e : ℕ) (position name_position : Pos) (name list : List ℕ) →
+    at_below : (b c call x e : ℕ) (position name_position : Position) (name list : List ℕ) →
         slice_get nodes x ≡ Some (New position name_position name list) → Below b c call x → is_among e list ≡ true →
         Below b c call e × (e < x)
     unfolding child_context children declared_before is_super_call HasRightChildren is_inner
@@ -119,7 +119,7 @@ module _ (forest : Forest) (accepted : IsAccepted forest) (whole : IsForest fore
         ∙ (and_true (context p x).in_super_call
         (holds (context p x).class (λ class. holds (form_in p class) (is_among x))) e).1
 
-    new_is_no_call : (x call : ℕ) (position name_position position2 : Pos) (name list arguments : List ℕ) → x ≡ call →
+    new_is_no_call : (x call : ℕ) (position name_position position2 : Position) (name list arguments : List ℕ) → x ≡ call →
         slice_get nodes x ≡ Some (New position name_position name list) →
         slice_get nodes call ≡ Some (SuperCall position2 arguments) → ⊥
     new_is_no_call x call position name_position position2 name list arguments same there other =

@@ -1,6 +1,6 @@
 -- Calls of the framework's methods: their arguments, what they give, and the object on which they are called.
 use Rattle.std.proofs.Common.{◌≡◌, ℕ, List, [], ◌∷◌, refl, sym, ap, ◌∙◌, Option, Some, None, Bool, true, false, not, ◌&&◌, true≢false, inl, inr, option_and_then, option_map, slice_get, ◌==◌}
-use Rattle.scj_base.specs.declared.places.Pos.{Pos}
+use Rattle.scj_base.specs.declared.positions.Position.{Position}
 use Rattle.scj_tree.specs.declared.nodes.Node.{Node}
 use Rattle.scj_tree.specs.declared.nodes.Node.TheVariants.{Text, Call}
 use Rattle.scj_tree.specs.Forest.{Forest, IsForest}
@@ -203,13 +203,13 @@ module _ (forest : Forest) (accepted : IsAccepted forest) (whole : IsForest fore
       label_not_judged y (Some k) e j =
           (let z : None ≡ Some k = sym (ap (λ (o : Option Ty). kind_of o (scopes y)) e) ∙ j in cc (z))
 
-      pub text_argument : (y : ℕ) → is_among y arguments ≡ true → types y ≡ Some Label → (position : Pos) × (text : List ℕ) ×
+      pub text_argument : (y : ℕ) → is_among y arguments ≡ true → types y ≡ Some Label → (position : Position) × (text : List ℕ) ×
           (slice_get forest.nodes y ≡ Some (Text position text))
       text_argument y among e =
           let v = x.values y among in
           let w = v.value in
           elim (text_or_expression v.node w.is_argument) as
-          (λ z. (position : Pos) × (text : List ℕ) × (slice_get forest.nodes y ≡ Some (Text position text))) [
+          (λ z. (position : Position) × (text : List ℕ) × (slice_get forest.nodes y ≡ Some (Text position text))) [
             | inl k ↦ absurd (let j = judged forest accepted whole sorted b c y v.node v.is_there v.inside w k in
                 label_not_judged y j.0 e j.1)
             | inr q ↦ (q.0, q.1, v.is_there ∙ ap (λ n. Some n) q.2)
@@ -241,7 +241,7 @@ module _ (forest : Forest) (accepted : IsAccepted forest) (whole : IsForest fore
       pub receiver_is : ReceiverIs p b c id object class scope
       pub named : method_named p.classes class name ≡ Some f
 
-    pub called_on_object : (b c id : ℕ) (position : Pos) (name : List ℕ) (object : Option ℕ) (arguments : List ℕ)
+    pub called_on_object : (b c id : ℕ) (position : Position) (name : List ℕ) (object : Option ℕ) (arguments : List ℕ)
         (f : FoundMethod) → slice_get forest.nodes id ≡ Some (Call position name object arguments) → Inside p b c id →
         method_called p types id object name ≡ Some f → f.method.declared.modifiers.is_static ≡ false →
         CalledOn b c id object name f

@@ -1,7 +1,7 @@
 -- Calls of the framework's methods.
 use Rattle.std.proofs.Common.{◌≡◌, ℕ, ◌&&◌, ◌<◌, ◌≤◌, nat_lt, arith, List, ◌++◌, length, refl, sym, ap, ◌∙◌, subst, Option, Some, None, Bool, true, false, ◌==◌, true≢false, ◌⊎◌, inl, inr, option_and_then, is_some, slice_get}
 use Rattle.std.proofs.lemmas.Bool.Decides.{nat_tests}
-use Rattle.scj_base.specs.declared.places.Pos.{Pos}
+use Rattle.scj_base.specs.declared.positions.Position.{Position}
 use Rattle.scj_builtins.specs.declared.methods.FrameworkMethod.{FrameworkMethod}
 use Rattle.scj_builtins.specs.Framework.{object as object_class, periodic_handler, aperiodic_handler, parameter_list}
 use Rattle.scj_tree.specs.declared.nodes.Node.TheVariants.{Call}
@@ -237,7 +237,7 @@ module _ (forest : Forest) (accepted : IsAccepted forest) (whole : IsForest fore
       (inr
       (inr (same_case forest accepted whole sorted is_read b c id name object arguments _ _ x.parts refl refl k)))))))))
 
-  pub builtin_bound : (id n : ℕ) (position : Pos) (name : List ℕ) (object : Option ℕ) (arguments : List ℕ) (f : FoundMethod)
+  pub builtin_bound : (id n : ℕ) (position : Position) (name : List ℕ) (object : Option ℕ) (arguments : List ℕ) (f : FoundMethod)
       (r : Receiver) → slice_get forest.nodes id ≡ Some (Call position name object arguments) →
       call_receiver p types id object ≡ Some r → called_method p r name ≡ Some f → f.method.builtin ≡ Some n →
       binding_at_node p id ≡ Builtin (target types r f arguments n)
@@ -257,7 +257,7 @@ module _ (forest : Forest) (accepted : IsAccepted forest) (whole : IsForest fore
   first_true true b e = refl
   first_true false b e = absurd (true≢false (sym e))
 
-  pub builtin_fact : (b c : ℕ) (sig : Signature) (id : ℕ) (position : Pos) (name : List ℕ) (object : Option ℕ)
+  pub builtin_fact : (b c : ℕ) (sig : Signature) (id : ℕ) (position : Position) (name : List ℕ) (object : Option ℕ)
       (arguments : List ℕ) (o : Option Kind) (n : ℕ) → IsBody p b c sig →
       slice_get forest.nodes id ≡ Some (Call position name object arguments) → Inside p b c id →
       (m : Invoked forest accepted whole sorted is_read id name object) → m.method.method.builtin ≡ Some n →

@@ -2,7 +2,7 @@
 use Rattle.std.specs.List.{cons_option}
 use Rattle.std.specs.Prelude.{flat_map}
 use Rattle.std.proofs.Common.{◌≡◌, ℕ, zero, suc, ◌<◌, List, [], ◌∷◌, ◌++◌, refl, sym, ap, ◌∙◌, subst, arith, true≢false, Option, Some, None, true, false, if◌then◌else◌, slice_get}
-use Rattle.scj_base.specs.declared.places.Pos.{Pos}
+use Rattle.scj_base.specs.declared.positions.Position.{Position}
 use Rattle.scj_tree.specs.declared.nodes.Node.{Node}
 use Rattle.scj_tree.specs.declared.nodes.Node.TheVariants.{Class, Method as MethodNode, Constructor, SuperCall, Block, Local as LocalNode, LocalWithValue, Assign, ExpressionStatement, If, While, For, Return, Binary, Unary, Cast, Parenthesized, SimpleName, FieldAccess, Call as CallNode, Element, New, NewArray, Number, True, False, Null, This as ThisNode}
 use Rattle.scj_tree.specs.Forest.{Forest, IsForest}
@@ -120,7 +120,7 @@ module _ (forest : Forest) (accepted : IsAccepted forest) (whole : IsForest fore
       same : sub y ≡ ops_of code y
       adds : A (sub y)
 
-    below_target : (position : Pos) (target value y : ℕ) (node : Node) →
+    below_target : (position : Position) (target value y : ℕ) (node : Node) →
         slice_get forest.nodes x ≡ Some (Assign position target value) → slice_get forest.nodes target ≡ Some node →
         is_inner node ≡ true → is_among y (children node) ≡ true → is_first_part y node ≡ false → BelowTarget y
     unfolding children is_inner is_first_part
@@ -144,7 +144,7 @@ module _ (forest : Forest) (accepted : IsAccepted forest) (whole : IsForest fore
               ∙ other_around x target assign there (here target (value ∷ [])) refl) (hyp y l i o));
         }
 
-    assign_adds : (position : Pos) (target value : ℕ) → slice_get forest.nodes x ≡ Some (Assign position target value) →
+    assign_adds : (position : Position) (target value : ℕ) → slice_get forest.nodes x ≡ Some (Assign position target value) →
         A (node_ops code sub x (Assign position target value))
     unfolding node_ops assign_ops children is_inner is_first_part IsPlain StandsIn declarations_of
     assign_adds position target value there = go (slice_get forest.nodes target) refl
@@ -191,7 +191,7 @@ module _ (forest : Forest) (accepted : IsAccepted forest) (whole : IsForest fore
 
     -- ---- `if`
 
-    if_adds : (position : Pos) (condition first : ℕ) (second : Option ℕ) →
+    if_adds : (position : Position) (condition first : ℕ) (second : Option ℕ) →
         slice_get forest.nodes x ≡ Some (If position condition first second) → A (sub condition ++ IF x ∷ [])
     unfolding children is_inner is_first_part IsPlain StandsIn declarations_of
     if_adds position condition first second there = by_guard (guard_of code x) refl

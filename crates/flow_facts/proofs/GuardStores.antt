@@ -1,6 +1,6 @@
 -- The operations of assignments to fields, of those that no guard allows and of those that one does.
 use Rattle.std.proofs.Common.{◌≡◌, ℕ, List, [], ◌∷◌, ◌++◌, refl, sym, ap, ◌∙◌, subst, true≢false, Option, Some, None, option_and_then, option_map, Bool, true, false, slice_get}
-use Rattle.scj_base.specs.declared.places.Pos.{Pos}
+use Rattle.scj_base.specs.declared.positions.Position.{Position}
 use Rattle.scj_tree.specs.declared.nodes.Node.TheVariants.{Assign, SimpleName, FieldAccess}
 use Rattle.scj_tree.specs.Forest.{Forest, IsForest}
 use Rattle.scj_rules.specs.declared.typing.FoundField.{FoundField}
@@ -44,7 +44,7 @@ module _ (forest : Forest) (accepted : IsAccepted forest) (whole : IsForest fore
   A ops = Adds code (Written b) (around x) ops
 
   -- a store that no guard allows, and one that a guard allows
-  plain_put : (position : Pos) (target value : ℕ) → slice_get forest.nodes x ≡ Some (Assign position target value) →
+  plain_put : (position : Position) (target value : ℕ) → slice_get forest.nodes x ≡ Some (Assign position target value) →
       is_guarded_store p (type_at_node p) x target value ≡ false → (objects : List Op) → A objects → A (sub value) →
       A (objects ++ (sub value ++ PUT x ∷ []))
   unfolding IsPlain StandsIn declarations_of
@@ -74,7 +74,7 @@ module _ (forest : Forest) (accepted : IsAccepted forest) (whole : IsForest fore
       (record { holder = holder; stored = stored; object_is = pushes; value_is = v.pushes; is_guarded = guarded }) refl
       r))
 
-  pub own_put : (position position2 : Pos) (name : List ℕ) (target value : ℕ) →
+  pub own_put : (position position2 : Position) (name : List ℕ) (target value : ℕ) →
       slice_get forest.nodes x ≡ Some (Assign position target value) →
       slice_get forest.nodes target ≡ Some (SimpleName position2 name) → Inside p b c value → sub value ≡ ops_of code value →
       A (sub value) → A (THIS x ∷ sub value ++ PUT x ∷ [])
@@ -99,7 +99,7 @@ module _ (forest : Forest) (accepted : IsAccepted forest) (whole : IsForest fore
           (ap (λ s. is_guarded p (type_at_node p) x s g.stored) (holder_is (meaning p target name) g.holder g.field g.is)
           ∙ g.guarded)
 
-  pub field_put : (position position2 : Pos) (name : List ℕ) (target value object : ℕ) →
+  pub field_put : (position position2 : Position) (name : List ℕ) (target value object : ℕ) →
       slice_get forest.nodes x ≡ Some (Assign position target value) →
       slice_get forest.nodes target ≡ Some (FieldAccess position2 name object) → Inside p b c value →
       sub value ≡ ops_of code value → Inside p b c object → sub object ≡ ops_of code object → A (sub object) →

@@ -1,7 +1,7 @@
 -- The facts at a body of a whole controller, whose nodes are computed: none of the premises of the law speaks of
 -- nothing.
 use Rattle.std.proofs.Common.{◌≡◌, ℕ, [], refl, true, Some, None, slice_get, codes, true≢false, sym}
-use Rattle.scj_base.specs.declared.places.Pos.{Pos}
+use Rattle.scj_base.specs.declared.positions.Position.{Position}
 use Rattle.scj_tree.specs.declared.nodes.Node.{Node}
 use Rattle.scj_tree.specs.declared.nodes.Node.TheVariants.{Call, Method}
 use Rattle.scj_rules.specs.declared.typing.Scope.TheVariants.{In}
@@ -26,7 +26,7 @@ use Rattle.scj_rules.specs.Types.{constructor_in}
 abbrev p : Declarations
 p = declarations_of controller
 
-abbrev at : ℕ → ℕ → Pos
+abbrev at : ℕ → ℕ → Position
 at line col = record { file = 1; line = line; col = col }
 
 -- the alarm's `handleAsyncEvent` runs in the scope that the alarm defines

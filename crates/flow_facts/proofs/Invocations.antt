@@ -1,6 +1,6 @@
 -- What a call or a `new` that stands as a statement has in an accepted program: it leaves a value where it has one.
 use Rattle.std.proofs.Common.{◌≡◌, ℕ, List, [], refl, sym, ap, ◌∙◌, subst, Option, Some, None, Bool, true, false, not, true≢false, is_some, option_and_then, option_map, slice_get, if◌then◌else◌}
-use Rattle.scj_base.specs.declared.places.Pos.{Pos}
+use Rattle.scj_base.specs.declared.positions.Position.{Position}
 use Rattle.scj_tree.specs.declared.nodes.Node.{Node}
 use Rattle.scj_tree.specs.declared.nodes.Node.TheVariants.{ExpressionStatement, Call, New}
 use Rattle.scj_tree.specs.Forest.{Forest, IsForest}
@@ -127,7 +127,7 @@ module _ (forest : Forest) (accepted : IsAccepted forest) (whole : IsForest fore
       leaves : leaves_value (binding_at_node p x) ≡ not (is_same_type method.method.declared.declared_type void_type)
       typed : declared_type_of p method.method.declared ≡ Some t
 
-    call_leaves : (x : ℕ) (position : Pos) (name : List ℕ) (object : Option ℕ) (arguments : List ℕ) (t : Ty) →
+    call_leaves : (x : ℕ) (position : Position) (name : List ℕ) (object : Option ℕ) (arguments : List ℕ) (t : Ty) →
         slice_get forest.nodes x ≡ Some (Call position name object arguments) → types x ≡ Some t → CallLeaves x t
     unfolding type_of call_type binding_of
     call_leaves x position name object arguments t there typed =
@@ -152,7 +152,7 @@ module _ (forest : Forest) (accepted : IsAccepted forest) (whole : IsForest fore
           typed = f.2;
         }
 
-    new_leaves : (x : ℕ) (position name_position : Pos) (name arguments : List ℕ) →
+    new_leaves : (x : ℕ) (position name_position : Position) (name arguments : List ℕ) →
         slice_get forest.nodes x ≡ Some (New position name_position name arguments) → is_form_part p x ≡ false →
         leaves_value (binding_at_node p x) ≡ true
     unfolding binding_of leaves_value
@@ -162,7 +162,7 @@ module _ (forest : Forest) (accepted : IsAccepted forest) (whole : IsForest fore
         ap leaves_value (binding_is forest accepted whole sorted x (New position name_position name arguments) there
         ∙ ap (λ t. if t then Plain else class_binding (class_number p.names name)) part ∙ ap class_binding n.1)
 
-    new_no_void : (x : ℕ) (position name_position : Pos) (name arguments : List ℕ) →
+    new_no_void : (x : ℕ) (position name_position : Position) (name arguments : List ℕ) →
         slice_get forest.nodes x ≡ Some (New position name_position name arguments) → types x ≡ Some Void → ⊥
     unfolding type_of
     new_no_void x position name_position name arguments there e =
@@ -191,7 +191,7 @@ module _ (forest : Forest) (accepted : IsAccepted forest) (whole : IsForest fore
               (sym (ap (λ (o : Option Ty). kind_of o (scope_at_node p x)) (t.1 ∙ ap (λ t. Some t) v)) ∙ j),
         )
 
-    pub call_value : (x : ℕ) (position : Pos) (name : List ℕ) (object : Option ℕ) (arguments : List ℕ)
+    pub call_value : (x : ℕ) (position : Position) (name : List ℕ) (object : Option ℕ) (arguments : List ℕ)
         (gives : Option Kind) → slice_get forest.nodes x ≡ Some (Call position name object arguments) →
         Judged p x gives → leaves_value (binding_at_node p x) ≡ is_some gives
     call_value x position name object arguments None there j =
@@ -214,7 +214,7 @@ module _ (forest : Forest) (accepted : IsAccepted forest) (whole : IsForest fore
         new_leaves x position name_position name arguments there v.no_form_part
     leaves x _ gives there k v j = absurd (true≢false (sym k))
 
-    pub invocation_fact : (b c id expression : ℕ) (position : Pos) →
+    pub invocation_fact : (b c id expression : ℕ) (position : Position) →
         slice_get forest.nodes id ≡ Some (ExpressionStatement position expression) → Inside p b c id →
         InvocationFact code b c id expression
     unfolding HasRightChildren children is_inner object_of takes_parts declared_before

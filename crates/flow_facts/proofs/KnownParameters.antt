@@ -1,6 +1,6 @@
 -- What a member of an accepted program knows at its block and its super call: its parameters and nothing else.
 use Rattle.std.proofs.Common.{◌≡◌, ℕ, List, [], ◌∷◌, ◌++◌, refl, sym, ap, ◌∙◌, subst, Option, Some, None, Bool, true, false, true≢false, inl, inr, ◌==◌, is_some, option_and_then, slice_get, if◌then◌else◌, length}
-use Rattle.scj_base.specs.declared.places.Pos.{Pos}
+use Rattle.scj_base.specs.declared.positions.Position.{Position}
 use Rattle.scj_tree.specs.declared.nodes.Node.{Node}
 use Rattle.scj_tree.specs.declared.nodes.Node.TheVariants.{Method as MethodNode, Constructor, Parameters}
 use Rattle.scj_tree.specs.Forest.{Forest, IsForest}
@@ -27,7 +27,7 @@ of_some test nodes o q e h = subst (OptionOf test nodes) e h
 
 -- the list of parameters of a member
 pub record ParameterList (nodes : List Node) (node : Node) (q : ℕ) : Type 0 where
-  pub position : Pos
+  pub position : Position
   pub list : List ℕ
   pub is_there : slice_get nodes q ≡ Some (Parameters position list)
   pub all : AllOf is_parameter nodes list
@@ -45,7 +45,7 @@ module _ (forest : Forest) (accepted : IsAccepted forest) (whole : IsForest fore
     -- ---- the list
 
     list_at : (q : ℕ) (node : Node) → slice_get nodes q ≡ Some node → is_parameter_list node ≡ true →
-        HasRightChildren nodes node → (position : Pos) × (list : List ℕ) ×
+        HasRightChildren nodes node → (position : Position) × (list : List ℕ) ×
         (slice_get nodes q ≡ Some (Parameters position list)) × AllOf is_parameter nodes list
     unfolding is_parameter_list HasRightChildren
     list_at q (Parameters position list) there e h = (position, list, there, h)
@@ -142,13 +142,13 @@ module _ (forest : Forest) (accepted : IsAccepted forest) (whole : IsForest fore
     unfolding last_variable
     own_list last q = (let self : (q == q) ≡ true = is_same_number q q refl in rw self refl)
 
-    parameter_row : (q : ℕ) (position : Pos) (list : List ℕ) → slice_get nodes q ≡ Some (Parameters position list) →
+    parameter_row : (q : ℕ) (position : Position) (list : List ℕ) → slice_get nodes q ≡ Some (Parameters position list) →
         Follow forest accepted whole sorted (context p q).last list
     unfolding children declared_before
     parameter_row q position list there = row_follows forest accepted whole sorted q (Parameters position list) list there refl
         (λ x. refl)
 
-    of_parameters : (position : Pos) (list : List ℕ) →
+    of_parameters : (position : Position) (list : List ℕ) →
         (elim (parameter_nodes (Parameters position list)) as (λ _. List ℕ) [ None ↦ [] | Some list ↦ list ]) ≡ list
     unfolding parameter_nodes
     of_parameters position list = refl

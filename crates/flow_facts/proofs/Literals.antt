@@ -1,6 +1,6 @@
 -- Literals, `this` and expressions in parentheses.
 use Rattle.std.proofs.Common.{◌≡◌, ℕ, List, [], ◌∷◌, refl, ap, Option, Some, Bool, true, not, slice_get}
-use Rattle.scj_base.specs.declared.places.Pos.{Pos}
+use Rattle.scj_base.specs.declared.positions.Position.{Position}
 use Rattle.scj_tree.specs.declared.nodes.Node.{Node}
 use Rattle.scj_tree.specs.declared.nodes.Node.TheVariants.{Parenthesized, Number, True, False, Null, This as ThisNode}
 use Rattle.scj_tree.specs.Forest.{Forest, IsForest}
@@ -46,7 +46,7 @@ module _ (forest : Forest) (accepted : IsAccepted forest) (whole : IsForest fore
     abbrev p : Declarations
     p = declarations_of forest
 
-    pub number_fact : (id : ℕ) (position : Pos) (value : ℕ) (is_negative : Bool) (o : Option Kind) →
+    pub number_fact : (id : ℕ) (position : Position) (value : ℕ) (is_negative : Bool) (o : Option Kind) →
         slice_get forest.nodes id ≡ Some (Number position value is_negative) → Judged p id o → o ≡ Some number
     unfolding type_of
     number_fact id position value is_negative o there j =
@@ -54,14 +54,14 @@ module _ (forest : Forest) (accepted : IsAccepted forest) (whole : IsForest fore
         (int_judged forest accepted whole sorted id
         (type_is forest accepted whole sorted id (Number position value is_negative) there))
 
-    pub true_fact : (id : ℕ) (position : Pos) (o : Option Kind) → slice_get forest.nodes id ≡ Some (True position) →
+    pub true_fact : (id : ℕ) (position : Position) (o : Option Kind) → slice_get forest.nodes id ≡ Some (True position) →
         Judged p id o → o ≡ Some truth
     unfolding type_of
     true_fact id position o there j =
         judged_once p id o (Some truth) j
         (boolean_judged forest accepted whole sorted id (type_is forest accepted whole sorted id (True position) there))
 
-    pub false_fact : (id : ℕ) (position : Pos) (o : Option Kind) → slice_get forest.nodes id ≡ Some (False position) →
+    pub false_fact : (id : ℕ) (position : Position) (o : Option Kind) → slice_get forest.nodes id ≡ Some (False position) →
         Judged p id o → o ≡ Some truth
     unfolding type_of
     false_fact id position o there j =
@@ -72,14 +72,14 @@ module _ (forest : Forest) (accepted : IsAccepted forest) (whole : IsForest fore
     unfolding Judged kind_of
     null_judged id e = ap (λ (o : Option Ty). kind_of o (scope_at_node p id)) e
 
-    pub null_fact : (id : ℕ) (position : Pos) (o : Option Kind) → slice_get forest.nodes id ≡ Some (Null position) →
+    pub null_fact : (id : ℕ) (position : Position) (o : Option Kind) → slice_get forest.nodes id ≡ Some (Null position) →
         Judged p id o → o ≡ Some (reference NullTy Any)
     unfolding type_of
     null_fact id position o there j =
         judged_once p id o (Some (reference NullTy Any)) j
         (null_judged id (type_is forest accepted whole sorted id (Null position) there))
 
-    pub this_fact : (b c id : ℕ) (position : Pos) (o : Option Kind) → slice_get forest.nodes id ≡ Some (ThisNode position) →
+    pub this_fact : (b c id : ℕ) (position : Position) (o : Option Kind) → slice_get forest.nodes id ≡ Some (ThisNode position) →
         Inside p b c id → Judged p id o → ThisFact p b c o
     this_fact b c id position o there inside j =
         let t =
@@ -98,7 +98,7 @@ module _ (forest : Forest) (accepted : IsAccepted forest) (whole : IsForest fore
     child_of b c id x node there among none v =
         record { smaller = v.less; inside = v.inside; known = known_same forest whole id x node there among none }
 
-    pub parenthesized_fact : (b c id inner : ℕ) (position : Pos) (o : Option Kind) →
+    pub parenthesized_fact : (b c id inner : ℕ) (position : Position) (o : Option Kind) →
         slice_get forest.nodes id ≡ Some (Parenthesized position inner) → Inside p b c id → Judged p id o →
         HasValue p b c id inner o
     unfolding children is_argument is_expression object_of takes_parts HasRightChildren declared_before type_of scope_of

@@ -2,7 +2,7 @@
 -- has.
 use Rattle.std.proofs.Common.{◌≡◌, ℕ, ◌+◌, ◌<◌, zero, suc, List, [], ◌∷◌, length, filter, position, refl, sym, ap, ◌∙◌, subst, arith, Option, Some, Bool, true, false, ◌&&◌, true≢false, ◌==◌, option_and_then, is_some, slice_get}
 use Rattle.std.proofs.lemmas.Option.{slice_get_within}
-use Rattle.scj_base.specs.declared.places.Pos.{Pos}
+use Rattle.scj_base.specs.declared.positions.Position.{Position}
 use Rattle.scj_tree.specs.declared.nodes.Node.{Node}
 use Rattle.scj_tree.specs.declared.nodes.Node.TheVariants.{Local as LocalNode, LocalWithValue}
 use Rattle.scj_tree.specs.Forest.{Forest, IsForest}
@@ -153,7 +153,7 @@ module _ (forest : Forest) (accepted : IsAccepted forest) (whole : IsForest fore
         let i = is_variable_at b n.0 id k n.1 kind in
         (record { local = n.0; is = local_of (binding code id) n.0 (x.is_bound ∙ n.2); is_variable = i.0; spares = spares }, i.1)
 
-    pub local_fact : (b c id declared_type : ℕ) (place : Pos) (name : List ℕ) (flags : Option ℕ) →
+    pub local_fact : (b c id declared_type : ℕ) (place : Position) (name : List ℕ) (flags : Option ℕ) →
         slice_get forest.nodes id ≡ Some (LocalNode place name flags declared_type) → Inside p b c id →
         SparesGuards code id id → DeclaredFact code b id
     unfolding variable_of binding_of declarations_of
@@ -165,7 +165,7 @@ module _ (forest : Forest) (accepted : IsAccepted forest) (whole : IsForest fore
         (record { declared = _; is_declared = e; is_bound = binding_is forest accepted whole sorted id node there })
         spares k.0 k.1).0
 
-    pub initial_value_fact : (b c id value declared_type : ℕ) (place name_position : Pos) (name : List ℕ)
+    pub initial_value_fact : (b c id value declared_type : ℕ) (place name_position : Position) (name : List ℕ)
         (flags : Option ℕ) →
         slice_get forest.nodes id ≡ Some (LocalWithValue place name_position name flags declared_type value) →
         Inside p b c id → SparesGuards code id id → InitialValueFact code b c id value

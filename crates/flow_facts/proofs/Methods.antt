@@ -1,6 +1,6 @@
 -- What the body of a method of an accepted program has.
 use Rattle.std.proofs.Common.{◌≡◌, ℕ, List, [], ◌∷◌, ◌++◌, refl, sym, ap, ◌∙◌, Option, Some, Bool, true, false, not, ◌&&◌, true≢false, ◌==◌, option_and_then, slice_get, if◌then◌else◌}
-use Rattle.scj_base.specs.declared.places.Pos.{Pos}
+use Rattle.scj_base.specs.declared.positions.Position.{Position}
 use Rattle.scj_tree.specs.declared.nodes.Node.{Node}
 use Rattle.scj_tree.specs.declared.nodes.Node.TheVariants.{Block, Method as MethodNode}
 use Rattle.scj_tree.specs.Forest.{Forest, IsForest}
@@ -79,7 +79,7 @@ module _ (forest : Forest) (accepted : IsAccepted forest) (whole : IsForest fore
           known = member_child_known forest accepted whole sorted b body node there member among (sym declares);
         }
 
-    always_ends : (b result_type body : ℕ) (position : Pos) (name : List ℕ) (flags parameters : Option ℕ) →
+    always_ends : (b result_type body : ℕ) (position : Position) (name : List ℕ) (flags parameters : Option ℕ) →
         slice_get nodes b ≡ Some (MethodNode position name flags result_type parameters (Some body)) →
         ends_without_return p result_type body ≡ false
     unfolding type_breaks t1 t2 t3 t4 t5 t6 t7 t8 t9 t10 t11 t12 t13
@@ -89,7 +89,7 @@ module _ (forest : Forest) (accepted : IsAccepted forest) (whole : IsForest fore
         (both_empty (broken (ends_without_return p result_type body) T10 position) (t14 p (type_at_node p) b node)
         (unbroken forest accepted whole sorted b node there)).0
 
-    pub method_fact : (b c result_type body : ℕ) (sig : Signature) (position : Pos) (name : List ℕ)
+    pub method_fact : (b c result_type body : ℕ) (sig : Signature) (position : Position) (name : List ℕ)
         (flags parameters : Option ℕ) →
         slice_get nodes b ≡ Some (MethodNode position name flags result_type parameters (Some body)) →
         (context p b).class ≡ Some c → IsBody p b c sig → MethodFact p b c sig result_type body

@@ -1,6 +1,6 @@
 -- Simple names and accesses: variables in scope, fields and the length of arrays.
 use Rattle.std.proofs.Common.{◌≡◌, ℕ, List, refl, sym, ap, ◌∙◌, subst, Option, Some, None, ◌⊎◌, inl, inr, slice_get}
-use Rattle.scj_base.specs.declared.places.Pos.{Pos}
+use Rattle.scj_base.specs.declared.positions.Position.{Position}
 use Rattle.scj_tree.specs.declared.nodes.Node.TheVariants.{SimpleName, FieldAccess}
 use Rattle.scj_tree.specs.Forest.{Forest, IsForest}
 use Rattle.scj_rules.specs.declared.typing.Meaning.{Meaning}
@@ -127,7 +127,7 @@ module _ (forest : Forest) (accepted : IsAccepted forest) (whole : IsForest fore
         }
 
     -- a name that has a type names no class
-    no_class : (id : ℕ) (position : Pos) (name : List ℕ) (k : Kind) →
+    no_class : (id : ℕ) (position : Position) (name : List ℕ) (k : Kind) →
         slice_get forest.nodes id ≡ Some (SimpleName position name) → Judged p id (Some k) →
         class_at_name p id (SimpleName position name) ≡ None
     unfolding class_at_name class_in Judged type_of type_of_meaning
@@ -144,7 +144,7 @@ module _ (forest : Forest) (accepted : IsAccepted forest) (whole : IsForest fore
         go nothing e = refl
         go (a_class c) e = absurd (let z : None ≡ Some typed.0 = sym (ap (type_of_meaning p) e) ∙ typed.1 in cc (z))
 
-    is_value : (id : ℕ) (position : Pos) (name : List ℕ) (k : Kind) →
+    is_value : (id : ℕ) (position : Position) (name : List ℕ) (k : Kind) →
         slice_get forest.nodes id ≡ Some (SimpleName position name) → Judged p id (Some k) →
         IsValue p id (SimpleName position name)
     unfolding is_argument is_expression is_new_node
@@ -170,7 +170,7 @@ module _ (forest : Forest) (accepted : IsAccepted forest) (whole : IsForest fore
     of_name b c id name k (inr (inr f)) = inr (inr (static_fact c id name k f))
 
     -- what a name stands for, with the declaration of a field
-    pub named_fact : (b c id : ℕ) (position : Pos) (name : List ℕ) (o : Option Kind) →
+    pub named_fact : (b c id : ℕ) (position : Position) (name : List ℕ) (o : Option Kind) →
         slice_get forest.nodes id ≡ Some (SimpleName position name) → Inside p b c id → Judged p id o →
         NameFact b c id name o
     unfolding gives_value
@@ -181,7 +181,7 @@ module _ (forest : Forest) (accepted : IsAccepted forest) (whole : IsForest fore
         (name_facts forest accepted whole sorted b c id position name v.0 there inside
         (is_value id position name v.0 there v.2) v.2))
 
-    pub name_fact : (b c id : ℕ) (position : Pos) (name : List ℕ) (o : Option Kind) →
+    pub name_fact : (b c id : ℕ) (position : Position) (name : List ℕ) (o : Option Kind) →
         slice_get forest.nodes id ≡ Some (SimpleName position name) → Inside p b c id → Judged p id o →
         LocalFact code b id o ⊎ (OwnFieldFact code b c id o ⊎ StaticFact code id o)
     name_fact b c id position name o there inside j = go (named_fact b c id position name o there inside j)
@@ -198,7 +198,7 @@ module _ (forest : Forest) (accepted : IsAccepted forest) (whole : IsForest fore
     of_access b c id object name k (inr (inr s)) = inr (inl (static_fact s.0 id name k s.1))
 
     -- what an access stands for, with the declaration of a field
-    pub accessed_fact : (b c id object : ℕ) (position : Pos) (name : List ℕ) (o : Option Kind) →
+    pub accessed_fact : (b c id object : ℕ) (position : Position) (name : List ℕ) (o : Option Kind) →
         slice_get forest.nodes id ≡ Some (FieldAccess position name object) → Inside p b c id → Judged p id o →
         AccessFact b c id object name o
     unfolding gives_value
@@ -208,7 +208,7 @@ module _ (forest : Forest) (accepted : IsAccepted forest) (whole : IsForest fore
         (of_access b c id object name v.0
         (access_facts forest accepted whole sorted b c id object position name v.0 there inside v.2))
 
-    pub access_fact : (b c id object : ℕ) (position : Pos) (name : List ℕ) (o : Option Kind) →
+    pub access_fact : (b c id object : ℕ) (position : Position) (name : List ℕ) (o : Option Kind) →
         slice_get forest.nodes id ≡ Some (FieldAccess position name object) → Inside p b c id → Judged p id o →
         FieldFact code b c id object o ⊎ (StaticFact code id o ⊎ LengthFact code b c id object o)
     access_fact b c id object position name o there inside j = go (accessed_fact b c id object position name o there inside j)

@@ -1,6 +1,6 @@
 -- New objects: they lie in the current scope, and their constructors take the arguments.
 use Rattle.std.proofs.Common.{◌≡◌, ℕ, List, [], ◌∷◌, refl, sym, ap, ◌∙◌, subst, Option, Some, None, Bool, true, false, not, ◌||◌, ◌&&◌, ◌==◌, true≢false, ◌⊎◌, inl, inr, option_and_then, option_map, slice_get, if◌then◌else◌}
-use Rattle.scj_base.specs.declared.places.Pos.{Pos}
+use Rattle.scj_base.specs.declared.positions.Position.{Position}
 use Rattle.scj_builtins.specs.Framework.{object}
 use Rattle.scj_tree.specs.declared.nodes.Node.{Node}
 use Rattle.scj_tree.specs.declared.nodes.Node.TheVariants.{New}
@@ -143,7 +143,7 @@ module _ (forest : Forest) (accepted : IsAccepted forest) (whole : IsForest fore
       [ None ↦ [] | Some c ↦ c.parameters ]) r.2.constructs_nothing
 
   -- Object is made without arguments
-  none_passed : (b c id : ℕ) (position name_position : Pos) (name arguments : List ℕ) (class : ℕ) →
+  none_passed : (b c id : ℕ) (position name_position : Position) (name arguments : List ℕ) (class : ℕ) →
       slice_get forest.nodes id ≡ Some (New position name_position name arguments) → Inside p b c id →
       is_form_part p id ≡ false → class_number p.names name ≡ Some class → class ≡ object → arguments ≡ []
   unfolding children is_argument is_expression object_of takes_parts HasRightChildren declared_before misfits_new
@@ -182,7 +182,7 @@ module _ (forest : Forest) (accepted : IsAccepted forest) (whole : IsForest fore
   -- ---- `new`
 
   -- what has a type is no part of a form
-  no_part : (id : ℕ) (position name_position : Pos) (name arguments : List ℕ) (k : Kind) →
+  no_part : (id : ℕ) (position name_position : Position) (name arguments : List ℕ) (k : Kind) →
       slice_get forest.nodes id ≡ Some (New position name_position name arguments) → Judged p id (Some k) →
       is_form_part p id ≡ false
   unfolding Judged type_of
@@ -228,7 +228,7 @@ module _ (forest : Forest) (accepted : IsAccepted forest) (whole : IsForest fore
         constructor = object_constructor class now e;
       }
 
-  pub new_fact : (b c : ℕ) (sig : Signature) (id : ℕ) (position name_position : Pos) (name arguments : List ℕ)
+  pub new_fact : (b c : ℕ) (sig : Signature) (id : ℕ) (position name_position : Position) (name arguments : List ℕ)
       (o : Option Kind) → IsBody p b c sig → slice_get forest.nodes id ≡ Some (New position name_position name arguments) →
       Inside p b c id → Judged p id o → NewFact code b c sig id arguments o
   unfolding code_of gives_value

@@ -1,6 +1,6 @@
 -- A `new` of a class of the framework's forms with so many arguments; and tests along lists.
 use Rattle.std.proofs.Common.{◌≡◌, ℕ, List, [], ◌∷◌, length, refl, sym, ap, ◌∙◌, Option, Some, None, Bool, true, false, not, ◌&&◌, ◌||◌, true≢false, inl, inr, ◌==◌, is_some, slice_get}
-use Rattle.scj_base.specs.declared.places.Pos.{Pos}
+use Rattle.scj_base.specs.declared.positions.Position.{Position}
 use Rattle.scj_tree.specs.declared.nodes.Node.{Node}
 use Rattle.scj_tree.specs.declared.nodes.Node.TheVariants.{New}
 use Rattle.scj_rules.specs.Definitions.{read}
@@ -40,8 +40,8 @@ second_false false b e h = e
 
 -- `new` of a form's class, with so many arguments
 pub record NewPart (p : Declarations) (class count x : ℕ) : Type 0 where
-  pub position : Pos
-  pub name_position : Pos
+  pub position : Position
+  pub name_position : Position
   pub name : List ℕ
   pub list : List ℕ
   pub is_there : slice_get p.nodes x ≡ Some (New position name_position name list)

@@ -1,7 +1,7 @@
 -- Unary and binary expressions: their operands, and what their operators give.
 use Rattle.std.proofs.Common.{◌≡◌, ℕ, List, [], ◌∷◌, refl, sym, ap, ◌∙◌, subst, Option, Some, None, Bool, true, false, ◌&&◌, ◌==◌, true≢false, ◌⊎◌, inl, inr, is_some, slice_get, option_and_then, if◌then◌else◌}
 use Rattle.scj_base.specs.Vocabulary.{sign_minus, sign_not, sign_tilde}
-use Rattle.scj_base.specs.declared.places.Pos.{Pos}
+use Rattle.scj_base.specs.declared.positions.Position.{Position}
 use Rattle.scj_tree.specs.declared.nodes.Node.TheVariants.{Binary, Unary}
 use Rattle.scj_tree.specs.Forest.{Forest, IsForest}
 use Rattle.scj_tree.specs.Terminals.{is_binary}
@@ -122,7 +122,7 @@ module _ (forest : Forest) (accepted : IsAccepted forest) (whole : IsForest fore
       ∙ ap (λ t. Some t)
       (int_of_number t.0 (scope_at_node p id) (ap (λ o. kind_of o (scope_at_node p id)) (sym t.1) ∙ j)))
 
-  unary_case : (id operator operand : ℕ) (position : Pos) (k : Kind) →
+  unary_case : (id operator operand : ℕ) (position : Position) (k : Kind) →
       slice_get forest.nodes id ≡ Some (Unary position operator operand) → Judged p id (Some k) →
       ((operator ≡ sign_not) × (k ≡ truth)) ⊎ (k ≡ number) →
       ((operator ≡ sign_not) × (k ≡ truth)) ⊎ ((k ≡ number) × (operator ≡ sign_not → ⊥))
@@ -139,7 +139,7 @@ module _ (forest : Forest) (accepted : IsAccepted forest) (whole : IsForest fore
             not_gives_truth a.0 (ap (λ n. unary_type n a.0) (sym n) ∙ a.2)),
       )
 
-  pub unary_fact : (b c id operator operand : ℕ) (position : Pos) (o : Option Kind) →
+  pub unary_fact : (b c id operator operand : ℕ) (position : Position) (o : Option Kind) →
       slice_get forest.nodes id ≡ Some (Unary position operator operand) → Inside p b c id → Judged p id o →
       UnaryFact p b c id operator operand o
   unfolding gives_value has_right_operator
@@ -193,7 +193,7 @@ module _ (forest : Forest) (accepted : IsAccepted forest) (whole : IsForest fore
         is_given = refl;
       })
 
-  int_given : (id operator left right : ℕ) (position : Pos) →
+  int_given : (id operator left right : ℕ) (position : Position) →
       slice_get forest.nodes id ≡ Some (Binary position operator left right) → Judged p id (Some number) →
       GivesInt operator
   unfolding type_of
@@ -203,7 +203,7 @@ module _ (forest : Forest) (accepted : IsAccepted forest) (whole : IsForest fore
       let d = of_option (types right) (binary_type p.classes operator a.0) Int a.2 in
       gives_int p.classes operator a.0 d.0 d.2
 
-  by_operator : (b c id operator left right : ℕ) (position : Pos) (j k l : Kind) →
+  by_operator : (b c id operator left right : ℕ) (position : Position) (j k l : Kind) →
       slice_get forest.nodes id ≡ Some (Binary position operator left right) → HasValue p b c id left (Some j) →
       HasValue p b c id right (Some k) → Operates operator j k l → Judged p id (Some l) →
       BinaryCases b c id operator left right (Some l)
@@ -226,7 +226,7 @@ module _ (forest : Forest) (accepted : IsAccepted forest) (whole : IsForest fore
       computed b c id operator left right x y
       (arithmetic_sign operator sign g.no_conditional g.no_relational g.no_equality)
 
-  pub binary_fact : (b c id operator left right : ℕ) (position : Pos) (o : Option Kind) →
+  pub binary_fact : (b c id operator left right : ℕ) (position : Position) (o : Option Kind) →
       slice_get forest.nodes id ≡ Some (Binary position operator left right) → Inside p b c id → Judged p id o →
       BinaryCases b c id operator left right o
   unfolding gives_value

@@ -1,7 +1,7 @@
 -- The operators in a program that is read from texts are those of the grammar (JLS 3.12, 15).
 use Rattle.std.specs.Prelude.{List, ℕ}
 use Rattle.std.proofs.Common.{refl, Option, Some, None, Bool, true, false, if◌then◌else◌}
-use Rattle.scj_base.specs.declared.places.Pos.{Pos}
+use Rattle.scj_base.specs.declared.positions.Position.{Position}
 use Rattle.scj_tree.specs.declared.nodes.Node.{Node}
 use Rattle.scj_tree.specs.declared.readings.FlagSet.{FlagSet}
 use Rattle.scj_tree.specs.declared.readings.PostKind.{PostKind}
@@ -42,7 +42,7 @@ flags_right : (N : List Node) (flags : FlagSet) → OperatorsRight N → Operato
 unfolding with_flags flags_node flags_at has_right_operator
 flags_right N flags w = go (has_effect flags) flags.position
   where
-    go : (t : Bool) (o : Option Pos) →
+    go : (t : Bool) (o : Option Position) →
         OperatorsRight
         (elim (if t then (elim o as (λ _. Option Node) [ None ↦ None | Some p ↦ Some (flags_at p flags) ]) else None) as
         (λ _. List Node) [ None ↦ N | Some node ↦ put N node ])
@@ -130,7 +130,7 @@ mutual
   unary1_right (cast e d) w = put_right _ _ (unary1_right d w) refl
   unary1_right (post_unary d) w = post_right d w
 
-  post_right : {minimum : Bool} {kind : PostKind} {p : Pos} {N N1 : List Node} {i o : List Lexeme} {id : ℕ} →
+  post_right : {minimum : Bool} {kind : PostKind} {p : Position} {N N1 : List Node} {i o : List Lexeme} {id : ℕ} →
       PostRead minimum kind p N i N1 o id → OperatorsRight N → OperatorsRight N1
   post_right simple_name w = put_right _ _ w refl
   post_right (simple_call a) w = put_right _ _ (arguments_right a w) refl

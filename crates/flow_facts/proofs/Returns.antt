@@ -1,6 +1,6 @@
 -- What a `return` of an accepted program has, beside the signature of the body around it.
 use Rattle.std.proofs.Common.{◌≡◌, ℕ, refl, sym, ap, ◌∙◌, subst, Option, Some, None, ◌⊎◌, inl, inr, slice_get}
-use Rattle.scj_base.specs.declared.places.Pos.{Pos}
+use Rattle.scj_base.specs.declared.positions.Position.{Position}
 use Rattle.scj_tree.specs.declared.nodes.Node.TheVariants.{Return}
 use Rattle.scj_tree.specs.Forest.{Forest, IsForest}
 use Rattle.scj_rules.specs.declared.typing.Scope.{Scope}
@@ -90,7 +90,7 @@ module _ (forest : Forest) (accepted : IsAccepted forest) (whole : IsForest fore
 
     -- ---- returns
 
-    pub return_none_fact : (b c id : ℕ) (sig : Signature) (position : Pos) → IsBody p b c sig →
+    pub return_none_fact : (b c id : ℕ) (sig : Signature) (position : Position) → IsBody p b c sig →
         slice_get forest.nodes id ≡ Some (Return position None) → Inside p b c id → sig.gives ≡ None
     return_none_fact b c id sig position body there inside = sym body.gives ∙ go (method_at p.nodes b) refl
       where
@@ -98,7 +98,7 @@ module _ (forest : Forest) (accepted : IsAccepted forest) (whole : IsForest fore
         go None e = none_given b c e
         go (Some m) e = void_given b c m e (returns_nothing forest accepted whole sorted b c id position m there inside e)
 
-    pub return_value_fact : (b c id value : ℕ) (sig : Signature) (position : Pos) → IsBody p b c sig →
+    pub return_value_fact : (b c id value : ℕ) (sig : Signature) (position : Position) → IsBody p b c sig →
         slice_get forest.nodes id ≡ Some (Return position (Some value)) → Inside p b c id →
         ReturnValueFact p b c sig id value
     return_value_fact b c id value sig position body there inside = by_fit r.fit

@@ -2,7 +2,7 @@
 use Rattle.std.specs.List.{list_any}
 use Rattle.std.proofs.Common.{◌≡◌, ℕ, ◌+◌, List, [], ◌∷◌, position, refl, sym, ap, ◌∙◌, subst, arith, true≢false, Option, Some, None, option_and_then, Bool, true, false, ◌==◌, ◌&&◌, ◌||◌, if◌then◌else◌, slice_get}
 use Rattle.std.proofs.lemmas.Option.{slice_get_within}
-use Rattle.scj_base.specs.declared.places.Pos.{Pos}
+use Rattle.scj_base.specs.declared.positions.Position.{Position}
 use Rattle.scj_tree.specs.declared.nodes.Node.TheVariants.{Assign, SimpleName}
 use Rattle.scj_tree.specs.Forest.{Forest, IsForest}
 use Rattle.scj_rules.specs.declared.typing.Binding.TheVariants.{Local as LocalVariable, Field as InstanceField, Static}
@@ -58,7 +58,7 @@ module _ (forest : Forest) (accepted : IsAccepted forest) (whole : IsForest fore
     code = record { program = p; bindings = bindings_in p }
 
     -- a name that is bound to a local means its variable
-    subject_bound : (b c y n v : ℕ) (place : Pos) (name : List ℕ) →
+    subject_bound : (b c y n v : ℕ) (place : Position) (name : List ℕ) →
         slice_get forest.nodes y ≡ Some (SimpleName place name) → Inside p b c y →
         binding_at_node p y ≡ LocalVariable n → slice_get (variables_of p b) n ≡ Some v →
         subject_at p y ≡ Some (the_variable v)
@@ -95,7 +95,7 @@ module _ (forest : Forest) (accepted : IsAccepted forest) (whole : IsForest fore
         by_meaning (a_class class) e = absurd (cc (e))
         by_meaning nothing e = absurd (cc (e))
 
-    pub assignment_spares : (b c id target value n v : ℕ) (place position2 : Pos) (name : List ℕ) →
+    pub assignment_spares : (b c id target value n v : ℕ) (place position2 : Position) (name : List ℕ) →
         slice_get p.nodes id ≡ Some (Assign place target value) →
         slice_get forest.nodes target ≡ Some (SimpleName position2 name) → Inside p b c target →
         binding_at_node p target ≡ LocalVariable n → slice_get (variables_of p b) n ≡ Some v → SparesGuards code id v

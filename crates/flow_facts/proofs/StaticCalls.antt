@@ -1,7 +1,7 @@
 -- Calls of users' static methods.
 use Rattle.std.proofs.Common.{◌≡◌, ℕ, List, [], ◌∷◌, ◌++◌, map, refl, sym, ap, ◌∙◌, Option, Some, None, true, false, not, option_and_then, unwrap_or, is_some, slice_get, if◌then◌else◌, ◌==◌}
 use Rattle.scj_base.specs.declared.findings.Rule.TheVariants.{E3}
-use Rattle.scj_base.specs.declared.places.Pos.{Pos}
+use Rattle.scj_base.specs.declared.positions.Position.{Position}
 use Rattle.scj_builtins.specs.Framework.{managed_memory}
 use Rattle.scj_tree.specs.declared.nodes.Node.{Node}
 use Rattle.scj_tree.specs.declared.nodes.Node.TheVariants.{Call}
@@ -96,7 +96,7 @@ module _ (forest : Forest) (accepted : IsAccepted forest) (whole : IsForest fore
   abbrev code : Code
   code = code_of forest
 
-  static_bound : (id : ℕ) (position : Pos) (name : List ℕ) (object : Option ℕ) (arguments : List ℕ) (f : FoundMethod)
+  static_bound : (id : ℕ) (position : Position) (name : List ℕ) (object : Option ℕ) (arguments : List ℕ) (f : FoundMethod)
       (r : Receiver) (n : ℕ) → slice_get forest.nodes id ≡ Some (Call position name object arguments) →
       call_receiver p types id object ≡ Some r → called_method p r name ≡ Some f → f.method.builtin ≡ None →
       f.method.declared.modifiers.is_static ≡ true
@@ -133,7 +133,7 @@ module _ (forest : Forest) (accepted : IsAccepted forest) (whole : IsForest fore
             (is_same_type f.method.declared.declared_type void_type);
       })) plain
 
-  static_gives : (id : ℕ) (position : Pos) (name : List ℕ) (object : Option ℕ) (arguments : List ℕ) (f : FoundMethod)
+  static_gives : (id : ℕ) (position : Position) (name : List ℕ) (object : Option ℕ) (arguments : List ℕ) (f : FoundMethod)
       (r : Receiver) (now : Scope) (o : Option Kind) →
       slice_get forest.nodes id ≡ Some (Call position name object arguments) → call_receiver p types id object ≡ Some r →
       called_method p r name ≡ Some f
@@ -205,7 +205,7 @@ module _ (forest : Forest) (accepted : IsAccepted forest) (whole : IsForest fore
   unfolding kinds_taken
   takes_without f ks s e = all_without forest accepted whole sorted f f.method.parameters ks s e
 
-  pub static_call_fact : (b c : ℕ) (sig : Signature) (id : ℕ) (position : Pos) (name : List ℕ) (object : Option ℕ)
+  pub static_call_fact : (b c : ℕ) (sig : Signature) (id : ℕ) (position : Position) (name : List ℕ) (object : Option ℕ)
       (arguments : List ℕ) (o : Option Kind) → IsBody p b c sig →
       slice_get forest.nodes id ≡ Some (Call position name object arguments) → Inside p b c id →
       (m : Invoked forest accepted whole sorted is_read id name object)

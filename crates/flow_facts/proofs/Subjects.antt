@@ -1,7 +1,7 @@
 -- The operations of the subjects of guards, and of the conditions that ask of them: each subject is pushed by one
 -- operation, and a condition asks directly behind its two subjects.
 use Rattle.std.proofs.Common.{◌≡◌, ℕ, List, [], ◌∷◌, ◌++◌, position, refl, sym, ap, ◌∙◌, subst, true≢false, Option, Some, None, option_and_then, option_map, Bool, true, false, ◌==◌, if◌then◌else◌, slice_get}
-use Rattle.scj_base.specs.declared.places.Pos.{Pos}
+use Rattle.scj_base.specs.declared.positions.Position.{Position}
 use Rattle.scj_builtins.specs.Framework.{managed_memory_alloc_in_same}
 use Rattle.scj_tree.specs.declared.nodes.Node.{Node}
 use Rattle.scj_tree.specs.declared.nodes.Node.TheVariants.{SimpleName, This as ThisNode, Call, If}
@@ -86,7 +86,7 @@ module _ (forest : Forest) (accepted : IsAccepted forest) (whole : IsForest fore
       go None None true None e = absurd (cc (e))
       go None None false o e = absurd (cc (e))
 
-  variable_pushed : (b c y v : ℕ) (position : Pos) (name : List ℕ) →
+  variable_pushed : (b c y v : ℕ) (position : Position) (name : List ℕ) →
       slice_get forest.nodes y ≡ Some (SimpleName position name) → Inside p b c y → meaning p y name ≡ a_variable v →
       Pushed b y (the_variable v)
   unfolding binding_of meaning_binding variable_binding node_ops name_ops bound_local declarations_of
@@ -109,7 +109,7 @@ module _ (forest : Forest) (accepted : IsAccepted forest) (whole : IsForest fore
   unfolding subject_of subject_of_meaning node_ops declarations_of
   subject_pushed b c y s inside e = on_node (slice_get forest.nodes y) refl e
     where
-      by_meaning : (position : Pos) (name : List ℕ) → slice_get forest.nodes y ≡ Some (SimpleName position name) →
+      by_meaning : (position : Position) (name : List ℕ) → slice_get forest.nodes y ≡ Some (SimpleName position name) →
           (m : Meaning) → meaning p y name ≡ m → subject_of_meaning m ≡ Some s → Pushed b y s
       by_meaning position name there (a_variable v) meant e =
           subst (Pushed b y) (some_inj (the_variable v) s e) (variable_pushed b c y v position name there inside meant)
@@ -130,7 +130,7 @@ module _ (forest : Forest) (accepted : IsAccepted forest) (whole : IsForest fore
   asking_of x y = record { first = x; second = y }
 
   pub record AskedCall (condition : ℕ) (guard : Guard) : Type 0 where
-    pub position : Pos
+    pub position : Position
     pub name : List ℕ
     pub object : Option ℕ
     pub a : ℕ
@@ -162,7 +162,7 @@ module _ (forest : Forest) (accepted : IsAccepted forest) (whole : IsForest fore
       called_is None e = absurd (true≢false (sym e))
       called_is (Some n) e = ap (λ n. Some n) (same_number n managed_memory_alloc_in_same e)
 
-      by_test : (position : Pos) (name : List ℕ) (object : Option ℕ) (a b : ℕ) →
+      by_test : (position : Position) (name : List ℕ) (object : Option ℕ) (a b : ℕ) →
           slice_get forest.nodes condition ≡ Some (Call position name object (a ∷ b ∷ [])) → (t : Bool) →
           test (called_builtin p (type_at_node p) condition object name) ≡ t →
           (if t then option_and_then
@@ -221,7 +221,7 @@ module _ (forest : Forest) (accepted : IsAccepted forest) (whole : IsForest fore
       go None is e = absurd (cc (e))
       go (Some r) is e = by_method r is (called_method p r name) refl e
 
-  asked_ops : (condition a b : ℕ) (position : Pos) (name : List ℕ) (object : Option ℕ) →
+  asked_ops : (condition a b : ℕ) (position : Position) (name : List ℕ) (object : Option ℕ) →
       slice_get forest.nodes condition ≡ Some (Call position name object (a ∷ b ∷ [])) →
       called_builtin p (type_at_node p) condition object name ≡ Some managed_memory_alloc_in_same →
       ops_of code condition
@@ -261,7 +261,7 @@ module _ (forest : Forest) (accepted : IsAccepted forest) (whole : IsForest fore
     pub ops : ops_of code condition ≡ first ∷ (second ∷ (SAME condition ∷ []))
     pub asks : AsksGuard code (Written b) x first second
 
-  pub asked_guard : (x condition part : ℕ) (position : Pos) (other : Option ℕ) (guard : Guard) →
+  pub asked_guard : (x condition part : ℕ) (position : Position) (other : Option ℕ) (guard : Guard) →
       slice_get forest.nodes x ≡ Some (If position condition part other) → guard_of code x ≡ Some guard →
       AskedCall condition guard
   unfolding guard_at condition_of declarations_of
@@ -280,7 +280,7 @@ module _ (forest : Forest) (accepted : IsAccepted forest) (whole : IsForest fore
       asked None e = absurd (cc (e))
       asked (Some g) e = kept (is_undone p x g) g e
 
-  pub guard_asks : (b c x condition part : ℕ) (position : Pos) (other : Option ℕ) (guard : Guard) →
+  pub guard_asks : (b c x condition part : ℕ) (position : Position) (other : Option ℕ) (guard : Guard) →
       slice_get forest.nodes x ≡ Some (If position condition part other) → Inside p b c condition →
       guard_of code x ≡ Some guard → Asking b x condition
   unfolding children is_inner HasRightChildren declarations_of

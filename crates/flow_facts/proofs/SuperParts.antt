@@ -3,7 +3,7 @@
 use Rattle.std.proofs.Common.{◌≡◌, ℕ, ◌<◌, List, [], ◌∷◌, length, map, refl, sym, ap, ◌∙◌, subst, arith, Option, Some, None, Bool, true, false, not, ◌&&◌, true≢false, ◌==◌, is_some, option_and_then}
 use Rattle.std.proofs.lemmas.Option.{slice_get_within}
 use Rattle.scj_base.specs.declared.findings.Rule.TheVariants.{T6, T14}
-use Rattle.scj_base.specs.declared.places.Pos.{Pos}
+use Rattle.scj_base.specs.declared.positions.Position.{Position}
 use Rattle.scj_tree.specs.declared.nodes.Node.{Node}
 use Rattle.scj_tree.specs.declared.nodes.Node.TheVariants.{Class}
 use Rattle.scj_tree.specs.Forest.{Forest, IsForest}
@@ -60,7 +60,7 @@ some_there : {A : Type 0} (o : Option A) → is_some o ≡ true → (x : A) × (
 some_there None e = absurd (true≢false (sym e))
 some_there (Some x) e = (x, refl)
 
-class_no_other : (position : Pos) (name : List ℕ) (flags header : Option ℕ) (members : List ℕ) →
+class_no_other : (position : Position) (name : List ℕ) (flags header : Option ℕ) (members : List ℕ) →
     is_no_class (Class position name flags header members) ≡ false
 unfolding is_no_class
 class_no_other position name flags header members = refl
@@ -125,7 +125,7 @@ module _ (forest : Forest) (accepted : IsAccepted forest) (whole : IsForest fore
     fits : misfits_class p c ≡ false
     form : lacks_form p c ≡ false
 
-  class_breaks_none : (k : ℕ) (position : Pos) (name : List ℕ) (flags header : Option ℕ) (members : List ℕ) →
+  class_breaks_none : (k : ℕ) (position : Position) (name : List ℕ) (flags header : Option ℕ) (members : List ℕ) →
       type_breaks p (type_at_node p) k (Class position name flags header members) ≡ [] →
       (holds (class_number p.names name) (misfits_class p) ≡ false) ×
       (holds (class_number p.names name) (lacks_form p) ≡ false)

@@ -1,6 +1,6 @@
 -- An argument is an expression or a text; and small steps along lists of types.
 use Rattle.std.proofs.Common.{◌≡◌, ℕ, List, ◌∷◌, refl, sym, Option, Some, None, Bool, true, false, ◌&&◌, true≢false, ◌⊎◌, inl, inr, option_map}
-use Rattle.scj_base.specs.declared.places.Pos.{Pos}
+use Rattle.scj_base.specs.declared.positions.Position.{Position}
 use Rattle.scj_tree.specs.declared.nodes.Node.{Node}
 use Rattle.scj_tree.specs.declared.nodes.Node.TheVariants.{Text, Binary, Unary, Cast, Parenthesized, SimpleName, FieldAccess, Call, Element, New, NewArray, Number, True, False, Null, This as ThisNode}
 use Rattle.scj_rules.specs.declared.typing.Ty.{Ty}
@@ -9,7 +9,7 @@ use Rattle.accepted_laws.proofs.Tools.{some_inj}
 
 -- an argument is an expression, or a text
 pub text_or_expression : (n : Node) → is_argument n ≡ true →
-    (is_expression n ≡ true) ⊎ ((position : Pos) × (text : List ℕ) × (n ≡ Text position text))
+    (is_expression n ≡ true) ⊎ ((position : Position) × (text : List ℕ) × (n ≡ Text position text))
 unfolding is_argument is_expression
 text_or_expression (Text position text) e = inr (position, text, refl)
 text_or_expression (Binary a b c d) e = inl refl

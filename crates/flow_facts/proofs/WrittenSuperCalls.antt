@@ -1,6 +1,6 @@
 -- The super call that is written in a constructor of an accepted program: its place, and what it calls.
 use Rattle.std.proofs.Common.{◌≡◌, ℕ, List, [], ◌∷◌, ◌++◌, refl, sym, ap, ◌∙◌, subst, Option, Some, true, true≢false, option_and_then, slice_get}
-use Rattle.scj_base.specs.declared.places.Pos.{Pos}
+use Rattle.scj_base.specs.declared.positions.Position.{Position}
 use Rattle.scj_tree.specs.declared.nodes.Node.{Node}
 use Rattle.scj_tree.specs.declared.nodes.Node.TheVariants.{Constructor, SuperCall}
 use Rattle.scj_tree.specs.Forest.{Forest, IsForest}
@@ -56,13 +56,13 @@ module _ (forest : Forest) (accepted : IsAccepted forest) (whole : IsForest fore
   Member b c = MemberAt forest accepted whole sorted b c
 
   call_node : (call : ℕ) (node : Node) → slice_get nodes call ≡ Some node → is_super_call node ≡ true →
-      (position : Pos) × (arguments : List ℕ) × (slice_get nodes call ≡ Some (SuperCall position arguments))
+      (position : Position) × (arguments : List ℕ) × (slice_get nodes call ≡ Some (SuperCall position arguments))
   unfolding is_super_call
   call_node call (SuperCall position arguments) there e = (position, arguments, there)
   call_node call _ there e = absurd (true≢false (sym e))
 
   -- the constructor of the class, with its super call
-  written_constructor : (b c call : ℕ) (position position2 : Pos) (name arguments : List ℕ) (flags parameters : Option ℕ)
+  written_constructor : (b c call : ℕ) (position position2 : Position) (name arguments : List ℕ) (flags parameters : Option ℕ)
       (body : ℕ) → slice_get nodes b ≡ Some (Constructor position name flags parameters (Some call) body) →
       slice_get nodes call ≡ Some (SuperCall position2 arguments) → Member b c → (context p b).class ≡ Some c
       → (con : DeclaredConstructor) × (constructor_in p.classes c ≡ Some con) × (con.super_call ≡ Some arguments)
@@ -74,7 +74,7 @@ module _ (forest : Forest) (accepted : IsAccepted forest) (whole : IsForest fore
     ap (option_and_then super_arguments) at,
   )
 
-  module _ (b c call : ℕ) (sig : Signature) (position position2 : Pos) (name arguments : List ℕ) (flags parameters : Option ℕ)
+  module _ (b c call : ℕ) (sig : Signature) (position position2 : Position) (name arguments : List ℕ) (flags parameters : Option ℕ)
       (body : ℕ) (there : slice_get nodes b ≡ Some (Constructor position name flags parameters (Some call) body))
       (at : slice_get nodes call ≡ Some (SuperCall position2 arguments))
       (m : Member b c) (class : (context p b).class ≡ Some c) (home : this_in p c ≡ Some sig.runs_in) where
@@ -160,7 +160,7 @@ module _ (forest : Forest) (accepted : IsAccepted forest) (whole : IsForest fore
               };
         }
 
-  pub super_fact_at : (b c call : ℕ) (sig : Signature) (position : Pos) (name : List ℕ) (flags parameters : Option ℕ)
+  pub super_fact_at : (b c call : ℕ) (sig : Signature) (position : Position) (name : List ℕ) (flags parameters : Option ℕ)
       (body : ℕ) → slice_get nodes b ≡ Some (Constructor position name flags parameters (Some call) body) → Member b c →
       (context p b).class ≡ Some c → this_in p c ≡ Some sig.runs_in → WrittenSuperFact code b c sig call
   unfolding HasRightChildren

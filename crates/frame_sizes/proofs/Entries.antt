@@ -1,7 +1,7 @@
 -- Each body of an accepted program begins without operands, and has room for those of its operations.
 use Rattle.std.specs.Prelude.{Option, Some, None, slice_get, flat_map, map, if◌then◌else◌}
 use Rattle.std.proofs.Common.{◌≡◌, ◌≤◌, ◌+◌, ℕ, zero, suc, List, [], ◌∷◌, ◌++◌, length, Bool, true, false, refl, sym, ◌∙◌, ap, subst, arith, append-nil}
-use Rattle.scj_base.specs.declared.places.Pos.{Pos}
+use Rattle.scj_base.specs.declared.positions.Position.{Position}
 use Rattle.scj_tree.specs.declared.nodes.Node.{Node}
 use Rattle.scj_tree.specs.declared.nodes.Node.TheVariants.{Class, Method as MethodNode, Constructor, New}
 use Rattle.scj_tree.specs.Heights.{highest, weight, height, body_height, super_height}
@@ -90,7 +90,7 @@ module _ (code : Code) (facts : Facts code) (limits : Limits code) (b c : ℕ) (
   same_below id [] l = refl
   same_below id (x ∷ xs) l = cc (below_lt [] id (ops_of code) x l.0, same_below id xs l.1)
 
-  form_ops : (x : ℕ) (position name_position : Pos) (name xs : List ℕ) →
+  form_ops : (x : ℕ) (position name_position : Position) (name xs : List ℕ) →
       slice_get code.program.nodes x ≡ Some (New position name_position name xs) → binding code x ≡ Plain → AreSmaller x xs →
       ops_of code x ≡ flat_map (ops_of code) xs
   unfolding node_ops new_ops
@@ -98,7 +98,7 @@ module _ (code : Code) (facts : Facts code) (limits : Limits code) (b c : ℕ) (
       ops_at code x _ there
       ∙ ap (λ (y : Binding). new_ops (below [] x (ops_of code)) x xs y) plain ∙ same_below x xs l
 
-  form_low : (x : ℕ) (position name_position : Pos) (name xs : List ℕ) →
+  form_low : (x : ℕ) (position name_position : Position) (name xs : List ℕ) →
       slice_get code.program.nodes x ≡ Some (New position name_position name xs) → H x ≤ 64 → AllLow xs
   unfolding weight children
   form_low x position name_position name xs there l =

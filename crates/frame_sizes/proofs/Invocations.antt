@@ -1,7 +1,7 @@
 -- Calls leave an operand where they give a value.
 use Rattle.std.specs.Prelude.{Option, Some, None, is_some, slice_get, flat_map}
 use Rattle.std.proofs.Common.{◌≡◌, ◌≤◌, ◌<◌, ℕ, suc, List, [], ◌∷◌, ◌++◌, length, ◌⊎◌, inl, inr, refl, sym, ◌∙◌, ap, subst, arith}
-use Rattle.scj_base.specs.declared.places.Pos.{Pos}
+use Rattle.scj_base.specs.declared.positions.Position.{Position}
 use Rattle.scj_builtins.specs.Framework.{periodic_handler_register, aperiodic_handler_register, managed_memory_enter_private_memory, managed_memory_execute_in_area_of, managed_memory_alloc_in_same, services_set_ceiling, trace_print, device_read}
 use Rattle.scj_tree.specs.declared.nodes.Node.TheVariants.{Call, Text}
 use Rattle.scj_tree.specs.Heights.{height}
@@ -53,7 +53,7 @@ module _ (code : Code) (at : Place code) (o : Option Kind) where
   receiver_brings None class scope r z h = brings_op code (THIS id) d (alone code at d 0 (omega arith) z) tt
   receiver_brings (Some x) class scope r z h = value code at x _ h d (with_more code at d (H x) (omega arith) r.0)
 
-  pub call_brings : (position : Pos) (name : List ℕ) (object : Option ℕ) (xs : List ℕ) →
+  pub call_brings : (position : Position) (name : List ℕ) (object : Option ℕ) (xs : List ℕ) →
       slice_get code.program.nodes id ≡ Some (Call position name object xs) → AllRoomy code at (optional object) →
       AllRoomy code at xs → Roomy code at 0 → length xs ≤ 8 → CallFact code b c sig id object xs o →
       B (call_ops sub id object xs (binding code id)) d (with_kind o d)
@@ -72,7 +72,7 @@ module _ (code : Code) (at : Place code) (o : Option Kind) where
       (arguments code at xs f.kinds f.arguments_are r (suc d) (omega (arith, few)))
       (alone code at (more (length xs) (suc d)) 0 (omega (arith, few, more_is (length xs) (suc d))) z) tt)))
 
-  pub static_brings : (position : Pos) (name : List ℕ) (object : Option ℕ) (xs : List ℕ) →
+  pub static_brings : (position : Position) (name : List ℕ) (object : Option ℕ) (xs : List ℕ) →
       slice_get code.program.nodes id ≡ Some (Call position name object xs) → AllRoomy code at xs → Roomy code at 0 →
       length xs ≤ 8 → StaticCallFact code b c sig id xs o →
       B (call_ops sub id object xs (binding code id)) d (with_kind o d)
@@ -117,7 +117,7 @@ module _ (code : Code) (at : Place code) (o : Option Kind) where
       (behind code (receiver_ops sub id object) op d (suc d)
       (receiver_brings object f.class f.scope q z f.receiver_is) (alone code at (suc d) 0 (omega arith) z) a))
 
-  pub of_print : (label x : ℕ) (position : Pos) (text : List ℕ) → label < id →
+  pub of_print : (label x : ℕ) (position : Position) (text : List ℕ) → label < id →
       slice_get code.program.nodes label ≡ Some (Text position text) → AllRoomy code at (label ∷ x ∷ []) →
       HasValue code.program b c id x (Some number) → B (flat_map sub (label ∷ x ∷ []) ++ PRINT id ∷ []) d d
   unfolding after

@@ -2,7 +2,7 @@
 use Rattle.std.specs.Prelude.{Option, Some, None, is_some, slice_get, filter, drop, ◌==◌, unwrap_or}
 use Rattle.std.proofs.Common.{◌≡◌, ◌≤◌, ℕ, List, [], length, Bool, true, false, refl, sym, ◌∙◌, ap, subst, arith}
 use Rattle.std.proofs.lemmas.Bool.Decides.{nat_tests}
-use Rattle.scj_base.specs.declared.places.Pos.{Pos}
+use Rattle.scj_base.specs.declared.positions.Position.{Position}
 use Rattle.scj_tree.specs.declared.nodes.Node.{Node}
 use Rattle.scj_tree.specs.declared.nodes.Node.TheVariants.{Class, Method as MethodNode, Constructor, Call}
 use Rattle.scj_tree.specs.Forest.{Forest}
@@ -152,7 +152,7 @@ module _ (forest : Forest) (a : IsAcceptedProgram forest) where
 
   -- ---- calls
 
-  few_passed : (b c : ℕ) (sig : Signature) (id : ℕ) (position : Pos) (name : List ℕ) (object : Option ℕ)
+  few_passed : (b c : ℕ) (sig : Signature) (id : ℕ) (position : Position) (name : List ℕ) (object : Option ℕ)
       (arguments : List ℕ) (gives : Option Kind) → IsBody p b c sig → Inside p b c id →
       slice_get forest.nodes id ≡ Some (Call position name object arguments) → Judged p id gives →
       CallFact (code_of forest) b c sig id object arguments gives → length arguments ≤ 8

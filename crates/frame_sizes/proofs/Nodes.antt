@@ -2,7 +2,7 @@
 -- and there is room for them: by recursion over the nodes.
 use Rattle.std.specs.Prelude.{Option, Some, slice_get}
 use Rattle.std.proofs.Common.{◌≡◌, ◌≤◌, ◌<◌, ℕ, ◌+◌, ◌*◌, zero, suc, List, [], sym, ◌∙◌, subst, arith}
-use Rattle.scj_base.specs.declared.places.Pos.{Pos}
+use Rattle.scj_base.specs.declared.positions.Position.{Position}
 use Rattle.scj_tree.specs.declared.nodes.Node.TheVariants.{Text}
 use Rattle.scj_tree.specs.Heights.{height}
 use Rattle.accepted_laws.specs.Judgements.{Inside, Judged}
@@ -46,7 +46,7 @@ module _ (code : Code) (b c : ℕ) (sig : Signature) (body : IsBody code.program
       statement : IsStatement code.program b c id → (d : ℕ) →
           d + 9 * height code.program.nodes id ≤ most_operands → Brings code (ops_of code id) d d
 
-    text_ops : (id : ℕ) (position : Pos) (text : List ℕ) → slice_get code.program.nodes id ≡ Some (Text position text) →
+    text_ops : (id : ℕ) (position : Position) (text : List ℕ) → slice_get code.program.nodes id ≡ Some (Text position text) →
         ops_of code id ≡ []
     unfolding node_ops
     text_ops id position text there = ops_at code id (Text position text) there

@@ -1,7 +1,7 @@
 -- A node of a body, and room for its parts: nine operands of its own, and what each part needs.
 use Rattle.std.specs.Prelude.{Option, Some, None, is_some, slice_get, flat_map, max}
 use Rattle.std.proofs.Common.{◌≡◌, ◌≤◌, ◌<◌, ℕ, ◌+◌, ◌*◌, suc, List, [], ◌∷◌, length, refl, sym, ◌∙◌, ap, subst, arith}
-use Rattle.scj_base.specs.declared.places.Pos.{Pos}
+use Rattle.scj_base.specs.declared.positions.Position.{Position}
 use Rattle.scj_tree.specs.declared.nodes.Node.{Node}
 use Rattle.scj_tree.specs.declared.nodes.Node.TheVariants.{Call, Text}
 use Rattle.scj_tree.specs.Heights.{highest, height, body_height}
@@ -28,7 +28,7 @@ use Rattle.frame_sizes.proofs.Counts.{with_result, Value, Statement, Brings, bri
 pub record Limits (code : Code) : Type 0 where
   pub behind : BehindChildren code.program
   pub takes : (body : Body) (c : ℕ) (sig : Signature) → Runs code.program body c sig → length sig.takes ≤ 8
-  pub called : (b c : ℕ) (sig : Signature) (id : ℕ) (position : Pos) (name : List ℕ) (object : Option ℕ)
+  pub called : (b c : ℕ) (sig : Signature) (id : ℕ) (position : Position) (name : List ℕ) (object : Option ℕ)
       (arguments : List ℕ) (gives : Option Kind) → IsBody code.program b c sig → Inside code.program b c id →
       slice_get code.program.nodes id ≡ Some (Call position name object arguments) → Judged code.program id gives →
       CallFact code b c sig id object arguments gives → length arguments ≤ 8
@@ -58,7 +58,7 @@ pub record Before (code : Code) (b c : ℕ) (id : ℕ) (sub : ℕ → List Op) :
       (d : ℕ) → d + 9 * height code.program.nodes x ≤ most_operands → Brings code (sub x) d (with_kind o d)
   pub statements : (x : ℕ) → x < id → IsStatement code.program b c x → (d : ℕ) →
       d + 9 * height code.program.nodes x ≤ most_operands → Brings code (sub x) d d
-  pub texts : (x : ℕ) → x < id → (position : Pos) (text : List ℕ) →
+  pub texts : (x : ℕ) → x < id → (position : Position) (text : List ℕ) →
       slice_get code.program.nodes x ≡ Some (Text position text) → sub x ≡ []
 
 -- a node of a body, behind nodes that leave what they should, where so many operands are there

@@ -2,7 +2,7 @@
 use Rattle.std.specs.Prelude.{Option, Some, slice_get, flat_map, ◌==◌, if◌then◌else◌}
 use Rattle.std.proofs.Common.{◌≡◌, ◌≤◌, ℕ, suc, List, [], ◌∷◌, ◌++◌, length, Bool, true, false, ◌⊎◌, inl, inr, refl, sym, ◌∙◌, ap, subst, arith}
 use Rattle.scj_base.specs.Vocabulary.{sign_and_and, sign_or_or}
-use Rattle.scj_base.specs.declared.places.Pos.{Pos}
+use Rattle.scj_base.specs.declared.positions.Position.{Position}
 use Rattle.scj_tree.specs.declared.nodes.Node.{Node}
 use Rattle.scj_tree.specs.declared.nodes.Node.TheVariants.{Binary, New}
 use Rattle.scj_tree.specs.Heights.{height}
@@ -103,7 +103,7 @@ module _ (code : Code) (at : Place code) (o : Option Kind) where
       (value code at y k i (suc d) (with_more code at (suc d) (H y) (omega arith) r.1.0))
       (alone code at (suc (suc d)) (H y) (omega arith) r.1.0) a)
 
-  pub binary_brings : (position : Pos) (operator left right : ℕ) (j k : Kind) →
+  pub binary_brings : (position : Position) (operator left right : ℕ) (j k : Kind) →
       slice_get code.program.nodes id ≡ Some (Binary position operator left right) → AllRoomy code at (left ∷ right ∷ []) →
       HasValue code.program b c id left (Some j) → HasValue code.program b c id right (Some k) →
       B (binary_ops sub id operator left right) d (suc d)
@@ -124,7 +124,7 @@ module _ (code : Code) (at : Place code) (o : Option Kind) where
       go false true = one_brings left j (OR id) r.0 h asks
       go false false = two_brings left right j k (BIN id) r h i tt
 
-  pub new_brings : (position name_position : Pos) (name xs : List ℕ) (class : ℕ) (ks : List Kind) →
+  pub new_brings : (position name_position : Position) (name xs : List ℕ) (class : ℕ) (ks : List Kind) →
       slice_get code.program.nodes id ≡ Some (New position name_position name xs) → AllRoomy code at xs → Roomy code at 0 →
       binding code id ≡ ClassNamed class → HaveValues code.program b c id xs ks → length xs ≤ 8 →
       B (new_ops sub id xs (binding code id)) d (suc d)

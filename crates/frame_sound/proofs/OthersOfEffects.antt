@@ -5,7 +5,7 @@ use Rattle.std.proofs.Common.{◌≡◌, ℕ, ◌≤◌, List, [], ◌∷◌, le
 use Rattle.std.proofs.lemmas.Bool.Decides.{nat_tests}
 use Rattle.scj_base.specs.declared.faults.RunFault.{RunFault}
 use Rattle.scj_base.specs.declared.faults.RunFault.TheVariants.{CeilingViolation, DepthFull, MemoryFull, NotInitializing, ScopedCycle, StoreFull, TooManyHandlers}
-use Rattle.scj_base.specs.declared.places.Pos.{Pos}
+use Rattle.scj_base.specs.declared.positions.Position.{Position}
 use Rattle.scj_base.specs.declared.values.Value.{Value}
 use Rattle.scj_base.specs.declared.values.Value.TheVariants.{Null}
 use Rattle.scj_rules.specs.Words.{is_among}
@@ -104,7 +104,7 @@ module _ (s : State) (job : Job) (frames : List Frame) where
             size = refl;
           }
 
-pub fault_keeps : (s : State) (job : Job) (activity : Activity) (position : Pos) (fault : RunFault) →
+pub fault_keeps : (s : State) (job : Job) (activity : Activity) (position : Position) (fault : RunFault) →
     KeepsOthers s job activity.frames (fault_in s job activity position fault).state
 unfolding fault_in is_waiting
 fault_keeps s TheSequencer activity position fault =
@@ -117,7 +117,7 @@ fault_keeps s (ReleaseAt n) activity position fault =
 
 -- ---- all effects
 
-module _ (code : Code) (s : State) (job : Job) (activity : Activity) (below : List Frame) (position : Pos) where
+module _ (code : Code) (s : State) (job : Job) (activity : Activity) (below : List Frame) (position : Position) where
   abbrev Keeping : Step → Type 0
   Keeping step = KeepsOthers s job activity.frames step.state
 

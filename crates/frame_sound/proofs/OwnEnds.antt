@@ -4,7 +4,7 @@ use Rattle.std.specs.Prelude.{Option, Some, None, slice_get, slice_set, ◌||◌
 use Rattle.std.proofs.Common.{◌≡◌, ℕ, List, [], ◌∷◌, Bool, true, false, refl, sym, ◌∙◌, ap, subst, arith, inl}
 use Rattle.std.proofs.lemmas.Bool.Decides.{nat_tests}
 use Rattle.scj_base.specs.declared.faults.RunFault.{RunFault}
-use Rattle.scj_base.specs.declared.places.Pos.{Pos}
+use Rattle.scj_base.specs.declared.positions.Position.{Position}
 use Rattle.scj_base.specs.declared.values.Value.{Value}
 use Rattle.scj_rules.specs.Words.{is_among, ◌>>=◌}
 use Rattle.scj_model.specs.Code.{Code}
@@ -183,7 +183,7 @@ release_ended s t index e there =
 -- ---- faults
 
 pub faulted : (code : Code) (s : State) (job : Job) (activity : Activity) → JobThere s job → MemoryFine code s →
-    (position : Pos) (fault : RunFault) →
+    (position : Position) (fault : RunFault) →
     HasFaulted code s job activity (fault_in s job activity position fault)
 unfolding fault_in
 faulted code s TheSequencer activity there m position fault =
@@ -209,7 +209,7 @@ faulted code s (ReleaseAt n) activity there m position fault =
       };
     }
 
-pub fault_keeps_registry : (s : State) (job : Job) (activity : Activity) (position : Pos) (fault : RunFault) →
+pub fault_keeps_registry : (s : State) (job : Job) (activity : Activity) (position : Position) (fault : RunFault) →
     (fault_in s job activity position fault).state.registry ≡ s.registry
 unfolding fault_in
 fault_keeps_registry s TheSequencer activity position fault = refl

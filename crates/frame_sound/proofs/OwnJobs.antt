@@ -3,7 +3,7 @@ use Rattle.std.specs.Prelude.{Option, Some, None, slice_get, slice_set, ◌++◌
 use Rattle.std.proofs.Common.{◌≡◌, ℕ, List, [], ◌∷◌, length, Bool, true, false, refl, sym, ◌∙◌, ap, inl, inr}
 use Rattle.scj_base.specs.declared.faults.RunFault.{RunFault}
 use Rattle.scj_base.specs.declared.faults.RunFault.TheVariants.{MemoryFull, NotInitializing}
-use Rattle.scj_base.specs.declared.places.Pos.{Pos}
+use Rattle.scj_base.specs.declared.positions.Position.{Position}
 use Rattle.scj_base.specs.declared.values.Value.{Value}
 use Rattle.scj_base.specs.declared.values.Value.TheVariants.{At}
 use Rattle.scj_rules.specs.Words.{◌>>=◌}
@@ -94,7 +94,7 @@ registry_stays s (ReleaseAt index) b = refl
 module _ (code : Code) (facts : Facts code) (s : State) (job : Job) (activity : Activity)
     (is : activity_of s job ≡ Some activity) (base : List ℕ) (f : Frame) (below : List Frame)
     (is_list : activity.areas ≡ list_of base (f ∷ below)) (c : ℕ) (sig : Signature)
-    (m : ActsHere code s.areas s.objects s.statics base f below c sig) (position : Pos) where
+    (m : ActsHere code s.areas s.objects s.statics base f below c sig) (position : Position) where
   -- the job with this frame, in a state in which at most objects and static fields are others
   pub stands_with : (t : State) → t ≡ record s { objects = t.objects; statics = t.statics } → (k : Frame) → IsSame f k →
       Stands code t.areas t.objects t.statics base (k ∷ below) →

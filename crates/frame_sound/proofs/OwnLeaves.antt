@@ -2,7 +2,7 @@
 use Rattle.std.specs.Prelude.{Option, Some, None, slice_get, ◌==◌, ◌||◌, ◌++◌, cond, filter, not, option_map, option_to_list, unwrap_or}
 use Rattle.std.proofs.Common.{◌≡◌, ℕ, List, [], ◌∷◌, Bool, true, false, refl, sym, ◌∙◌, ap, subst, arith, ◌⊎◌, inl, inr}
 use Rattle.std.proofs.lemmas.Bool.Decides.{nat_tests}
-use Rattle.scj_base.specs.declared.places.Pos.{Pos}
+use Rattle.scj_base.specs.declared.positions.Position.{Position}
 use Rattle.scj_base.specs.declared.values.Value.{Value}
 use Rattle.scj_rules.specs.Words.{is_among}
 use Rattle.accepted_laws.proofs.Tools.{some_inj}
@@ -88,7 +88,7 @@ module _ (code : Code) (facts : Facts code) (s : State) (job : Job) (activity : 
     (is : activity_of s job ≡ Some activity) (base : List ℕ) (f : Frame) (below : List Frame)
     (is_list : activity.areas ≡ list_of base (f ∷ below)) (c : ℕ) (sig : Signature)
     (runs : Runs code.program f.body c sig) (m : ActsHere code s.areas s.objects s.statics base f below c sig)
-    (place : Pos) (h : Frame) (value : Option Value) (same : IsSame f h)
+    (place : Position) (h : Frame) (value : Option Value) (same : IsSame f h)
     (gives : ReturnFine code.program (look (λ a. slice_get s.areas a) s.objects)
     (denote (look (λ a. slice_get s.areas a) s.objects) (list_of base (f ∷ below)) f.this f.area) sig.gives value) where
   abbrev t : State

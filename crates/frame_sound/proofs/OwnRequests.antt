@@ -4,7 +4,7 @@ use Rattle.std.specs.Prelude.{Option, Some, None, slice_get, ◌+◌, ◌++◌, 
 use Rattle.std.proofs.Common.{◌≡◌, ℕ, zero, suc, List, [], ◌∷◌, length, Bool, true, false, refl, sym, ◌∙◌, ap, inl, inr, subst}
 use Rattle.scj_base.specs.declared.faults.RunFault.{RunFault}
 use Rattle.scj_base.specs.declared.faults.RunFault.TheVariants.{NotInitializing, TooManyHandlers}
-use Rattle.scj_base.specs.declared.places.Pos.{Pos}
+use Rattle.scj_base.specs.declared.positions.Position.{Position}
 use Rattle.scj_rules.specs.ScopeRules.{is_handler}
 use Rattle.scj_rules.specs.Words.{is_among, ◌>>=◌}
 use Rattle.accepted_laws.proofs.Lists.{get_left}
@@ -100,7 +100,7 @@ started_stays r a e =
 module _ (code : Code) (facts : Facts code) (s : State) (job : Job) (activity : Activity)
     (is : activity_of s job ≡ Some activity) (base : List ℕ) (f : Frame) (below : List Frame)
     (is_list : activity.areas ≡ list_of base (f ∷ below)) (c : ℕ) (sig : Signature)
-    (m : ActsHere code s.areas s.objects s.statics base f below c sig) (position : Pos) where
+    (m : ActsHere code s.areas s.objects s.statics base f below c sig) (position : Position) where
   abbrev Result : Option Step → Type 0
   Result o = KeepsItsJob code s job activity base f below o
 

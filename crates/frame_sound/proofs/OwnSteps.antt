@@ -2,7 +2,7 @@
 use Rattle.std.specs.Prelude.{Option, Some, None, slice_get}
 use Rattle.std.proofs.Common.{◌≡◌, ℕ, List, [], ◌∷◌, refl, ◌∙◌, ap, subst, inl, inr, ◌⊎◌}
 use Rattle.scj_base.specs.declared.faults.RunFault.{RunFault}
-use Rattle.scj_base.specs.declared.places.Pos.{Pos}
+use Rattle.scj_base.specs.declared.positions.Position.{Position}
 use Rattle.scj_rules.specs.Contexts.{Declarations}
 use Rattle.scj_rules.specs.declared.typing.Scope.{Scope}
 use Rattle.accepted_laws.specs.Kinds.{Kind}
@@ -35,7 +35,7 @@ module _ (code : Code) (facts : Facts code) (s : State) (job : Job) (activity : 
     (is : activity_of s job ≡ Some activity) (base : List ℕ) (f : Frame) (below : List Frame)
     (is_list : activity.areas ≡ list_of base (f ∷ below)) (c : ℕ) (sig : Signature)
     (runs : Runs code.program f.body c sig) (m : ActsHere code s.areas s.objects s.statics base f below c sig)
-    (position : Pos) where
+    (position : Position) where
   faults_kept : (fault : RunFault) →
       KeepsItsJob code s job activity base f below (applied code s job activity below position (Faults fault))
   unfolding applied

@@ -3,7 +3,7 @@ use Rattle.std.specs.Prelude.{Option, Some, None, slice_get, ◌||◌, ◌==◌,
 use Rattle.std.proofs.Common.{◌≡◌, ℕ, ◌<◌, List, [], ◌∷◌, length, Bool, true, false, refl, sym, ◌∙◌, ap, subst, arith, inl, inr}
 use Rattle.std.proofs.lemmas.Bool.Decides.{nat_tests}
 use Rattle.scj_base.specs.declared.faults.RunFault.TheVariants.{StoreFull}
-use Rattle.scj_base.specs.declared.places.Pos.{Pos}
+use Rattle.scj_base.specs.declared.positions.Position.{Position}
 use Rattle.scj_rules.specs.declared.views.Body.{Body}
 use Rattle.scj_rules.specs.Bodies.{body_named, class_position}
 use Rattle.scj_rules.specs.ScopeRules.{defined_by_chain}
@@ -140,7 +140,7 @@ module _ (code : Code) (facts : Facts code) (s : State) (index : ℕ) (r : Relea
         areas = areas_stay opened (ReleaseAt index) activity;
       }
 
-  abbrev at : Pos
+  abbrev at : Position
   at = class_position code.program row.class
 
   starts_with : Starts code s index row h (Some (started_with code s index row h.scope h.handled.body))

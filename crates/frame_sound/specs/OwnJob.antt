@@ -2,7 +2,7 @@
 -- And what an operation makes of the job: it goes on, leaves its last frame, or is ended by a fault.
 use Rattle.std.specs.Prelude.{◌≡◌, ℕ, ◌<◌, Bool, true, false, ◌⊎◌, List, [], ◌∷◌, ◌++◌, length, slice_get, Option, Some, None, if◌then◌else◌, option_map, unwrap_or}
 use Rattle.scj_base.specs.declared.faults.RunFault.{RunFault}
-use Rattle.scj_base.specs.declared.places.Pos.{Pos}
+use Rattle.scj_base.specs.declared.positions.Position.{Position}
 use Rattle.scj_base.specs.declared.values.Value.{Value}
 use Rattle.scj_base.specs.declared.values.Value.TheVariants.{Null, At}
 use Rattle.scj_rules.specs.Words.{is_among}
@@ -126,7 +126,7 @@ ComesToFault s TheSequencer frames after = after ≡ record s { phase = Over; op
 ComesToFault s (ReleaseAt index) frames after = IsClosedDown s index frames after
 
 pub record HasFaulted (code : Code) (s : State) (job : Job) (activity : Activity) (step : Step) : Type 0 where
-  pub position : Pos
+  pub position : Position
   pub fault : RunFault
   pub is : step ≡ fault_in s job activity position fault
   pub memory : MemoryFine code step.state

@@ -3,7 +3,7 @@ use Rattle.std.proofs.Common.{◌≡◌, ℕ, ◌==◌, ◌≤◌, ◌+◌, nat_
 use Rattle.std.specs.Prelude.{filter, is_some, map, slice_get, unwrap_or}
 use Rattle.std.proofs.lemmas.List.Elements.{All-cons, All-head, All-map, All-nil, All-push, All-set, All-tail}
 use Rattle.scj_base.specs.declared.faults.RunFault.{RunFault}
-use Rattle.scj_base.specs.declared.places.Pos.{Pos}
+use Rattle.scj_base.specs.declared.positions.Position.{Position}
 use Rattle.scj_base.specs.declared.values.Value.{Value}
 use Rattle.scj_base.specs.declared.values.Value.TheVariants.{At}
 use Rattle.scj_rules.specs.Classes.{hidden_fields}
@@ -32,7 +32,7 @@ SetsItsHidden p s e = Unit {0}
 module _ (p : Declarations) where
   -- ---- what every effect may do
 
-  pub fault_fits : (s : State) (job : Job) (a : Activity) (position : Pos) (fault : RunFault) → StateFits p s →
+  pub fault_fits : (s : State) (job : Job) (a : Activity) (position : Position) (fault : RunFault) → StateFits p s →
       StepFits p (fault_in s job a position fault)
   unfolding fault_in
   fault_fits s TheSequencer a position fault h =
@@ -78,7 +78,7 @@ module _ (p : Declarations) where
       (elim_events p (slice_get s.releases n) (λ (r : Release). event.Prio s.unit r.handler after ∷ [])
       (λ r. one_event p (event.Prio s.unit r.handler after) tt))
 
-  pub opening_fits : (s : State) (job : Job) (a : Activity) (position : Pos) (scope : ℕ) (parent : Option ℕ) (bytes : ℕ)
+  pub opening_fits : (s : State) (job : Job) (a : Activity) (position : Position) (scope : ℕ) (parent : Option ℕ) (bytes : ℕ)
       (next : State → ℕ → Step) → StateFits p s →
       (StateFits p (with_area s scope parent bytes) → StepFits p (next (with_area s scope parent bytes) (length s.areas))) →
       StepFits p (opening s job a position scope parent bytes next)
@@ -87,7 +87,7 @@ module _ (p : Declarations) where
       good_if (StepFits p) (has_store_for s bytes) _ _ (λ e. more (opened_fits p s scope parent bytes h e))
       (λ e. fault_fits s job a position _ h)
 
-  pub making_fits : (s : State) (job : Job) (a : Activity) (position : Pos) (class area : ℕ) (slots : List Value)
+  pub making_fits : (s : State) (job : Job) (a : Activity) (position : Position) (class area : ℕ) (slots : List Value)
       (next : State → ℕ → Step) → StateFits p s → All FitsInt slots →
       (StateFits p (with_object s class area slots) →
       StepFits p (next (with_object s class area slots) (length s.objects))) →
@@ -146,7 +146,7 @@ module _ (p : Declarations) where
       (λ e. silent_fits p s h)
 
   module _ (code : Code) (s : State) (h : StateFits p s) (job : Job) (a : Activity) (below : List Frame)
-      (under : All FrameFits below) (position : Pos) where
+      (under : All FrameFits below) (position : Position) where
     frames_fit : (f : Frame) → FrameFits f → All FrameFits (f ∷ below)
     frames_fit f k = All-cons FrameFits f below k under
 

@@ -2,7 +2,7 @@
 use Rattle.std.proofs.Common.{◌≡◌, ℕ, All, List, [], ◌∷◌, length, Option, Some, None, refl, ap, ◌∙◌}
 use Rattle.std.specs.Prelude.{codes, slice_get}
 use Rattle.std.proofs.lemmas.List.Elements.{All-cons, All-head, All-nil, All-tail}
-use Rattle.scj_base.specs.declared.places.Pos.{Pos}
+use Rattle.scj_base.specs.declared.positions.Position.{Position}
 use Rattle.scj_rules.specs.declared.views.Body.{Body}
 use Rattle.scj_rules.specs.Bodies.{body_named, class_position, constructor_body, safelet_class, size_of}
 use Rattle.scj_rules.specs.ScopeRules.{defined_by_chain, immortal_scope}
@@ -134,13 +134,13 @@ module _ (code : Code) (rows : List ReadingRow) where
           releases = g.releases;
         }
 
-    area_fits : (position : Pos) (scope bytes : ℕ) → StepFits code.program (area_opened s position scope bytes)
+    area_fits : (position : Position) (scope bytes : ℕ) → StepFits code.program (area_opened s position scope bytes)
     unfolding area_opened
     area_fits position scope bytes =
         opening_fits code.program s TheSequencer s.activity position scope (innermost s.activity.areas) bytes _ h
         (λ t. silent_fits code.program _ (seq_fits (with_area s scope (innermost s.activity.areas) bytes) _ _ t h.sequencer))
 
-    safelet_fits : (position : Pos) (class area : ℕ) → StepFits code.program (safelet_made code s position class area)
+    safelet_fits : (position : Position) (class area : ℕ) → StepFits code.program (safelet_made code s position class area)
     unfolding safelet_made
     safelet_fits position class area =
         making_fits code.program s TheSequencer s.activity position class area (new_slots code.program class) _ h

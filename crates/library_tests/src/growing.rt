@@ -1,6 +1,6 @@
 //! A program that grows by hand.
 
-use scj_base::{Name, Pos, SharedName};
+use scj_base::{Name, Position, SharedName};
 use scj_tree::{Node, NodeList, Program};
 use std::test::Fail;
 
@@ -8,7 +8,7 @@ use std::test::Fail;
 #[tactic(auto, unfolding(scj_tree::specs::Forest::joined, scj_tree::specs::Forest::all_children, scj_tree::specs::Forest::AllBelow, scj_tree::specs::Forest::AllClasses, scj_tree::specs::Counts::times, scj_tree::specs::Shape::children))]
 fn a_program_grows(rt: HostRuntime) -> Result<(), Fail> {
     let mut program = Program::new(rt.alloc());
-    let position = Pos {
+    let position = Position {
         file: 0,
         line: 1,
         col: 7,

@@ -4,7 +4,7 @@ use Rattle.std.proofs.lemmas.Bool.{eqb-true, le-leb, leb-true}
 use Rattle.std.specs.Prelude.{Bool, List, None, Option, Some, [], false, is_some, nat_le, not, suc, true, ℕ, ◌&&◌, ◌==◌, ◌||◌, ◌∷◌, ◌≡◌, ◌≤◌}
 use Rattle.parser_machine.specs.Operands.{is_operand_start}
 use Rattle.scj_base.specs.Vocabulary.{sign_dot, sign_left_bracket, sign_left_parenthesis}
-use Rattle.scj_base.specs.declared.places.Pos.{Pos}
+use Rattle.scj_base.specs.declared.positions.Position.{Position}
 use Rattle.scj_tree.specs.Expressions.{Level, PostRead, Unary1Read, UnaryRead, binary, call_of, cast, complement, element_of, false_value, field_of, minimum_number, minimum_unary, minus, negation, new_booleans, new_ints, new_object, new_references, null_value, number, operand, parenthesized, parenthesized_name, plain_unary, post_unary, simple_call, simple_name, this_value, tighter, true_value}
 use Rattle.scj_tree.specs.Lexemes.{Lexeme, a_name, a_number, a_sign, a_text, a_word, the_end}
 use Rattle.scj_tree.specs.Terminals.{compound, is_unary1_start, level, stepping}
@@ -127,7 +127,7 @@ operator_ends n e =
     (rw (differs operates n sign_left_bracket e refl)
     (rw (differs operates n sign_left_parenthesis e refl) (rw (no_compound n e) (rw (no_stepping n e) refl))))
 
-pub operator_rest : (n : ℕ) (p : Pos) (o : List Lexeme) → nat_le 1 (level n) ≡ true →
+pub operator_rest : (n : ℕ) (p : Position) (o : List Lexeme) → nat_le 1 (level n) ≡ true →
     ends (level n) (a_sign n p ∷ o) ≡ true
 unfolding ends
 operator_rest n p o e = both _ _ (le-leb (level n) (level n) (omega arith)) (not_false _ (operator_ends n e))
@@ -158,7 +158,7 @@ mutual
   unary1_begins (cast h d) = refl
   unary1_begins (post_unary d) = post_begins d
 
-  pub post_begins : {m : Bool} {k : PostKind} {p : Pos} {N N1 : List Node} {i o : List Lexeme} {e : ℕ} →
+  pub post_begins : {m : Bool} {k : PostKind} {p : Position} {N N1 : List Node} {i o : List Lexeme} {e : ℕ} →
       PostRead m k p N i N1 o e → begins_operand i ≡ true
   post_begins simple_name = refl
   post_begins (simple_call a) = refl

@@ -11,7 +11,7 @@ use Rattle.parser_machine.specs.States.{State, at}
 use Rattle.parser_machine.specs.declared.entries.Entry.{Entry}
 use Rattle.parser_machine.specs.declared.modes.Mode.{Mode}
 use Rattle.parser_machine.specs.declared.modes.Mode.TheVariants.{ArgumentFirst, ArgumentNext, Assigned, At, ClassName, ClassNamed, ClosedName, ConstructorStart, DefineAssign, DefineName, DefineOpen, DefineOther, DefineOtherAssign, Dot, DotName, FileStart, Finished, FlagsRead, ForFirst, ForOpen, ForStepStart, IfOpen, ImportDot, ImportEnd, ImportName, ImportStar, ImportStart, InClasses, InImports, InMembers, InStatements, LiteralDone, LiteralMinus, LiteralStart, LocalNamed, MemberNamed, MethodNamed, Minus, NameBracket, NameFirst, NameRead, NewElement, NewName, NewStart, Opened, OpenedName, Operand, PackageEnd, PackageName, ParameterDone, ParametersDone, ParametersFirst, PlainAssigned, PlainDot, PlainEnd, PlainFirst, PlainName, PlainNext, PlainOpen, PlainPath, PostDone, ResultDone, ReturnStart, StatementEnd, StatementStart, SuperArgumentEnd, SuperArgumentName, SuperDone, SuperEnd, SuperName, SuperNamed, SuperOpen, TextRead, TypeArgumentEnd, TypeArgumentName, TypeBracket, TypeDone, TypeEnd, TypeName, ValueDot, ValueOpen, ValueRead, ValueScope, ValueStart, WhileOpen}
-use Rattle.scj_base.specs.declared.places.Pos.{Pos}
+use Rattle.scj_base.specs.declared.positions.Position.{Position}
 use Rattle.scj_tree.specs.Lexemes.{Lexeme, the_end}
 use Rattle.scj_tree.specs.Terminals.{is_unary1_start}
 use Rattle.scj_tree.specs.declared.nodes.Node.{Node}
@@ -25,7 +25,7 @@ left_none : {o : Option State} (r : Lexeme) → o ≡ None → then_step o r ≡
 unfolding then_step
 left_none r e = ap (λ o. then_step o r) e
 
-behind_end : (mode : Mode) (N : List Node) (s : List Entry) (p : Pos) (r : Lexeme) →
+behind_end : (mode : Mode) (N : List Node) (s : List Entry) (p : Position) (r : Lexeme) →
     then_step (step_mode mode N s (the_end p)) r ≡ None
 unfolding then_step step step_mode is_unary1_start target_start first_start name_first_step name_bracket_step
     local_named_step test_open_step return_step statement_word statement_sign statement_start statements_step
@@ -135,7 +135,7 @@ unfolding then_step run
 run_last None last r h e = cc
 run_last (Some next) last r h e = let same : next ≡ last = cc in rw (← same) h
 
-pub nothing_behind : (st last : State) (before : List Lexeme) (p : Pos) (r : Lexeme) →
+pub nothing_behind : (st last : State) (before : List Lexeme) (p : Position) (r : Lexeme) →
     run st (before ++ the_end p ∷ []) ≡ Some last → step last r ≡ None
 unfolding run step
 nothing_behind (at mode s N) last [] p r e =

@@ -15,7 +15,7 @@ use Rattle.parser_machine.specs.declared.entries.Entry.{Entry}
 use Rattle.parser_machine.specs.declared.entries.Entry.TheVariants.{BlockOpen, ForBody, ForHead, ForStep, ForTest, IfElse, IfTest, IfThen, LocalOpen, LocalValue, ReturnValue, Simple, Target, WhileBody, WhileTest}
 use Rattle.parser_machine.specs.declared.modes.Mode.TheVariants.{FlagsRead, ForStepStart, InStatements, LocalNamed, Operand, ReturnStart, StatementEnd, StatementStart}
 use Rattle.scj_base.specs.Vocabulary.{sign_at, sign_greater, sign_left_brace, sign_left_bracket, sign_left_parenthesis, sign_right_brace, sign_right_bracket, sign_right_parenthesis, sign_semicolon, word_else, word_final, word_for, word_if, word_return, word_super, word_while}
-use Rattle.scj_base.specs.declared.places.Pos.{Pos}
+use Rattle.scj_base.specs.declared.positions.Position.{Position}
 use Rattle.scj_tree.specs.Expressions.{PostRead}
 use Rattle.scj_tree.specs.Headers.{TypeRead, argument_array, argument_type, boolean_array, boolean_type, class_array, class_type, int_array, int_type}
 use Rattle.scj_tree.specs.Nodes.{put}
@@ -28,7 +28,7 @@ use Rattle.scj_tree.specs.declared.readings.PostKind.TheVariants.{Invocation}
 
 -- ---- locals
 
-pub first_type : {N N1 : List Node} {i o : List Lexeme} {t : ℕ} {w : List ℕ} {p : Pos} →
+pub first_type : {N N1 : List Node} {i o : List Lexeme} {t : ℕ} {w : List ℕ} {p : Position} →
     TypeRead N i N1 (a_name w p ∷ o) t → (s : List Entry) →
     next (first_start N s) i ≡ answer (at (LocalNamed None t p w) s N1) o
 unfolding machine
@@ -76,12 +76,12 @@ local_flags_run N s (a_sign n p ∷ o) e = fails _ _ _ o (d sign_left_brace refl
     d k = differs (λ m. m == sign_at) n k e
 local_flags_run N s (the_end p ∷ o) e = never e
 
-typed_local : (t : ℕ) (N : List Node) (flags : Option ℕ) (s : List Entry) (w : List ℕ) (p : Pos) (o : List Lexeme) →
+typed_local : (t : ℕ) (N : List Node) (flags : Option ℕ) (s : List Entry) (w : List ℕ) (p : Position) (o : List Lexeme) →
     next (typed t N (LocalOpen flags ∷ s)) (a_name w p ∷ o) ≡ answer (at (LocalNamed flags t p w) s N) o
 unfolding machine
 typed_local t N flags s w p o = refl
 
-local_type_run : {N N1 : List Node} {i o : List Lexeme} {flags : Option ℕ} {t : ℕ} {w : List ℕ} {p : Pos} →
+local_type_run : {N N1 : List Node} {i o : List Lexeme} {flags : Option ℕ} {t : ℕ} {w : List ℕ} {p : Position} →
     LocalTypeRead N i N1 (a_name w p ∷ o) flags t → (s : List Entry) →
     answer (at StatementStart s N) i ≡ answer (at (LocalNamed flags t p w) (Simple ∷ s) N1) o
 local_type_run (plain_local d) s = statement_type d s ∙ first_type d (Simple ∷ s)
@@ -173,14 +173,14 @@ in_statements_run N s (a_sign n p ∷ o) e = fails _ _ _ o (not_true _ e)
 in_statements_run N s (the_end p ∷ o) e = refl
 
 -- where a statement ends, by what it is a part of
-block_goes_on : (id : ℕ) (p : Pos) (ids : List ℕ) (N : List Node) (s : List Entry) (o : List Lexeme) →
+block_goes_on : (id : ℕ) (p : Position) (ids : List ℕ) (N : List Node) (s : List Entry) (o : List Lexeme) →
     answer (at (StatementEnd id) (BlockOpen p ids ∷ s) N) o ≡ answer
     (at InStatements (BlockOpen p (ids ++ id ∷ []) ∷ s) N) o
 unfolding machine
 block_goes_on id p ids N s [] = refl
 block_goes_on id p ids N s (t ∷ o) = refl
 
-if_ends : (id : ℕ) (p : Pos) (c : ℕ) (N : List Node) (s : List Entry) (o : List Lexeme) →
+if_ends : (id : ℕ) (p : Position) (c : ℕ) (N : List Node) (s : List Entry) (o : List Lexeme) →
     begins_with_word word_else o ≡ false → answer (at (StatementEnd id) (IfThen p c ∷ s) N) o ≡ answer
     (at (StatementEnd (length N)) s (put N (If p c id None))) o
 unfolding machine
@@ -192,28 +192,28 @@ if_ends id p c N s (a_text w q ∷ o) e = refl
 if_ends id p c N s (a_sign n q ∷ o) e = refl
 if_ends id p c N s (the_end q ∷ o) e = refl
 
-else_ends : (id : ℕ) (p : Pos) (c a : ℕ) (N : List Node) (s : List Entry) (o : List Lexeme) →
+else_ends : (id : ℕ) (p : Position) (c a : ℕ) (N : List Node) (s : List Entry) (o : List Lexeme) →
     answer (at (StatementEnd id) (IfElse p c a ∷ s) N) o ≡ answer
     (at (StatementEnd (length N)) s (put N (If p c a (Some id)))) o
 unfolding machine
 else_ends id p c a N s [] = refl
 else_ends id p c a N s (t ∷ o) = refl
 
-while_ends : (id : ℕ) (p : Pos) (c : ℕ) (N : List Node) (s : List Entry) (o : List Lexeme) →
+while_ends : (id : ℕ) (p : Position) (c : ℕ) (N : List Node) (s : List Entry) (o : List Lexeme) →
     answer (at (StatementEnd id) (WhileBody p c ∷ s) N) o ≡ answer
     (at (StatementEnd (length N)) s (put N (While p c id))) o
 unfolding machine
 while_ends id p c N s [] = refl
 while_ends id p c N s (t ∷ o) = refl
 
-for_ends : (id : ℕ) (p : Pos) (f c u : ℕ) (N : List Node) (s : List Entry) (o : List Lexeme) →
+for_ends : (id : ℕ) (p : Position) (f c u : ℕ) (N : List Node) (s : List Entry) (o : List Lexeme) →
     answer (at (StatementEnd id) (ForBody p f c u ∷ s) N) o ≡ answer
     (at (StatementEnd (length N)) s (put N (For p f c u id))) o
 unfolding machine
 for_ends id p f c u N s [] = refl
 for_ends id p f c u N s (t ∷ o) = refl
 
-return_run : (p : Pos) (N : List Node) (s : List Entry) (i : List Lexeme) → begins_operand i ≡ true →
+return_run : (p : Position) (N : List Node) (s : List Entry) (i : List Lexeme) → begins_operand i ≡ true →
     answer (at (ReturnStart p) s N) i ≡ answer (at Operand (ReturnValue p ∷ s) N) i
 unfolding machine begins_operand
 return_run p N s [] e = refl
@@ -227,7 +227,7 @@ return_run p N s (the_end q ∷ o) e = refl
 
 -- ---- assignments and calls, by where they stand
 
-assign_statement_run : {N N1 : List Node} {i o : List Lexeme} {id : ℕ} {p : Pos} →
+assign_statement_run : {N N1 : List Node} {i o : List Lexeme} {id : ℕ} {p : Position} →
     AssignmentRead N i N1 (a_sign sign_semicolon p ∷ o) id → (s : List Entry) →
     answer (at StatementStart s N) i ≡ answer (at (StatementEnd id) s N1) o
 unfolding machine ends continues calls_on
@@ -235,22 +235,22 @@ assign_statement_run {N = N} {i = i} d s = statement_target_run N s i (assignmen
     ∙ (first_target_run N (Simple ∷ s) i (assignment_begins d) (assignment_no_local d)
     ∙ assignment_run d refl (Simple ∷ s))
 
-assign_first_run : {N N1 : List Node} {i o : List Lexeme} {id : ℕ} {r : Pos} →
-    AssignmentRead N i N1 (a_sign sign_semicolon r ∷ o) id → (p : Pos) (s : List Entry) →
+assign_first_run : {N N1 : List Node} {i o : List Lexeme} {id : ℕ} {r : Position} →
+    AssignmentRead N i N1 (a_sign sign_semicolon r ∷ o) id → (p : Position) (s : List Entry) →
     next (first_start N (ForHead p ∷ s)) i ≡ answer (at Operand (ForTest p id ∷ s) N1) o
 unfolding machine ends continues calls_on
 assign_first_run {N = N} {i = i} d p s =
     first_target_run N (ForHead p ∷ s) i (assignment_begins d) (assignment_no_local d)
     ∙ assignment_run d refl (ForHead p ∷ s)
 
-assign_step_run : {N N1 : List Node} {i o : List Lexeme} {id : ℕ} {r : Pos} →
-    AssignmentRead N i N1 (a_sign sign_right_parenthesis r ∷ o) id → (p : Pos) (f c : ℕ) (s : List Entry) →
+assign_step_run : {N N1 : List Node} {i o : List Lexeme} {id : ℕ} {r : Position} →
+    AssignmentRead N i N1 (a_sign sign_right_parenthesis r ∷ o) id → (p : Position) (f c : ℕ) (s : List Entry) →
     answer (at ForStepStart (ForStep p f c ∷ s) N) i ≡ answer (at StatementStart (ForBody p f c id ∷ s) N1) o
 unfolding machine ends continues calls_on
 assign_step_run {N = N} {i = i} d p f c s = step_target_run N (ForStep p f c ∷ s) i (assignment_begins d)
     ∙ assignment_run d refl (ForStep p f c ∷ s)
 
-call_statement_run : {N N1 : List Node} {i o : List Lexeme} {e : ℕ} {p q : Pos} →
+call_statement_run : {N N1 : List Node} {i o : List Lexeme} {e : ℕ} {p q : Position} →
     PostRead false Invocation p N i N1 (a_sign sign_semicolon q ∷ o) e → (s : List Entry) →
     answer (at StatementStart s N) i ≡ answer (at (StatementEnd (length N1)) s (put N1 (ExpressionStatement p e))) o
 unfolding machine follows calls_on name_goes_on
@@ -258,7 +258,7 @@ call_statement_run {N = N} {i = i} d s = statement_target_run N s i (target_begi
     ∙ (first_target_run N (Simple ∷ s) i (target_begins d) (post_no_local d refl)
     ∙ post_run d refl (Target ∷ Simple ∷ s))
 
-for_open_run : (p q : Pos) (N : List Node) (s : List Entry) (i : List Lexeme) →
+for_open_run : (p q : Position) (N : List Node) (s : List Entry) (i : List Lexeme) →
     answer (at StatementStart s N) (a_word word_for p ∷ a_sign sign_left_parenthesis q ∷ i) ≡ next
     (first_start N (ForHead p ∷ s)) i
 unfolding machine
@@ -309,7 +309,7 @@ mutual
       ∙ level_run d refl (ReturnValue p ∷ s) refl
 
   pub statements_run : {N N1 : List Node} {i o : List Lexeme} {ids : List ℕ} → StatementsRead N i N1 o ids →
-      (p : Pos) (s : List Entry) → answer (at InStatements (BlockOpen p [] ∷ s) N) i ≡ answer
+      (p : Position) (s : List Entry) → answer (at InStatements (BlockOpen p [] ∷ s) N) i ≡ answer
       (at InStatements (BlockOpen p ids ∷ s) N1) o
   statements_run no_statement p s = refl
   statements_run {o = o} (one_statement_more {N1 = N1} {N2 = N2} {i1 = i1} {ids = ids} {id = id} b d) p s =

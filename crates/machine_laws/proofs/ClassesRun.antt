@@ -15,7 +15,7 @@ use Rattle.parser_machine.specs.declared.entries.Entry.TheVariants.{BlockOpen, C
 use Rattle.parser_machine.specs.declared.modes.Mode.{Mode}
 use Rattle.parser_machine.specs.declared.modes.Mode.TheVariants.{ClassNamed, ConstructorStart, FileStart, FlagsRead, ImportStart, InClasses, InImports, InMembers, InStatements, LiteralDone, LiteralStart, MemberNamed, MethodNamed, ParametersDone, ParametersFirst, StatementEnd, SuperName, TypeName}
 use Rattle.scj_base.specs.Vocabulary.{sign_at, sign_greater, sign_left_parenthesis, sign_less, sign_right_brace, sign_right_parenthesis, word_import, word_package, word_super}
-use Rattle.scj_base.specs.declared.places.Pos.{Pos}
+use Rattle.scj_base.specs.declared.positions.Position.{Position}
 use Rattle.scj_tree.specs.Grammar.{ClassRead, ClassesRead, LiteralRead, MemberRead, MembersRead, Tree, bare_method, class, constructor, constructor_with_super, false_literal, field, field_with_value, file, file_of_package, method, negative_literal, no_class, no_member, null_literal, number_literal, one_class_more, one_member_more, true_literal}
 use Rattle.scj_tree.specs.Headers.{FlagRow, HeaderRead, Imports, InterfacesBegun, ParameterRead, ParametersBegun, ParametersRead, ResultRead, SuperRead, TypeRead, argument_array, argument_type, boolean_array, boolean_type, class_array, class_type, define_scope_flag, define_scope_flag_parent_first, effectless, extends_header, extends_implements_header, implements_header, int_array, int_type, interface_and_comma, long_result, modifier, no_flag, no_header, no_imports, no_interface_yet, no_parameter_yet, no_parameters, parameter, parameter_and_comma, parameters, plain_import, runs_in_flag, scope_flag, static_import, super_type, super_type_with_argument, typed_result, void_result}
 use Rattle.scj_tree.specs.Nodes.{put}
@@ -122,7 +122,7 @@ class_declares (class f h m) = flags_declare f refl
 
 -- ---- where a declaration is due
 
-first_parameter_run : (p : Pos) (N : List Node) (s : List Entry) (i : List Lexeme) → begins_declaration i ≡ true →
+first_parameter_run : (p : Position) (N : List Node) (s : List Entry) (i : List Lexeme) → begins_declaration i ≡ true →
     answer (at (ParametersFirst p) s N) i ≡ answer (at (FlagsRead false no_flags) (ParametersOpen p [] ∷ s) N) i
 unfolding machine begins_declaration
 first_parameter_run p N s [] e = refl
@@ -160,7 +160,7 @@ in_classes_run N s (the_end q ∷ o) e = never e
 
 parameters_run : {N N1 : List Node} {i o : List Lexeme} {ps : Option ℕ} → ParametersRead N i N1 o ps →
     (m : Mode) (s0 s : List Entry) →
-    ((p : Pos) (j : List Lexeme) → answer (at m s0 N) (a_sign sign_left_parenthesis p ∷ j) ≡ answer
+    ((p : Position) (j : List Lexeme) → answer (at m s0 N) (a_sign sign_left_parenthesis p ∷ j) ≡ answer
     (at (ParametersFirst p) s N) j) → answer (at m s0 N) i ≡ answer (at (ParametersDone ps) s N1) o
 unfolding machine
 parameters_run {o = o} (no_parameters {p = p} {q = q}) m s0 s f = f p (a_sign sign_right_parenthesis q ∷ o)
@@ -181,8 +181,8 @@ literal_run false_literal s = refl
 literal_run null_literal s = refl
 
 method_head_run : (N : List Node) (flags : FlagSet) {N1 N2 : List Node} {i i1 o : List Lexeme} {t : ℕ} {ps : Option ℕ}
-    {w : List ℕ} {p : Pos} → ResultRead (with_flags N flags) i N1 (a_name w p ∷ i1) t → ParametersRead N1 i1 N2 o ps →
-    (cf : Option ℕ) (cp : Pos) (cw : List ℕ) (ch : Option ℕ) (ids : List ℕ) (s : List Entry) →
+    {w : List ℕ} {p : Position} → ResultRead (with_flags N flags) i N1 (a_name w p ∷ i1) t → ParametersRead N1 i1 N2 o ps →
+    (cf : Option ℕ) (cp : Position) (cw : List ℕ) (ch : Option ℕ) (ids : List ℕ) (s : List Entry) →
     answer (at (FlagsRead false flags) (ClassBody cf cp cw ch ids ∷ s) N) i ≡ answer
     (at (ParametersDone ps) (MethodOpen (flags_number N flags) t p w ∷ ClassBody cf cp cw ch ids ∷ s) N2) o
 unfolding machine
@@ -199,7 +199,7 @@ method_head_run N flags {t = t} {w = w} {p = p} long_result ps cf cp cw ch ids s
     (MethodOpen (flags_number N flags) t p w ∷ ClassBody cf cp cw ch ids ∷ s) (λ q j. refl)
 
 constructor_head_run : (N : List Node) (flags : FlagSet) {N1 : List Node} {i o : List Lexeme} {ps : Option ℕ} →
-    ParametersRead (with_flags N flags) i N1 o ps → (w : List ℕ) (p : Pos) (cf : Option ℕ) (cp : Pos) (cw : List ℕ)
+    ParametersRead (with_flags N flags) i N1 o ps → (w : List ℕ) (p : Position) (cf : Option ℕ) (cp : Position) (cw : List ℕ)
     (ch : Option ℕ) (ids : List ℕ) (s : List Entry) →
     answer (at (FlagsRead false flags) (ClassBody cf cp cw ch ids ∷ s) N) (a_name w p ∷ i) ≡ answer
     (at (ParametersDone ps) (ConstructorOpen (flags_number N flags) p w ∷ ClassBody cf cp cw ch ids ∷ s) N1) o
@@ -208,7 +208,7 @@ constructor_head_run N flags ps w p cf cp cw ch ids s =
     parameters_run ps (TypeName p w) (MemberOpen (flags_number N flags) ∷ ClassBody cf cp cw ch ids ∷ s)
     (ConstructorOpen (flags_number N flags) p w ∷ ClassBody cf cp cw ch ids ∷ s) (λ q j. refl)
 
-method_ends : (b : ℕ) (fl : Option ℕ) (t : ℕ) (p : Pos) (w : List ℕ) (ps : Option ℕ) (cf : Option ℕ) (cp : Pos)
+method_ends : (b : ℕ) (fl : Option ℕ) (t : ℕ) (p : Position) (w : List ℕ) (ps : Option ℕ) (cf : Option ℕ) (cp : Position)
     (cw : List ℕ) (ch : Option ℕ) (ids : List ℕ) (s : List Entry) (N : List Node) (o : List Lexeme) →
     answer (at (StatementEnd b) (MethodBody fl t p w ps ∷ ClassBody cf cp cw ch ids ∷ s) N) o ≡ answer
     (at InMembers (ClassBody cf cp cw ch (ids ++ length N ∷ []) ∷ s) (put N (Method p w fl t ps (Some b)))) o
@@ -216,7 +216,7 @@ unfolding machine
 method_ends b fl t p w ps cf cp cw ch ids s N [] = refl
 method_ends b fl t p w ps cf cp cw ch ids s N (u ∷ o) = refl
 
-constructor_ends : (b : ℕ) (fl : Option ℕ) (p : Pos) (w : List ℕ) (ps sc : Option ℕ) (cf : Option ℕ) (cp : Pos)
+constructor_ends : (b : ℕ) (fl : Option ℕ) (p : Position) (w : List ℕ) (ps sc : Option ℕ) (cf : Option ℕ) (cp : Position)
     (cw : List ℕ) (ch : Option ℕ) (ids : List ℕ) (s : List Entry) (N : List Node) (o : List Lexeme) →
     answer (at (StatementEnd b) (ConstructorBody fl p w ps sc ∷ ClassBody cf cp cw ch ids ∷ s) N) o ≡ answer
     (at InMembers (ClassBody cf cp cw ch (ids ++ length N ∷ []) ∷ s) (put N (Constructor p w fl ps sc b))) o
@@ -229,7 +229,7 @@ statements_begin : {N N1 : List Node} {i o : List Lexeme} {ids : List ℕ} → S
 statements_begin no_statement h = h
 statements_begin (one_statement_more {i1 = i1} b d) h = statements_begin b (no_super i1 (statement_begins d))
 
-constructor_start_run : (q : Pos) (N : List Node) (s : List Entry) (i : List Lexeme) →
+constructor_start_run : (q : Position) (N : List Node) (s : List Entry) (i : List Lexeme) →
     begins_with_word word_super i ≡ false →
     answer (at (ConstructorStart q) s N) i ≡ answer (at InStatements (BlockOpen q [] ∷ s) N) i
 unfolding machine
@@ -243,7 +243,7 @@ constructor_start_run q N s (the_end p ∷ o) e = refl
 
 -- what follows the flags of a member
 after_flags : {N N1 : List Node} {i : List Lexeme} {id : ℕ} {o : List Lexeme} → MemberRead N i N1 o id →
-    (cf : Option ℕ) (cp : Pos) (cw : List ℕ) (ch : Option ℕ) (ids : List ℕ) (s : List Entry) →
+    (cf : Option ℕ) (cp : Position) (cw : List ℕ) (ch : Option ℕ) (ids : List ℕ) (s : List Entry) →
     answer (at (FlagsRead false no_flags) (ClassBody cf cp cw ch ids ∷ s) N) i ≡ answer
     (at InMembers (ClassBody cf cp cw ch (ids ++ id ∷ []) ∷ s) N1) o
 unfolding machine
@@ -288,7 +288,7 @@ after_flags {o = o}
     (put N4 (Block q b)) o)))
 
 members_run : {N N1 : List Node} {i o : List Lexeme} {ids : List ℕ} → MembersRead N i N1 o ids →
-    (cf : Option ℕ) (cp : Pos) (cw : List ℕ) (ch : Option ℕ) (s : List Entry) →
+    (cf : Option ℕ) (cp : Position) (cw : List ℕ) (ch : Option ℕ) (s : List Entry) →
     answer (at InMembers (ClassBody cf cp cw ch [] ∷ s) N) i ≡ answer (at InMembers (ClassBody cf cp cw ch ids ∷ s) N1)
     o
 members_run no_member cf cp cw ch s = refl
@@ -299,7 +299,7 @@ members_run (one_member_more {N1 = N1} {i1 = i1} {ids = ids} b d) cf cp cw ch s 
 
 -- ---- heads of classes
 
-super_sign_run : {N N1 : List Node} {i o : List Lexeme} {n id : ℕ} {q : Pos} → SuperRead N i N1 (a_sign n q ∷ o) id →
+super_sign_run : {N N1 : List Node} {i o : List Lexeme} {n id : ℕ} {q : Position} → SuperRead N i N1 (a_sign n q ∷ o) id →
     (s : List Entry) → (n == sign_less) ≡ false →
     answer (at SuperName s N) i ≡ after (super_ended id N1 s (a_sign n q)) o
 unfolding machine
@@ -307,7 +307,7 @@ super_sign_run {o = o} super_type s h = fails _ _ _ o h
 super_sign_run {o = o} {n = n} {q = q} (super_type_with_argument {v = v} {r = r} {s = u} e) s h =
     holds _ _ _ (a_name v r ∷ a_sign sign_greater u ∷ a_sign n q ∷ o) e
 
-super_word_run : {N N1 : List Node} {i o : List Lexeme} {n id : ℕ} {q : Pos} → SuperRead N i N1 (a_word n q ∷ o) id →
+super_word_run : {N N1 : List Node} {i o : List Lexeme} {n id : ℕ} {q : Position} → SuperRead N i N1 (a_word n q ∷ o) id →
     (s : List Entry) → answer (at SuperName s N) i ≡ after (super_ended id N1 s (a_word n q)) o
 unfolding machine
 super_word_run super_type s = refl
@@ -315,7 +315,7 @@ super_word_run {o = o} {n = n} {q = q} (super_type_with_argument {v = v} {r = r}
     holds _ _ _ (a_name v r ∷ a_sign sign_greater u ∷ a_word n q ∷ o) e
 
 interfaces_run : {N N1 : List Node} {i o : List Lexeme} {ids : List ℕ} → InterfacesBegun N i N1 o ids →
-    (p : Pos) (x : Option ℕ) (s : List Entry) → answer (at SuperName (SupersOpen p false x [] ∷ s) N) i ≡ answer
+    (p : Position) (x : Option ℕ) (s : List Entry) → answer (at SuperName (SupersOpen p false x [] ∷ s) N) i ≡ answer
     (at SuperName (SupersOpen p false x ids ∷ s) N1) o
 unfolding machine
 interfaces_run no_interface_yet p x s = refl
@@ -323,7 +323,7 @@ interfaces_run (interface_and_comma {ids = ids} b d) p x s = interfaces_run b p 
     ∙ super_sign_run d (SupersOpen p false x ids ∷ s) refl
 
 header_run : {N N1 : List Node} {i o : List Lexeme} {header : Option ℕ} → HeaderRead N i N1 o header →
-    (cf : Option ℕ) (cp : Pos) (cw : List ℕ) (s : List Entry) →
+    (cf : Option ℕ) (cp : Position) (cw : List ℕ) (s : List Entry) →
     answer (at ClassNamed (ClassOpen cf cp cw ∷ s) N) i ≡ answer (at InMembers (ClassBody cf cp cw header [] ∷ s) N1) o
 unfolding machine
 header_run no_header cf cp cw s = refl

@@ -18,7 +18,7 @@ use Rattle.parser_machine.specs.declared.entries.Entry.{Entry}
 use Rattle.parser_machine.specs.declared.entries.Entry.TheVariants.{FileOpen}
 use Rattle.parser_machine.specs.declared.modes.Mode.{Mode}
 use Rattle.parser_machine.specs.declared.modes.Mode.TheVariants.{Assigned, At, ClosedName, DotName, FileStart, Finished, FlagsRead, InClasses, InImports, InMembers, NameRead, OpenedName, PlainOpen, PostDone, StatementEnd, SuperDone, SuperNamed, TextRead, TypeDone, TypeEnd, TypeName}
-use Rattle.scj_base.specs.declared.places.Pos.{Pos}
+use Rattle.scj_base.specs.declared.positions.Position.{Position}
 use Rattle.scj_tree.specs.Lexemes.{Lexeme, the_end}
 use Rattle.scj_tree.specs.Terminals.{is_unary1_start, level, no_flags}
 use Rattle.scj_tree.specs.declared.nodes.Node.{Node}
@@ -37,7 +37,7 @@ either_final false h k = k
 file_final : {s : List Entry} → Awaits a_file s → (N : List Node) → Final (Some (at Finished s N))
 file_final file_open N = read_whole
 
-flags_final : {s : List Entry} → Awaits flagged_thing s → (l : Bool) (f : FlagSet) (N : List Node) (p : Pos) →
+flags_final : {s : List Entry} → Awaits flagged_thing s → (l : Bool) (f : FlagSet) (N : List Node) (p : Position) →
     Final (flags_step l f N s (the_end p))
 unfolding machine
 flags_final (flags_of_class file_open) l f N p = stopped
@@ -45,41 +45,41 @@ flags_final (flags_of_member (class_body a)) l f N p = stopped
 flags_final (flags_of_parameter (parameters_open a)) l f N p = stopped
 flags_final (flags_of_local (simple_open a)) l f N p = stopped
 
-plain_final : {s : List Entry} → Awaits an_annotation s → (N : List Node) (p : Pos) →
+plain_final : {s : List Entry} → Awaits an_annotation s → (N : List Node) (p : Position) →
     Final (plain_without N s (the_end p))
 unfolding plain_without
 plain_final (annotation_open a) N p = flags_final a _ _ N p
 
-at_final : {s : List Entry} → Awaits an_annotation s → (q : Pos) (N : List Node) (p : Pos) →
+at_final : {s : List Entry} → Awaits an_annotation s → (q : Position) (N : List Node) (p : Position) →
     Final (at_step q N s (the_end p))
 unfolding at_step
 at_final (annotation_open a) q N p = stopped
 
-super_final : {s : List Entry} → Awaits a_super s → (id : ℕ) (N : List Node) (p : Pos) →
+super_final : {s : List Entry} → Awaits a_super s → (id : ℕ) (N : List Node) (p : Position) →
     Final (super_ended id N s (the_end p))
 unfolding machine
 super_final (supers_open true a) id N p = stopped
 super_final (supers_open false a) id N p = stopped
 
-typed_final : {s : List Entry} → Awaits a_type s → (id : ℕ) (N : List Node) (p : Pos) → Final (typed id N s (the_end p))
+typed_final : {s : List Entry} → Awaits a_type s → (id : ℕ) (N : List Node) (p : Position) → Final (typed id N s (the_end p))
 unfolding machine
 typed_final (member_open a) id N p = stopped
 typed_final (parameter_open a) id N p = stopped
 typed_final (local_open a) id N p = stopped
 
-text_final : {s : List Entry} → Awaits an_argument s → (id : ℕ) (N : List Node) (p : Pos) →
+text_final : {s : List Entry} → Awaits an_argument s → (id : ℕ) (N : List Node) (p : Position) →
     Final (text_step id N s (the_end p))
 unfolding machine
 text_final (argument_here a) id N p = stopped
 
-assigned_final : {s : List Entry} → Awaits an_assignment s → (id : ℕ) (N : List Node) (p : Pos) →
+assigned_final : {s : List Entry} → Awaits an_assignment s → (id : ℕ) (N : List Node) (p : Position) →
     Final (assigned id N s (the_end p))
 unfolding machine
 assigned_final (of_first (of_simple (simple_open a))) id N p = stopped
 assigned_final (of_first (for_head a)) id N p = stopped
 assigned_final (for_step a) id N p = stopped
 
-closed_final : {s : List Entry} → Awaits a_value s → (id : ℕ) (N : List Node) (p : Pos) →
+closed_final : {s : List Entry} → Awaits a_value s → (id : ℕ) (N : List Node) (p : Position) →
     Final (closed id N s (the_end p))
 unfolding closed admits operation shifted level_of ended argument_ended
 closed_final (binary_left {o = o} a) id N p = either_final (nat_lt (level o) 0) stopped (closed_final a _ _ p)
@@ -90,34 +90,34 @@ closed_final (compound_value a) id N p = assigned_final a _ _ p
 closed_final (local_value a) id N p = assigned_final (of_first a) _ _ p
 closed_final a id N p = stopped
 
-post_final : {s : List Entry} → Awaits an_operand s → (kind : PostKind) (q : Pos) (id : ℕ) (N : List Node) (p : Pos) →
+post_final : {s : List Entry} → Awaits an_operand s → (kind : PostKind) (q : Position) (id : ℕ) (N : List Node) (p : Position) →
     Final (post_ended kind q id N s (the_end p))
 unfolding post_ended target_ended
 post_final (target_open a) kind q id N p = stopped
 post_final (of_value (for_test a)) kind q id N p = closed_final (for_test a) id N p
 post_final (of_value a) kind q id N p = closed_final a id N p
 
-group_final : {s : List Entry} → Awaits an_operand s → (q r : Pos) (w : List ℕ) (N : List Node) (p : Pos) →
+group_final : {s : List Entry} → Awaits an_operand s → (q r : Position) (w : List ℕ) (N : List Node) (p : Position) →
     Final (opened_name_step q r w N s (the_end p))
 unfolding machine
 group_final a q r w N p = stopped
 
-name_final : {s : List Entry} → Awaits an_operand s → (q : Pos) (w : List ℕ) (N : List Node) (p : Pos) →
+name_final : {s : List Entry} → Awaits an_operand s → (q : Position) (w : List ℕ) (N : List Node) (p : Position) →
     Final (name_step q w N s (the_end p))
 unfolding name_step post_step
 name_final a q w N p = post_final a _ _ _ _ p
 
-dot_name_final : {s : List Entry} → Awaits an_operand s → (id : ℕ) (q : Pos) (w : List ℕ) (N : List Node) (p : Pos) →
+dot_name_final : {s : List Entry} → Awaits an_operand s → (id : ℕ) (q : Position) (w : List ℕ) (N : List Node) (p : Position) →
     Final (dot_name_step id q w N s (the_end p))
 unfolding dot_name_step post_step
 dot_name_final a id q w N p = post_final a _ _ _ _ p
 
-closed_name_final : {s : List Entry} → Awaits an_operand s → (q r : Pos) (w : List ℕ) (N : List Node) (p : Pos) →
+closed_name_final : {s : List Entry} → Awaits an_operand s → (q r : Position) (w : List ℕ) (N : List Node) (p : Position) →
     Final (closed_name_step q r w N s (the_end p))
 unfolding closed_name_step is_unary1_start post_step
 closed_name_final a q r w N p = post_final a _ _ _ _ p
 
-statement_final : {s : List Entry} → Awaits a_statement s → (id : ℕ) (N : List Node) (p : Pos) →
+statement_final : {s : List Entry} → Awaits a_statement s → (id : ℕ) (N : List Node) (p : Position) →
     Final (statement_ended id N s (the_end p))
 unfolding machine
 statement_final (of_block (block_open a)) id N p = stopped
@@ -128,7 +128,7 @@ statement_final (for_body a) id N p = statement_final a _ _ p
 statement_final (method_body (class_body a)) id N p = stopped
 statement_final (of_constructor (constructor_body (class_body a))) id N p = stopped
 
-mode_final : (m : Mode) {s : List Entry} → Awaits (due m) s → (N : List Node) (p : Pos) →
+mode_final : (m : Mode) {s : List Entry} → Awaits (due m) s → (N : List Node) (p : Position) →
     Final (step_mode m N s (the_end p))
 unfolding machine due
 mode_final FileStart a N p = file_final a N
@@ -160,12 +160,12 @@ unfolding running_on run
 nothing_more None f = f
 nothing_more (Some st) f = f
 
-end_behind : {r : Option State} → Kept r → (p : Pos) → Final (running_on r (the_end p ∷ []))
+end_behind : {r : Option State} → Kept r → (p : Position) → Final (running_on r (the_end p ∷ []))
 unfolding running_on run step
 end_behind refused p = stopped
 end_behind (kept {m = m} {s = s} {N = N} a) p = nothing_more (step_mode m N s (the_end p)) (mode_final m a N p)
 
-end_of_run : (N : List Node) (i : List Lexeme) (p : Pos) → Final (run (start N) (i ++ the_end p ∷ []))
+end_of_run : (N : List Node) (i : List Lexeme) (p : Position) → Final (run (start N) (i ++ the_end p ∷ []))
 end_of_run N i p =
     subst Final (sym (run_over i (start N) (the_end p ∷ []))) (end_behind (run_kept i (start N) (start_kept N)) p)
 
@@ -182,6 +182,6 @@ given N i last e (read_whole {ids = ids} {N = N1}) =
           ∙ (sym (answer_over i (start N) []) ∙ ap (λ r. after r []) e));
     }
 
-pub end_read : (N : List Node) (i : List Lexeme) (p : Pos) (last : State) →
+pub end_read : (N : List Node) (i : List Lexeme) (p : Position) (last : State) →
     run (start N) (i ++ the_end p ∷ []) ≡ Some last → ReadWhole N (i ++ the_end p ∷ []) last
 end_read N i p last e = given N (i ++ the_end p ∷ []) last e (subst Final e (end_of_run N i p))

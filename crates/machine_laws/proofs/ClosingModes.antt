@@ -11,7 +11,7 @@ use Rattle.parser_machine.specs.declared.modes.ElementType.{ElementType}
 use Rattle.parser_machine.specs.declared.modes.Mode.{Mode}
 use Rattle.parser_machine.specs.declared.modes.Mode.TheVariants.{ArgumentFirst, ArgumentNext, Assigned, At, ClassName, ClassNamed, ClosedName, ConstructorStart, DefineAssign, DefineName, DefineOpen, DefineOther, DefineOtherAssign, Dot, DotName, FileStart, Finished, FlagsRead, ForFirst, ForOpen, ForStepStart, IfOpen, ImportDot, ImportEnd, ImportName, ImportStar, ImportStart, InClasses, InImports, InMembers, InStatements, LiteralDone, LiteralMinus, LiteralStart, LocalNamed, MemberNamed, MethodNamed, Minus, NameBracket, NameFirst, NameRead, NewElement, NewName, NewStart, Opened, OpenedName, Operand, PackageEnd, PackageName, ParameterDone, ParametersDone, ParametersFirst, PlainAssigned, PlainDot, PlainEnd, PlainFirst, PlainName, PlainNext, PlainOpen, PlainPath, PostDone, ResultDone, ReturnStart, StatementEnd, StatementStart, SuperArgumentEnd, SuperArgumentName, SuperDone, SuperEnd, SuperName, SuperNamed, SuperOpen, TextRead, TypeArgumentEnd, TypeArgumentName, TypeBracket, TypeDone, TypeEnd, TypeName, ValueDot, ValueOpen, ValueRead, ValueScope, ValueStart, WhileOpen}
 use Rattle.scj_base.specs.Vocabulary.{sign_assign, sign_comma, sign_dot, sign_greater, sign_left_brace, sign_left_bracket, sign_left_parenthesis, sign_right_bracket, sign_right_parenthesis, sign_semicolon, word_class}
-use Rattle.scj_base.specs.declared.places.Pos.{Pos}
+use Rattle.scj_base.specs.declared.positions.Position.{Position}
 use Rattle.scj_tree.specs.Lexemes.{a_name, a_word, the_end}
 use Rattle.scj_tree.specs.declared.nodes.Node.{Node}
 use Rattle.scj_tree.specs.declared.readings.FlagSet.{FlagSet}
@@ -37,12 +37,12 @@ unfolding machine
 super_closes (supers_open true a) id N = opened_closes a _ _
 super_closes (supers_open false a) id N = opened_closes a _ _
 
-super_named_closes : {s : List Entry} → Awaits a_super s → (p : Pos) (w : List ℕ) (N : List Node) →
+super_named_closes : {s : List Entry} → Awaits a_super s → (p : Position) (w : List ℕ) (N : List Node) →
     Closes (Some (at (SuperNamed p w) s N))
 unfolding machine
 super_named_closes a p w N = more (sign sign_left_brace) (super_closes a _ _)
 
-super_argument_end_closes : {s : List Entry} → Awaits a_super s → (p : Pos) (w : List ℕ) (id : ℕ) (N : List Node) →
+super_argument_end_closes : {s : List Entry} → Awaits a_super s → (p : Position) (w : List ℕ) (id : ℕ) (N : List Node) →
     Closes (Some (at (SuperArgumentEnd p w id) s N))
 unfolding machine
 super_argument_end_closes a p w id N = more (sign sign_greater) (more (sign sign_left_brace) (super_closes a _ _))
@@ -55,7 +55,7 @@ unfolding machine
 owner_closes (method_open a) ps N = more (sign sign_semicolon) (member_closes a _ _)
 owner_closes (constructor_open a) ps N = more (sign sign_left_brace) (constructor_closes (constructor_body a) _ _)
 
-first_owner_closes : {s : List Entry} → Awaits a_body_owner s → (p : Pos) (N : List Node) →
+first_owner_closes : {s : List Entry} → Awaits a_body_owner s → (p : Position) (N : List Node) →
     Closes (Some (at (ParametersFirst p) s N))
 unfolding machine
 first_owner_closes a p N = more (sign sign_right_parenthesis) (owner_closes a _ _)
@@ -71,17 +71,17 @@ unfolding machine
 literal_closes (field_open a) id N = more (sign sign_semicolon) (member_closes a _ _)
 
 method_named_closes : {s : List Entry} → Awaits a_member s →
-    (f : Option ℕ) (t : ℕ) (p : Pos) (w : List ℕ) (N : List Node) → Closes (Some (at (MethodNamed f t p w) s N))
+    (f : Option ℕ) (t : ℕ) (p : Position) (w : List ℕ) (N : List Node) → Closes (Some (at (MethodNamed f t p w) s N))
 unfolding machine
 method_named_closes a f t p w N = more (sign sign_left_parenthesis) (first_owner_closes (method_open a) _ _)
 
 member_named_closes : {s : List Entry} → Awaits a_member s →
-    (f : Option ℕ) (t : ℕ) (p : Pos) (w : List ℕ) (N : List Node) → Closes (Some (at (MemberNamed f t p w) s N))
+    (f : Option ℕ) (t : ℕ) (p : Position) (w : List ℕ) (N : List Node) → Closes (Some (at (MemberNamed f t p w) s N))
 unfolding machine
 member_named_closes a f t p w N = more (sign sign_semicolon) (member_closes a _ _)
 
 local_named_closes : {s : List Entry} → Awaits a_first s →
-    (f : Option ℕ) (t : ℕ) (p : Pos) (w : List ℕ) (N : List Node) → Closes (Some (at (LocalNamed f t p w) s N))
+    (f : Option ℕ) (t : ℕ) (p : Position) (w : List ℕ) (N : List Node) → Closes (Some (at (LocalNamed f t p w) s N))
 unfolding machine
 local_named_closes a f t p w N =
     more (sign sign_assign) (more zero_read (value_closes (local_value a) (value_ends (local_value a)) _ _ _ _))
@@ -92,12 +92,12 @@ type_closes (member_open a) t N = member_named_closes a _ _ _ _ _
 type_closes (parameter_open a) t N = parameter_closes a _ _
 type_closes (local_open a) t N = local_named_closes a _ _ _ _ _
 
-type_name_closes : {s : List Entry} → Awaits a_type s → (p : Pos) (w : List ℕ) (N : List Node) →
+type_name_closes : {s : List Entry} → Awaits a_type s → (p : Position) (w : List ℕ) (N : List Node) →
     Closes (Some (at (TypeName p w) s N))
 unfolding machine
 type_name_closes a p w N = more name_a (type_closes a _ _)
 
-type_end_closes : {s : List Entry} → Awaits a_type s → (p : Pos) (e : ElementType) (N : List Node) →
+type_end_closes : {s : List Entry} → Awaits a_type s → (p : Position) (e : ElementType) (N : List Node) →
     Closes (Some (at (TypeEnd p e) s N))
 unfolding machine
 type_end_closes a p e N = more name_a (type_closes a _ _)
@@ -106,7 +106,7 @@ type_done_closes : {s : List Entry} → Awaits a_type s → (id : ℕ) (N : List
 unfolding machine
 type_done_closes a id N = more name_a (type_closes a _ _)
 
-type_argument_end_closes : {s : List Entry} → Awaits a_type s → (p : Pos) (w : List ℕ) (id : ℕ) (N : List Node) →
+type_argument_end_closes : {s : List Entry} → Awaits a_type s → (p : Position) (w : List ℕ) (id : ℕ) (N : List Node) →
     Closes (Some (at (TypeArgumentEnd p w id) s N))
 unfolding machine
 type_argument_end_closes a p w id N = more (sign sign_greater) (type_end_closes a _ _ _)
@@ -140,29 +140,29 @@ plain_open_closes : {s : List Entry} → Awaits an_annotation s → (N : List No
 unfolding machine
 plain_open_closes a N = more (sign sign_left_parenthesis) (more (sign sign_right_parenthesis) (plain_ended_closes a N))
 
-at_closes : {s : List Entry} → Awaits an_annotation s → (p : Pos) (N : List Node) → Closes (Some (at (At p) s N))
+at_closes : {s : List Entry} → Awaits an_annotation s → (p : Position) (N : List Node) → Closes (Some (at (At p) s N))
 unfolding machine
 at_closes (annotation_open {l = l} {f = f} a) p N =
     more (a_name (codes "Override") here) (plain_open_closes (annotation_open {l = l} {f = f} a) N)
 
-second_closes : {s : List Entry} → Awaits an_annotation s → (p : Pos) (b : Bool) (id : ℕ) (N : List Node) →
+second_closes : {s : List Entry} → Awaits an_annotation s → (p : Position) (b : Bool) (id : ℕ) (N : List Node) →
     Closes (Some (at (DefineOtherAssign p b id) s N))
 unfolding machine
 second_closes (annotation_open a) p b id N =
     more (sign sign_assign) (more name_a (more (sign sign_right_parenthesis) (flags_close a _ _ _)))
 
-other_closes : {s : List Entry} → Awaits an_annotation s → (p : Pos) (b : Bool) (id : ℕ) (N : List Node) →
+other_closes : {s : List Entry} → Awaits an_annotation s → (p : Position) (b : Bool) (id : ℕ) (N : List Node) →
     Closes (Some (at (DefineOther p b id) s N))
 unfolding machine
 other_closes a p true id N = more (a_name (codes "name") here) (second_closes a _ _ _ _)
 other_closes a p false id N = more (a_name (codes "parent") here) (second_closes a _ _ _ _)
 
-define_assign_closes : {s : List Entry} → Awaits an_annotation s → (p : Pos) (b : Bool) (N : List Node) →
+define_assign_closes : {s : List Entry} → Awaits an_annotation s → (p : Position) (b : Bool) (N : List Node) →
     Closes (Some (at (DefineAssign p b) s N))
 unfolding machine
 define_assign_closes a p b N = more (sign sign_assign) (more name_a (more (sign sign_comma) (other_closes a _ _ _ _)))
 
-define_name_closes : {s : List Entry} → Awaits an_annotation s → (p : Pos) (N : List Node) →
+define_name_closes : {s : List Entry} → Awaits an_annotation s → (p : Position) (N : List Node) →
     Closes (Some (at (DefineName p) s N))
 unfolding machine
 define_name_closes a p N = more (a_name (codes "name") here) (define_assign_closes a _ _ _)
@@ -179,13 +179,13 @@ value_start_closes : {s : List Entry} → Awaits a_scope s → (N : List Node) �
 unfolding machine
 value_start_closes a N = more name_a (value_read_closes a _ _)
 
-value_dot_closes : {s : List Entry} → Awaits a_scope s → (p : Pos) (N : List Node) → Closes (Some (at (ValueDot p) s N))
+value_dot_closes : {s : List Entry} → Awaits a_scope s → (p : Position) (N : List Node) → Closes (Some (at (ValueDot p) s N))
 unfolding machine
 value_dot_closes a p N = more name_a (value_read_closes a _ _)
 
 -- ---- the begins of statements
 
-name_first_closes : {s : List Entry} → Awaits a_first s → (p : Pos) (w : List ℕ) (N : List Node) →
+name_first_closes : {s : List Entry} → Awaits a_first s → (p : Position) (w : List ℕ) (N : List Node) →
     Closes (Some (at (NameFirst p w) s N))
 unfolding machine
 name_first_closes a p w N = more (sign 34) (assigned_closes (of_first a) _ _)
@@ -196,7 +196,7 @@ called_closes : {s : List Entry} → Awaits an_argument s → (N : List Node) �
 unfolding machine
 called_closes (argument_here a) N = more (sign sign_right_parenthesis) (call_closes a _ _)
 
-dot_name_closes : {s : List Entry} → Awaits an_operand s → (id : ℕ) (p : Pos) (w : List ℕ) (N : List Node) →
+dot_name_closes : {s : List Entry} → Awaits an_operand s → (id : ℕ) (p : Position) (w : List ℕ) (N : List Node) →
     Closes (Some (at (DotName id p w) s N))
 unfolding machine
 dot_name_closes a id p w N = more (sign sign_left_parenthesis) (called_closes (argument_here (call_open a)) _)
@@ -205,7 +205,7 @@ dot_closes : {s : List Entry} → Awaits an_operand s → (id : ℕ) (N : List N
 unfolding machine
 dot_closes a id N = more name_a (dot_name_closes a _ _ _ _)
 
-new_name_closes : {s : List Entry} → Awaits an_operand s → (p q : Pos) (w : List ℕ) (N : List Node) →
+new_name_closes : {s : List Entry} → Awaits an_operand s → (p q : Position) (w : List ℕ) (N : List Node) →
     Closes (Some (at (NewName p q w) s N))
 unfolding machine
 new_name_closes a p q w N = more (sign sign_left_parenthesis) (called_closes (argument_here (new_open a)) _)

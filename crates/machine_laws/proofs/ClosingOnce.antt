@@ -1,7 +1,7 @@
 -- A row of lexemes is refused at one place at most, and no file is refused.
 use Rattle.std.proofs.Common.{ap, append_assoc, subst, sym, ◌∙◌}
 use Rattle.std.specs.Prelude.{List, [], ◌++◌, ◌∷◌, ◌≡◌, ℕ}
-use Rattle.scj_base.specs.declared.places.Pos.{Pos}
+use Rattle.scj_base.specs.declared.positions.Position.{Position}
 use Rattle.scj_tree.specs.Grammar.{BeginsFile, RefusedAt, Tree}
 use Rattle.scj_tree.specs.Lexemes.{Lexeme, position_of_lexeme}
 use Rattle.scj_tree.specs.declared.nodes.Node.{Node}
@@ -20,7 +20,7 @@ begins_shorter N i o b =
 one_more : (i : List Lexeme) (t : Lexeme) (o : List Lexeme) → (i ++ t ∷ []) ++ o ≡ i ++ t ∷ o
 one_more i t o = append_assoc i (t ∷ []) o
 
-pub tree_not_refused : (N N1 : List Node) (i : List Lexeme) (ids : List ℕ) (p : Pos) → Tree N i N1 ids →
+pub tree_not_refused : (N N1 : List Node) (i : List Lexeme) (ids : List ℕ) (p : Position) → Tree N i N1 ids →
     RefusedAt N i p → Prim.⊥
 tree_not_refused N N1 i ids p d r =
     r.ends
@@ -58,7 +58,7 @@ agreed N a x b y f g h k (alike e) = e
 agreed N a x b y f g h k (earlier m e) = absurd (h (begins_shorter N (a ++ x ∷ []) m (subst (BeginsFile N) e g)))
 agreed N a x b y f g h k (later m e) = absurd (k (begins_shorter N (b ++ y ∷ []) m (subst (BeginsFile N) e f)))
 
-pub one_place : (N : List Node) (i : List Lexeme) (p q : Pos) → RefusedAt N i p → RefusedAt N i q → p ≡ q
+pub one_place : (N : List Node) (i : List Lexeme) (p q : Position) → RefusedAt N i p → RefusedAt N i q → p ≡ q
 one_place N i p q r s =
     let e = agreed N r.before r.refused s.before s.refused r.begins s.begins r.ends s.ends
     (parted r.before r.refused r.behind s.before s.refused s.behind (sym r.whole ∙ s.whole)) in

@@ -14,7 +14,7 @@ use Rattle.parser_machine.specs.declared.entries.Entry.TheVariants.{AssignValue,
 use Rattle.parser_machine.specs.declared.modes.Mode.{Mode}
 use Rattle.parser_machine.specs.declared.modes.Mode.TheVariants.{Assigned, ConstructorStart, Finished, ForStepStart, InClasses, InMembers, InStatements, PostDone, StatementEnd, StatementStart}
 use Rattle.scj_base.specs.Vocabulary.{sign_assign, sign_dot, sign_right_brace, sign_right_bracket, sign_right_parenthesis, sign_semicolon}
-use Rattle.scj_base.specs.declared.places.Pos.{Pos}
+use Rattle.scj_base.specs.declared.positions.Position.{Position}
 use Rattle.scj_tree.specs.Lexemes.{Lexeme, a_name, a_number, a_sign, a_text, the_end}
 use Rattle.scj_tree.specs.Terminals.{level}
 use Rattle.scj_tree.specs.declared.nodes.Node.{Node}
@@ -28,7 +28,7 @@ pub record Closes (r : Option State) : Type 0 where
   pub reached : after r rest ≡ Some (parsed nodes classes)
 
 -- the lexemes that the proofs go on with stand anywhere
-pub here : Pos
+pub here : Position
 here = record { file = 0; line = 1; col = 1 }
 
 abbrev pub sign : ℕ → Lexeme
@@ -109,7 +109,7 @@ pub block_closes : {s : List Entry} → Awaits a_statement_of_block s → (N : L
 unfolding machine
 block_closes (block_open a) N = more (sign sign_right_brace) (statement_end a _ _)
 
-pub constructor_closes : {s : List Entry} → Awaits a_constructor_body s → (b : Pos) (N : List Node) →
+pub constructor_closes : {s : List Entry} → Awaits a_constructor_body s → (b : Position) (N : List Node) →
     Closes (Some (at (ConstructorStart b) s N))
 unfolding machine
 constructor_closes a b N = more (sign sign_right_brace) (statement_end (of_constructor a) _ _)
@@ -120,7 +120,7 @@ pub record AssignmentEnds (s : List Entry) : Type 0 where
   pub mark : Ender
   pub closes : (id : ℕ) (N : List Node) → Closes (assigned id N s (ender mark))
 
-for_step_closes : {s : List Entry} → Awaits a_statement s → (p : Pos) (f c : ℕ) (N : List Node) →
+for_step_closes : {s : List Entry} → Awaits a_statement s → (p : Position) (f c : ℕ) (N : List Node) →
     Closes (Some (at ForStepStart (ForStep p f c ∷ s) N))
 unfolding machine
 for_step_closes a p f c N =
@@ -150,7 +150,7 @@ pub record ValueEnds (s : List Entry) : Type 0 where
   pub mark : Ender
   pub closes : (id : ℕ) (N : List Node) → Closes (closed id N s (ender mark))
 
-through_assign : (e : Ender) (p : Pos) (t : ℕ) (s : List Entry) →
+through_assign : (e : Ender) (p : Position) (t : ℕ) (s : List Entry) →
     ((id : ℕ) (N : List Node) → Closes (assigned id N s (ender e))) → (id : ℕ) (N : List Node) →
     Closes (closed id N (AssignValue p t ∷ s) (ender e))
 unfolding machine ender
@@ -158,7 +158,7 @@ through_assign semicolon p t s f id N = f _ _
 through_assign parenthesis p t s f id N = f _ _
 through_assign bracket p t s f id N = f _ _
 
-through_compound : (e : Ender) (p : Pos) (o t l : ℕ) (s : List Entry) →
+through_compound : (e : Ender) (p : Position) (o t l : ℕ) (s : List Entry) →
     ((id : ℕ) (N : List Node) → Closes (assigned id N s (ender e))) → (id : ℕ) (N : List Node) →
     Closes (closed id N (CompoundValue p o t l ∷ s) (ender e))
 unfolding machine ender
@@ -166,7 +166,7 @@ through_compound semicolon p o t l s f id N = f _ _
 through_compound parenthesis p o t l s f id N = f _ _
 through_compound bracket p o t l s f id N = f _ _
 
-through_local : (e : Ender) (p q : Pos) (w : List ℕ) (g : Option ℕ) (t : ℕ) (s : List Entry) →
+through_local : (e : Ender) (p q : Position) (w : List ℕ) (g : Option ℕ) (t : ℕ) (s : List Entry) →
     ((id : ℕ) (N : List Node) → Closes (assigned id N s (ender e))) → (id : ℕ) (N : List Node) →
     Closes (closed id N (LocalValue p q w g t ∷ s) (ender e))
 unfolding machine ender
@@ -184,7 +184,7 @@ not_below n = decide (nat_lt n 0) (λ h. let k : n < 0 = ltb-true n 0 h in absur
 passed : (b : Bool) (x y : Option State) → b ≡ false → Closes y → Closes (if b then x else y)
 passed b x y e c = subst (λ v. Closes (if v then x else y)) (sym e) c
 
-through_binary : (e : Ender) (p : Pos) (o l : ℕ) (s : List Entry) →
+through_binary : (e : Ender) (p : Position) (o l : ℕ) (s : List Entry) →
     ((id : ℕ) (N : List Node) → Closes (closed id N s (ender e))) → (id : ℕ) (N : List Node) →
     Closes (closed id N (BinaryLeft p o l ∷ s) (ender e))
 unfolding closed admits operation level_of level ender
@@ -192,13 +192,13 @@ through_binary semicolon p o l s f id N = passed (nat_lt (level o) 0) _ _ (not_b
 through_binary parenthesis p o l s f id N = passed (nat_lt (level o) 0) _ _ (not_below (level o)) (f _ _)
 through_binary bracket p o l s f id N = passed (nat_lt (level o) 0) _ _ (not_below (level o)) (f _ _)
 
-no_target : {s : List Entry} → Awaits a_value s → (kind : PostKind) (p : Pos) (id : ℕ) (N : List Node) (t : Lexeme) →
+no_target : {s : List Entry} → Awaits a_value s → (kind : PostKind) (p : Position) (id : ℕ) (N : List Node) (t : Lexeme) →
     post_ended kind p id N s t ≡ closed id N s t
 unfolding post_ended
 no_target (for_test a) kind p id N t = refl
 no_target a kind p id N t = refl
 
-post_closes : (e : Ender) {s : List Entry} → Awaits a_value s → (kind : PostKind) (p : Pos) (id : ℕ) (N : List Node) →
+post_closes : (e : Ender) {s : List Entry} → Awaits a_value s → (kind : PostKind) (p : Position) (id : ℕ) (N : List Node) →
     Closes (closed id N s (ender e)) → Closes (post_step kind p id N s (ender e))
 unfolding post_step ender
 post_closes semicolon a kind p id N c = subst Closes (sym (no_target a kind p id N _)) c
@@ -206,12 +206,12 @@ post_closes parenthesis a kind p id N c = subst Closes (sym (no_target a kind p 
 post_closes bracket a kind p id N c = subst Closes (sym (no_target a kind p id N _)) c
 
 pub value_closes : {s : List Entry} → Awaits a_value s → ValueEnds s →
-    (kind : PostKind) (p : Pos) (id : ℕ) (N : List Node) → Closes (Some (at (PostDone kind p id) s N))
+    (kind : PostKind) (p : Position) (id : ℕ) (N : List Node) → Closes (Some (at (PostDone kind p id) s N))
 unfolding step_mode
 value_closes a e kind p id N = more (ender e.mark) (post_closes e.mark a kind p id N (e.closes id N))
 
 -- a target that is no variable goes on with a field's name
-target_closes : {s : List Entry} → Awaits an_assignment s → (kind : PostKind) (p : Pos) (id : ℕ) (N : List Node) →
+target_closes : {s : List Entry} → Awaits an_assignment s → (kind : PostKind) (p : Position) (id : ℕ) (N : List Node) →
     Closes (Some (at (PostDone kind p id) (Target ∷ s) N))
 unfolding machine
 target_closes {s = s} a kind p id N =
@@ -246,7 +246,7 @@ mutual
   value_ends (length_open a) = record { mark = bracket; closes = λ id N. operand_closes a _ _ _ _ }
   value_ends (argument_value a) = record { mark = parenthesis; closes = λ id N. call_closes a _ _ }
 
-  pub operand_closes : {s : List Entry} → Awaits an_operand s → (kind : PostKind) (p : Pos) (id : ℕ) (N : List Node) →
+  pub operand_closes : {s : List Entry} → Awaits an_operand s → (kind : PostKind) (p : Position) (id : ℕ) (N : List Node) →
       Closes (Some (at (PostDone kind p id) s N))
   operand_closes (of_value a) kind p id N = value_closes a (value_ends a) kind p id N
   operand_closes (target_open a) kind p id N = target_closes a kind p id N

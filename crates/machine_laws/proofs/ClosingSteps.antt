@@ -15,7 +15,7 @@ use Rattle.parser_machine.specs.declared.modes.ElementType.{ElementType}
 use Rattle.parser_machine.specs.declared.modes.Mode.{Mode}
 use Rattle.parser_machine.specs.declared.modes.Mode.TheVariants.{ArgumentFirst, ArgumentNext, Assigned, At, ClassName, ClassNamed, ClosedName, ConstructorStart, DefineAssign, DefineName, DefineOpen, DefineOther, DefineOtherAssign, Dot, DotName, FileStart, Finished, FlagsRead, ForFirst, ForOpen, ForStepStart, IfOpen, ImportDot, ImportEnd, ImportName, ImportStar, ImportStart, InClasses, InImports, InMembers, InStatements, LiteralDone, LiteralMinus, LiteralStart, LocalNamed, MemberNamed, MethodNamed, Minus, NameBracket, NameFirst, NameRead, NewElement, NewName, NewStart, Opened, OpenedName, Operand, PackageEnd, PackageName, ParameterDone, ParametersDone, ParametersFirst, PlainAssigned, PlainDot, PlainEnd, PlainFirst, PlainName, PlainNext, PlainOpen, PlainPath, PostDone, ResultDone, ReturnStart, StatementEnd, StatementStart, SuperArgumentEnd, SuperArgumentName, SuperDone, SuperEnd, SuperName, SuperNamed, SuperOpen, TextRead, TypeArgumentEnd, TypeArgumentName, TypeBracket, TypeDone, TypeEnd, TypeName, ValueDot, ValueOpen, ValueRead, ValueScope, ValueStart, WhileOpen}
 use Rattle.scj_base.specs.Vocabulary.{sign_assign, sign_at, sign_comma, sign_dot, sign_left_brace, sign_left_bracket, sign_left_parenthesis, sign_less, sign_minus, sign_not, sign_right_parenthesis, sign_semicolon, sign_tilde, word_boolean, word_extends, word_false, word_final, word_for, word_if, word_implements, word_int, word_long, word_new, word_null, word_return, word_this, word_true, word_void, word_while}
-use Rattle.scj_base.specs.declared.places.Pos.{Pos}
+use Rattle.scj_base.specs.declared.positions.Position.{Position}
 use Rattle.scj_tree.specs.Lexemes.{Lexeme, a_name, a_number, a_sign, a_text, a_word, the_end}
 use Rattle.scj_base.specs.Bytes.{is_same}
 use Rattle.scj_tree.specs.Terminals.{compound, indexable, is_effectless, is_unary1_start, stepping, has_type_argument}
@@ -49,12 +49,12 @@ argument_ended_kept a id ids N (a_sign n p) =
 argument_ended_kept a id ids N t = refused
 
 target_assigned_kept : {s : List Entry} → Awaits an_assignment s →
-    (kind : PostKind) (id : ℕ) (q : Pos) (N : List Node) → Kept (target_assigned kind id q N s)
+    (kind : PostKind) (id : ℕ) (q : Position) (N : List Node) → Kept (target_assigned kind id q N s)
 unfolding target_assigned due
 target_assigned_kept a Variable id q N = kept (assign_value a)
 target_assigned_kept a kind id q N = refused
 
-target_alone_kept : {s : List Entry} → Awaits an_assignment s → (kind : PostKind) (p : Pos) (id : ℕ) (N : List Node) →
+target_alone_kept : {s : List Entry} → Awaits an_assignment s → (kind : PostKind) (p : Position) (id : ℕ) (N : List Node) →
     Kept (target_alone kind p id N s)
 unfolding target_alone due
 target_alone_kept (of_first (of_simple (simple_open a))) Invocation p id N = kept a
@@ -62,7 +62,7 @@ target_alone_kept (of_first (for_head a)) Invocation p id N = refused
 target_alone_kept (for_step a) Invocation p id N = refused
 target_alone_kept a kind p id N = refused
 
-target_ended_kept : {s : List Entry} → Awaits an_assignment s → (kind : PostKind) (p : Pos) (id : ℕ) (N : List Node)
+target_ended_kept : {s : List Entry} → Awaits an_assignment s → (kind : PostKind) (p : Position) (id : ℕ) (N : List Node)
     (t : Lexeme) → Kept (target_ended kind p id N s t)
 unfolding target_ended due
 target_ended_kept a kind p id N (a_sign n q) =
@@ -99,14 +99,14 @@ closed_kept (unary_open a) id N t = closed_kept a _ _ t
 closed_kept (cast_open a) id N t = closed_kept a _ _ t
 closed_kept a id N t = either _ (shifted_kept a id N t) (ended_kept a id N t)
 
-post_ended_kept : {s : List Entry} → Awaits an_operand s → (kind : PostKind) (p : Pos) (id : ℕ) (N : List Node)
+post_ended_kept : {s : List Entry} → Awaits an_operand s → (kind : PostKind) (p : Position) (id : ℕ) (N : List Node)
     (t : Lexeme) → Kept (post_ended kind p id N s t)
 unfolding post_ended
 post_ended_kept (target_open a) kind p id N t = target_ended_kept a kind p id N t
 post_ended_kept (of_value (for_test a)) kind p id N t = closed_kept (for_test a) id N t
 post_ended_kept (of_value a) kind p id N t = closed_kept a id N t
 
-post_kept : {s : List Entry} → Awaits an_operand s → (kind : PostKind) (p : Pos) (id : ℕ) (N : List Node) (t : Lexeme) →
+post_kept : {s : List Entry} → Awaits an_operand s → (kind : PostKind) (p : Position) (id : ℕ) (N : List Node) (t : Lexeme) →
     Kept (post_step kind p id N s t)
 unfolding post_step due
 post_kept a kind p id N (a_sign n q) =
@@ -120,7 +120,7 @@ unfolding dot_step due
 dot_kept a id N (a_name w p) = kept a
 dot_kept a id N t = refused
 
-dot_name_kept : {s : List Entry} → Awaits an_operand s → (id : ℕ) (p : Pos) (w : List ℕ) (N : List Node) (t : Lexeme) →
+dot_name_kept : {s : List Entry} → Awaits an_operand s → (id : ℕ) (p : Position) (w : List ℕ) (N : List Node) (t : Lexeme) →
     Kept (dot_name_step id p w N s t)
 unfolding dot_name_step due
 dot_name_kept a id p w N (a_sign n q) = either _ (kept (argument_here (call_open a))) (post_kept a _ _ _ _ _)
@@ -129,20 +129,20 @@ dot_name_kept a id p w N t = post_kept a _ _ _ _ t
 -- ---- names
 
 target_name_kept : {s : List Entry} → Awaits an_assignment s →
-    (p : Pos) (w : List ℕ) (N : List Node) (n : ℕ) (q : Pos) → Kept (target_name_step p w N s n q)
+    (p : Position) (w : List ℕ) (N : List Node) (n : ℕ) (q : Position) → Kept (target_name_step p w N s n q)
 unfolding target_name_step compound_step stepping_step due
 target_name_kept a p w N n q =
     chosen (compound n) _ _ (λ op. kept (compound_value a))
     (chosen (stepping n) _ _ (λ op. kept a) (post_kept (target_open a) _ _ _ _ _))
 
-name_sign_kept : {s : List Entry} → Awaits an_operand s → (p : Pos) (w : List ℕ) (N : List Node) (n : ℕ) (q : Pos) →
+name_sign_kept : {s : List Entry} → Awaits an_operand s → (p : Position) (w : List ℕ) (N : List Node) (n : ℕ) (q : Position) →
     Kept (name_sign_step p w N s n q)
 unfolding name_sign_step
 name_sign_kept (target_open a) p w N n q = target_name_kept a p w N n q
 name_sign_kept (of_value (for_test a)) p w N n q = post_kept (of_value (for_test a)) _ _ _ _ _
 name_sign_kept (of_value a) p w N n q = post_kept (of_value a) _ _ _ _ _
 
-name_kept : {s : List Entry} → Awaits an_operand s → (p : Pos) (w : List ℕ) (N : List Node) (t : Lexeme) →
+name_kept : {s : List Entry} → Awaits an_operand s → (p : Position) (w : List ℕ) (N : List Node) (t : Lexeme) →
     Kept (name_step p w N s t)
 unfolding name_step due
 name_kept a p w N (a_sign n q) = either _ (kept (argument_here (call_open a))) (name_sign_kept a p w N n q)
@@ -150,7 +150,7 @@ name_kept a p w N t = post_kept a _ _ _ _ t
 
 -- ---- where an operand is due
 
-operand_word_kept : {s : List Entry} → Awaits an_operand s → (n : ℕ) (p : Pos) (N : List Node) →
+operand_word_kept : {s : List Entry} → Awaits an_operand s → (n : ℕ) (p : Position) (N : List Node) →
     Kept (operand_word n p N s)
 unfolding operand_word due
 operand_word_kept a n p N =
@@ -158,7 +158,7 @@ operand_word_kept a n p N =
     (either (n == word_false) (kept a)
     (either (n == word_null) (kept a) (either (n == word_this) (kept a) (either (n == word_new) (kept a) refused))))
 
-operand_sign_kept : {s : List Entry} → Awaits a_value s → (n : ℕ) (p : Pos) (N : List Node) →
+operand_sign_kept : {s : List Entry} → Awaits a_value s → (n : ℕ) (p : Position) (N : List Node) →
     Kept (operand_sign n p N s)
 unfolding operand_sign due
 operand_sign_kept a n p N =
@@ -174,24 +174,24 @@ operand_start_kept a N (a_text w p) = refused
 operand_start_kept a N (a_sign n p) = operand_sign_kept a n p N
 operand_start_kept a N (the_end p) = refused
 
-minus_kept : {s : List Entry} → Awaits a_value s → (p : Pos) (N : List Node) (t : Lexeme) → Kept (minus_step p N s t)
+minus_kept : {s : List Entry} → Awaits a_value s → (p : Position) (N : List Node) (t : Lexeme) → Kept (minus_step p N s t)
 unfolding minus_step due
 minus_kept a p N (a_number n q) = either _ (kept (of_value a)) (operand_start_kept (unary_open a) N (a_number n q))
 minus_kept a p N t = operand_start_kept (unary_open a) N t
 
-opened_kept : {s : List Entry} → Awaits an_operand s → (p : Pos) (N : List Node) (t : Lexeme) →
+opened_kept : {s : List Entry} → Awaits an_operand s → (p : Position) (N : List Node) (t : Lexeme) →
     Kept (opened_step p N s t)
 unfolding opened_step due
 opened_kept a p N (a_name w q) = kept a
 opened_kept a p N t = operand_start_kept (group_open a) N t
 
-opened_name_kept : {s : List Entry} → Awaits an_operand s → (p q : Pos) (w : List ℕ) (N : List Node) (t : Lexeme) →
+opened_name_kept : {s : List Entry} → Awaits an_operand s → (p q : Position) (w : List ℕ) (N : List Node) (t : Lexeme) →
     Kept (opened_name_step p q w N s t)
 unfolding opened_name_step due
 opened_name_kept a p q w N (a_sign n r) = either _ (kept a) (name_kept (of_value (group_open a)) q w N (a_sign n r))
 opened_name_kept a p q w N t = name_kept (of_value (group_open a)) q w N t
 
-closed_name_kept : {s : List Entry} → Awaits an_operand s → (p q : Pos) (w : List ℕ) (N : List Node) (t : Lexeme) →
+closed_name_kept : {s : List Entry} → Awaits an_operand s → (p q : Position) (w : List ℕ) (N : List Node) (t : Lexeme) →
     Kept (closed_name_step p q w N s t)
 unfolding closed_name_step awaits_target
 closed_name_kept (target_open a) p q w N t = never_both (is_unary1_start t) _ _ (post_kept (target_open a) _ _ _ _ _)
@@ -199,20 +199,20 @@ closed_name_kept (of_value a) p q w N t =
     either (is_unary1_start t && not (awaits_target _)) (operand_start_kept (cast_open a) N t)
     (post_kept (of_value a) _ _ _ _ _)
 
-new_kept : {s : List Entry} → Awaits an_operand s → (p : Pos) (N : List Node) (t : Lexeme) → Kept (new_step p N s t)
+new_kept : {s : List Entry} → Awaits an_operand s → (p : Position) (N : List Node) (t : Lexeme) → Kept (new_step p N s t)
 unfolding new_step due
 new_kept a p N (a_name w q) = kept a
 new_kept a p N (a_word n q) = either (n == word_int) (kept a) (either (n == word_boolean) (kept a) refused)
 new_kept a p N t = refused
 
-new_name_kept : {s : List Entry} → Awaits an_operand s → (p q : Pos) (w : List ℕ) (N : List Node) (t : Lexeme) →
+new_name_kept : {s : List Entry} → Awaits an_operand s → (p q : Position) (w : List ℕ) (N : List Node) (t : Lexeme) →
     Kept (new_name_step p q w N s t)
 unfolding new_name_step due
 new_name_kept a p q w N (a_sign n r) = either (n == sign_left_parenthesis) (kept (argument_here (new_open a)))
     (either (n == sign_left_bracket) (kept (length_open a)) refused)
 new_name_kept a p q w N t = refused
 
-new_element_kept : {s : List Entry} → Awaits an_operand s → (p : Pos) (e : ℕ) (N : List Node) (t : Lexeme) →
+new_element_kept : {s : List Entry} → Awaits an_operand s → (p : Position) (e : ℕ) (N : List Node) (t : Lexeme) →
     Kept (new_element_step p e N s t)
 unfolding new_element_step due
 new_element_kept a p e N (a_sign n r) = either _ (kept (length_open a)) refused
@@ -252,39 +252,39 @@ typed_kept (parameter_open a) id N (a_name w p) = kept a
 typed_kept (local_open a) id N (a_name w p) = kept a
 typed_kept a id N t = refused
 
-type_end_kept : {s : List Entry} → Awaits a_type s → (p : Pos) (e : ElementType) (N : List Node) (t : Lexeme) →
+type_end_kept : {s : List Entry} → Awaits a_type s → (p : Position) (e : ElementType) (N : List Node) (t : Lexeme) →
     Kept (type_end_step p e N s t)
 unfolding type_end_step due
 type_end_kept a p e N (a_sign n q) = either _ (kept a) refused
 type_end_kept a p e N t = typed_kept a _ _ t
 
-type_bracket_kept : {s : List Entry} → Awaits a_type s → (p : Pos) (e : ElementType) (N : List Node) (t : Lexeme) →
+type_bracket_kept : {s : List Entry} → Awaits a_type s → (p : Position) (e : ElementType) (N : List Node) (t : Lexeme) →
     Kept (type_bracket_step p e N s t)
 unfolding type_bracket_step due
 type_bracket_kept a p e N (a_sign n q) = either _ (kept a) refused
 type_bracket_kept a p e N t = refused
 
-constructor_kept : {s : List Entry} → Awaits a_type s → (p : Pos) (w : List ℕ) (q : Pos) (N : List Node) →
+constructor_kept : {s : List Entry} → Awaits a_type s → (p : Position) (w : List ℕ) (q : Position) (N : List Node) →
     Kept (constructor_step p w q N s)
 unfolding constructor_step due
 constructor_kept (member_open a) p w q N = kept (constructor_open a)
 constructor_kept a p w q N = refused
 
-type_name_kept : {s : List Entry} → Awaits a_type s → (p : Pos) (w : List ℕ) (N : List Node) (t : Lexeme) →
+type_name_kept : {s : List Entry} → Awaits a_type s → (p : Position) (w : List ℕ) (N : List Node) (t : Lexeme) →
     Kept (type_name_step p w N s t)
 unfolding type_name_step due
 type_name_kept a p w N (a_sign n q) =
     either _ (either _ (kept a) refused) (either _ (kept a) (either _ (constructor_kept a p w q N) refused))
 type_name_kept a p w N t = typed_kept a _ _ t
 
-type_argument_name_kept : {s : List Entry} → Awaits a_type s → (p : Pos) (w : List ℕ) (N : List Node) (t : Lexeme) →
+type_argument_name_kept : {s : List Entry} → Awaits a_type s → (p : Position) (w : List ℕ) (N : List Node) (t : Lexeme) →
     Kept (type_argument_name_step p w N s t)
 unfolding type_argument_name_step due
 type_argument_name_kept a p w N (a_name v q) = kept a
 type_argument_name_kept a p w N t = refused
 
 type_argument_end_kept : {s : List Entry} → Awaits a_type s →
-    (p : Pos) (w : List ℕ) (id : ℕ) (N : List Node) (t : Lexeme) → Kept (type_argument_end_step p w id N s t)
+    (p : Position) (w : List ℕ) (id : ℕ) (N : List Node) (t : Lexeme) → Kept (type_argument_end_step p w id N s t)
 unfolding type_argument_end_step due
 type_argument_end_kept a p w id N (a_sign n q) = either _ (kept a) refused
 type_argument_end_kept a p w id N t = refused
@@ -297,7 +297,7 @@ type_start_kept a N t = refused
 
 -- ---- what stands behind annotations and modifiers
 
-member_word_kept : {s : List Entry} → Awaits a_member s → (f : Option ℕ) (n : ℕ) (p : Pos) (N : List Node) →
+member_word_kept : {s : List Entry} → Awaits a_member s → (f : Option ℕ) (n : ℕ) (p : Position) (N : List Node) →
     Kept (member_word f n p N s)
 unfolding member_word due
 member_word_kept a f n p N =
@@ -349,12 +349,12 @@ unfolding runs_in_named due
 runs_in_named_kept a l f N = chosen f.runs_in _ _ (λ id. refused) (kept (runs_in_open (annotation_open a)))
 
 define_scope_named_kept : {s : List Entry} → Awaits flagged_thing s →
-    (p : Pos) (l : Bool) (f : FlagSet) (N : List Node) → Kept (define_scope_named p l f N s)
+    (p : Position) (l : Bool) (f : FlagSet) (N : List Node) → Kept (define_scope_named p l f N s)
 unfolding define_scope_named due
 define_scope_named_kept a p l f N = chosen f.define_scope _ _ (λ id. refused) (kept (annotation_open a))
 
 annotation_named_kept : {s : List Entry} → Awaits flagged_thing s →
-    (p : Pos) (w : List ℕ) (l : Bool) (f : FlagSet) (N : List Node) → Kept (annotation_named p w l f N s)
+    (p : Position) (w : List ℕ) (l : Bool) (f : FlagSet) (N : List Node) → Kept (annotation_named p w l f N s)
 unfolding annotation_named due
 annotation_named_kept a p w l f N =
     either (is_effectless w) (kept (annotation_open a))
@@ -362,7 +362,7 @@ annotation_named_kept a p w l f N =
     (either (is_same w (codes "RunsIn")) (runs_in_named_kept a l f N)
     (either (is_same w (codes "DefineScope")) (define_scope_named_kept a p l f N) refused)))
 
-at_kept : {s : List Entry} → Awaits an_annotation s → (p : Pos) (N : List Node) (t : Lexeme) → Kept (at_step p N s t)
+at_kept : {s : List Entry} → Awaits an_annotation s → (p : Position) (N : List Node) (t : Lexeme) → Kept (at_step p N s t)
 unfolding at_step
 at_kept (annotation_open a) p N (a_name w q) = annotation_named_kept a p w _ _ N
 at_kept a p N t = refused
@@ -460,45 +460,45 @@ value_start_kept a N (a_text w p) = either _ (kept a) refused
 value_start_kept a N (a_name w p) = either _ (kept a) (kept a)
 value_start_kept a N t = refused
 
-value_scope_kept : {s : List Entry} → Awaits a_scope s → (p : Pos) (N : List Node) (t : Lexeme) →
+value_scope_kept : {s : List Entry} → Awaits a_scope s → (p : Position) (N : List Node) (t : Lexeme) →
     Kept (value_scope_step p N s t)
 unfolding value_scope_step due
 value_scope_kept a p N (a_sign n q) = either _ (kept a) (valued_kept a _ _ n)
 value_scope_kept a p N t = refused
 
-value_dot_kept : {s : List Entry} → Awaits a_scope s → (p : Pos) (N : List Node) (t : Lexeme) →
+value_dot_kept : {s : List Entry} → Awaits a_scope s → (p : Position) (N : List Node) (t : Lexeme) →
     Kept (value_dot_step p N s t)
 unfolding value_dot_step due
 value_dot_kept a p N (a_name w q) = kept a
 value_dot_kept a p N t = refused
 
-define_open_kept : {s : List Entry} → Awaits an_annotation s → (p : Pos) (N : List Node) (t : Lexeme) →
+define_open_kept : {s : List Entry} → Awaits an_annotation s → (p : Position) (N : List Node) (t : Lexeme) →
     Kept (define_open_step p N s t)
 unfolding define_open_step due
 define_open_kept a p N (a_sign n q) = either _ (kept a) refused
 define_open_kept a p N t = refused
 
-define_name_kept : {s : List Entry} → Awaits an_annotation s → (p : Pos) (N : List Node) (t : Lexeme) →
+define_name_kept : {s : List Entry} → Awaits an_annotation s → (p : Position) (N : List Node) (t : Lexeme) →
     Kept (define_name_step p N s t)
 unfolding define_name_step due
 define_name_kept a p N (a_name w q) =
     either (is_same w (codes "name")) (kept a) (either (is_same w (codes "parent")) (kept a) refused)
 define_name_kept a p N t = refused
 
-define_assign_kept : {s : List Entry} → Awaits an_annotation s → (p : Pos) (b : Bool) (N : List Node) (t : Lexeme) →
+define_assign_kept : {s : List Entry} → Awaits an_annotation s → (p : Position) (b : Bool) (N : List Node) (t : Lexeme) →
     Kept (define_assign_step p b N s t)
 unfolding define_assign_step due
 define_assign_kept a p b N (a_sign n q) = either _ (kept (define_first a)) refused
 define_assign_kept a p b N t = refused
 
 define_other_kept : {s : List Entry} → Awaits an_annotation s →
-    (p : Pos) (b : Bool) (id : ℕ) (N : List Node) (t : Lexeme) → Kept (define_other_step p b id N s t)
+    (p : Position) (b : Bool) (id : ℕ) (N : List Node) (t : Lexeme) → Kept (define_other_step p b id N s t)
 unfolding define_other_step due
 define_other_kept a p b id N (a_name w q) = either _ (kept a) refused
 define_other_kept a p b id N t = refused
 
 define_other_assign_kept : {s : List Entry} → Awaits an_annotation s →
-    (p : Pos) (b : Bool) (id : ℕ) (N : List Node) (t : Lexeme) → Kept (define_other_assign_step p b id N s t)
+    (p : Position) (b : Bool) (id : ℕ) (N : List Node) (t : Lexeme) → Kept (define_other_assign_step p b id N s t)
 unfolding define_other_assign_step due
 define_other_assign_kept a p b id N (a_sign n q) = either _ (kept (define_second a)) refused
 define_other_assign_kept a p b id N t = refused
@@ -522,7 +522,7 @@ first_start_kept a N (a_word n p) =
     (either (n == word_boolean) (kept (local_open a)) (target_start_kept (of_first a) N (a_word n p)))
 first_start_kept a N t = target_start_kept (of_first a) N t
 
-name_first_kept : {s : List Entry} → Awaits a_first s → (p : Pos) (w : List ℕ) (N : List Node) (t : Lexeme) →
+name_first_kept : {s : List Entry} → Awaits a_first s → (p : Position) (w : List ℕ) (N : List Node) (t : Lexeme) →
     Kept (name_first_step p w N s t)
 unfolding name_first_step due
 name_first_kept a p w N (a_name v q) = typed_kept (local_open a) _ _ _
@@ -532,19 +532,19 @@ name_first_kept a p w N (a_sign n q) =
 name_first_kept a p w N t = refused
 
 name_bracket_kept : {s : List Entry} → Awaits a_first s →
-    (p : Pos) (w : List ℕ) (b : Pos) (N : List Node) (t : Lexeme) → Kept (name_bracket_step p w b N s t)
+    (p : Position) (w : List ℕ) (b : Position) (N : List Node) (t : Lexeme) → Kept (name_bracket_step p w b N s t)
 unfolding name_bracket_step due
 name_bracket_kept a p w b N (a_sign n q) =
     either _ (kept (local_open a)) (operand_start_kept (index_open (target_open (of_first a))) _ (a_sign n q))
 name_bracket_kept a p w b N t = operand_start_kept (index_open (target_open (of_first a))) _ t
 
 local_ended_kept : {s : List Entry} → Awaits a_first s →
-    (f : Option ℕ) (id : ℕ) (p : Pos) (w : List ℕ) (N : List Node) → Kept (local_ended f id p w N s)
+    (f : Option ℕ) (id : ℕ) (p : Position) (w : List ℕ) (N : List Node) → Kept (local_ended f id p w N s)
 unfolding local_ended due
 local_ended_kept (of_simple (simple_open a)) f id p w N = kept a
 local_ended_kept (for_head a) f id p w N = refused
 
-local_named_kept : {s : List Entry} → Awaits a_first s → (f : Option ℕ) (id : ℕ) (p : Pos) (w : List ℕ) (N : List Node)
+local_named_kept : {s : List Entry} → Awaits a_first s → (f : Option ℕ) (id : ℕ) (p : Position) (w : List ℕ) (N : List Node)
     (t : Lexeme) → Kept (local_named_step f id p w N s t)
 unfolding local_named_step due
 local_named_kept a f id p w N (a_sign n q) =
@@ -557,13 +557,13 @@ unfolding test_open_step
 test_open_kept m e a N (a_sign n q) = either _ (kept a) refused
 test_open_kept m e a N t = refused
 
-return_kept : {s : List Entry} → Awaits a_statement s → (p : Pos) (N : List Node) (t : Lexeme) →
+return_kept : {s : List Entry} → Awaits a_statement s → (p : Position) (N : List Node) (t : Lexeme) →
     Kept (return_step p N s t)
 unfolding return_step due
 return_kept a p N (a_sign n q) = either _ (kept a) (operand_start_kept (return_open a) N (a_sign n q))
 return_kept a p N t = operand_start_kept (return_open a) N t
 
-statement_word_kept : {s : List Entry} → Awaits a_statement s → (n : ℕ) (p : Pos) (N : List Node) →
+statement_word_kept : {s : List Entry} → Awaits a_statement s → (n : ℕ) (p : Position) (N : List Node) →
     Kept (statement_word n p N s)
 unfolding statement_word due
 statement_word_kept a n p N =
@@ -574,7 +574,7 @@ statement_word_kept a n p N =
     (either (n == word_final) (flags_kept (flags_of_local (simple_open a)) _ _ N (a_word n p))
     (first_start_kept (of_simple (simple_open a)) N (a_word n p))))))
 
-statement_sign_kept : {s : List Entry} → Awaits a_statement s → (n : ℕ) (p : Pos) (N : List Node) →
+statement_sign_kept : {s : List Entry} → Awaits a_statement s → (n : ℕ) (p : Position) (N : List Node) →
     Kept (statement_sign n p N s)
 unfolding statement_sign due
 statement_sign_kept a n p N =
@@ -607,7 +607,7 @@ unfolding member_read due
 member_read_kept (class_body a) id N = kept (class_body a)
 
 member_named_kept : {s : List Entry} → Awaits a_member s →
-    (f : Option ℕ) (id : ℕ) (p : Pos) (w : List ℕ) (N : List Node) (t : Lexeme) →
+    (f : Option ℕ) (id : ℕ) (p : Position) (w : List ℕ) (N : List Node) (t : Lexeme) →
     Kept (member_named_step f id p w N s t)
 unfolding member_named_step due
 member_named_kept a f id p w N (a_sign n q) =
@@ -616,7 +616,7 @@ member_named_kept a f id p w N (a_sign n q) =
     (either (n == sign_left_parenthesis) (kept (method_open a)) refused))
 member_named_kept a f id p w N t = refused
 
-literal_word_kept : {s : List Entry} → Awaits a_literal s → (n : ℕ) (p : Pos) (N : List Node) →
+literal_word_kept : {s : List Entry} → Awaits a_literal s → (n : ℕ) (p : Position) (N : List Node) →
     Kept (literal_word n p N s)
 unfolding literal_word due
 literal_word_kept a n p N =
@@ -629,7 +629,7 @@ literal_kept a N (a_number n p) = either _ refused (kept a)
 literal_kept a N (a_sign n p) = either _ (kept a) refused
 literal_kept a N t = refused
 
-literal_minus_kept : {s : List Entry} → Awaits a_literal s → (p : Pos) (N : List Node) (t : Lexeme) →
+literal_minus_kept : {s : List Entry} → Awaits a_literal s → (p : Position) (N : List Node) (t : Lexeme) →
     Kept (literal_minus_step p N s t)
 unfolding literal_minus_step due
 literal_minus_kept a p N (a_number n q) = kept a
@@ -652,13 +652,13 @@ result_kept a f id N (a_name w p) = kept a
 result_kept a f id N t = refused
 
 method_named_kept : {s : List Entry} → Awaits a_member s →
-    (f : Option ℕ) (id : ℕ) (p : Pos) (w : List ℕ) (N : List Node) (t : Lexeme) →
+    (f : Option ℕ) (id : ℕ) (p : Position) (w : List ℕ) (N : List Node) (t : Lexeme) →
     Kept (method_named_step f id p w N s t)
 unfolding method_named_step due
 method_named_kept a f id p w N (a_sign n q) = either _ (kept (method_open a)) refused
 method_named_kept a f id p w N t = refused
 
-parameters_first_kept : {s : List Entry} → Awaits a_body_owner s → (p : Pos) (N : List Node) (t : Lexeme) →
+parameters_first_kept : {s : List Entry} → Awaits a_body_owner s → (p : Position) (N : List Node) (t : Lexeme) →
     Kept (parameters_first_step p N s t)
 unfolding parameters_first_step due
 parameters_first_kept a p N (a_sign n q) =
@@ -678,7 +678,7 @@ unfolding parameter_end_step
 parameter_end_kept a id N (a_sign n q) = parameter_ended_kept a id N n
 parameter_end_kept a id N t = refused
 
-body_kept : {s : List Entry} → Awaits a_body_owner s → (ps : Option ℕ) (N : List Node) (n : ℕ) (q : Pos) →
+body_kept : {s : List Entry} → Awaits a_body_owner s → (ps : Option ℕ) (N : List Node) (n : ℕ) (q : Position) →
     Kept (body_step ps N s n q)
 unfolding body_step due
 body_kept (method_open a) ps N n q =
@@ -692,20 +692,20 @@ unfolding parameters_end_step
 parameters_end_kept a ps N (a_sign n q) = body_kept a ps N n q
 parameters_end_kept a ps N t = refused
 
-constructor_start_kept : {s : List Entry} → Awaits a_constructor_body s → (b : Pos) (N : List Node) (t : Lexeme) →
+constructor_start_kept : {s : List Entry} → Awaits a_constructor_body s → (b : Position) (N : List Node) (t : Lexeme) →
     Kept (constructor_start_step b N s t)
 unfolding constructor_start_step due
 constructor_start_kept a b N (a_word n p) =
     either _ (kept a) (statements_kept (block_open (of_constructor a)) N (a_word n p))
 constructor_start_kept a b N t = statements_kept (block_open (of_constructor a)) N t
 
-super_open_kept : {s : List Entry} → Awaits a_constructor_body s → (b p : Pos) (N : List Node) (t : Lexeme) →
+super_open_kept : {s : List Entry} → Awaits a_constructor_body s → (b p : Position) (N : List Node) (t : Lexeme) →
     Kept (super_open_step b p N s t)
 unfolding super_open_step due
 super_open_kept a b p N (a_sign n q) = either _ (kept (argument_here (super_call_open a))) refused
 super_open_kept a b p N t = refused
 
-super_end_kept : {s : List Entry} → Awaits a_constructor_body s → (b : Pos) (N : List Node) (t : Lexeme) →
+super_end_kept : {s : List Entry} → Awaits a_constructor_body s → (b : Position) (N : List Node) (t : Lexeme) →
     Kept (super_end_step b N s t)
 unfolding super_end_step due
 super_end_kept a b N (a_sign n q) = either _ (kept (block_open (of_constructor a))) refused
@@ -822,20 +822,20 @@ super_ended_kept (supers_open false a) id N (a_sign n q) =
     (either (n == sign_left_brace) (class_opened_kept a _ _) refused)
 super_ended_kept a id N t = refused
 
-super_named_kept : {s : List Entry} → Awaits a_super s → (p : Pos) (w : List ℕ) (N : List Node) (t : Lexeme) →
+super_named_kept : {s : List Entry} → Awaits a_super s → (p : Position) (w : List ℕ) (N : List Node) (t : Lexeme) →
     Kept (super_named_step p w N s t)
 unfolding super_named_step due
 super_named_kept a p w N (a_sign n q) = either _ (either _ (kept a) refused) (super_ended_kept a _ _ _)
 super_named_kept a p w N t = super_ended_kept a _ _ t
 
-super_argument_name_kept : {s : List Entry} → Awaits a_super s → (p : Pos) (w : List ℕ) (N : List Node) (t : Lexeme) →
+super_argument_name_kept : {s : List Entry} → Awaits a_super s → (p : Position) (w : List ℕ) (N : List Node) (t : Lexeme) →
     Kept (super_argument_name_step p w N s t)
 unfolding super_argument_name_step due
 super_argument_name_kept a p w N (a_name v q) = kept a
 super_argument_name_kept a p w N t = refused
 
 super_argument_end_kept : {s : List Entry} → Awaits a_super s →
-    (p : Pos) (w : List ℕ) (id : ℕ) (N : List Node) (t : Lexeme) → Kept (super_argument_end_step p w id N s t)
+    (p : Position) (w : List ℕ) (id : ℕ) (N : List Node) (t : Lexeme) → Kept (super_argument_end_step p w id N s t)
 unfolding super_argument_end_step due
 super_argument_end_kept a p w id N (a_sign n q) = either _ (kept a) refused
 super_argument_end_kept a p w id N t = refused

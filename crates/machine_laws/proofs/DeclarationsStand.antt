@@ -12,7 +12,7 @@ use Rattle.parser_machine.specs.declared.modes.ElementType.{ElementType}
 use Rattle.parser_machine.specs.declared.modes.ElementType.TheVariants.{Reference}
 use Rattle.parser_machine.specs.declared.modes.Mode.TheVariants.{At, DefineAssign, DefineName, DefineOpen, DefineOther, DefineOtherAssign, PlainAssigned, PlainDot, PlainEnd, PlainFirst, PlainName, PlainOpen, PlainPath, TypeArgumentEnd, TypeArgumentName, TypeBracket, TypeEnd, TypeName, ValueDot, ValueOpen, ValueRead, ValueScope, ValueStart}
 use Rattle.scj_base.specs.Vocabulary.{sign_assign, sign_at, sign_comma, sign_dot, sign_greater, sign_left_bracket, sign_left_parenthesis, sign_less, sign_right_bracket, sign_right_parenthesis, word_boolean, word_class, word_false, word_int, word_long, word_true, word_void}
-use Rattle.scj_base.specs.declared.places.Pos.{Pos}
+use Rattle.scj_base.specs.declared.positions.Position.{Position}
 use Rattle.scj_tree.specs.Headers.{FlagRow, PlainArguments, PlainPair, PlainPairs, PlainValue, ScopeValue, TypeRead, argument_array, argument_type, bare_scope, boolean_array, boolean_type, class_array, class_type, define_scope_flag, define_scope_flag_parent_first, dotted_longer, dotted_name, effectless, empty_parentheses, int_array, int_type, last_pair, long_result, modifier, more_pairs, named_value, no_parentheses, pairs_in_parentheses, parameter, plain_dotted, plain_false, plain_text, plain_true, qualified_scope, quoted_scope, runs_in_flag, scope_flag, value_alone, void_result}
 use Rattle.scj_tree.specs.Nodes.{put}
 use Rattle.scj_tree.specs.Lexemes.{Lexeme, a_name, a_number, a_sign, a_text, a_word, the_end}
@@ -33,7 +33,7 @@ typed_stands r id N s _ o d (member_open g e) = tt
 typed_stands r id N s _ o d (parameter_open g e) = tt
 typed_stands r id N s _ o d (local_open l e) = tt
 
-element_type : {p : Pos} {element : ElementType} {M N : List Node} {j o : List Lexeme} → ElementRead p element M j N o →
+element_type : {p : Position} {element : ElementType} {M N : List Node} {j o : List Lexeme} → ElementRead p element M j N o →
     TypeRead M j (put N (element_node p element false)) o (length N)
 unfolding element_node
 element_type int_element = int_type
@@ -41,7 +41,7 @@ element_type boolean_element = boolean_type
 element_type plain_element = class_type
 element_type (argument_element h) = argument_type h
 
-element_array : {p : Pos} {element : ElementType} {M N : List Node} {j o : List Lexeme} {x y : Pos} →
+element_array : {p : Position} {element : ElementType} {M N : List Node} {j o : List Lexeme} {x y : Position} →
     ElementRead p element M j N (a_sign sign_left_bracket x ∷ a_sign sign_right_bracket y ∷ o) →
     TypeRead M j (put N (element_node p element true)) o (length N)
 unfolding element_node
@@ -50,7 +50,7 @@ element_array boolean_element = boolean_array
 element_array plain_element = class_array
 element_array (argument_element h) = argument_array h
 
-pub type_end_stands : (r : Source) (p : Pos) (element : ElementType) (N : List Node) (s : List Entry) (t : Lexeme)
+pub type_end_stands : (r : Source) (p : Position) (element : ElementType) (N : List Node) (s : List Entry) (t : Lexeme)
     (o : List Lexeme) → Stands r (TypeEnd p element) s N (t ∷ o) → Leads r (type_end_step p element N s t) o
 unfolding machine Leads Stands
 type_end_stands r p element N s (a_sign n q) o (behind {N = M} {i = j} e d) =
@@ -62,7 +62,7 @@ type_end_stands r p element N s (a_number w q) o (behind e d) = typed_stands r (
 type_end_stands r p element N s (a_text w q) o (behind e d) = typed_stands r (length N) _ s _ o (element_type e) d
 type_end_stands r p element N s (the_end q) o (behind e d) = typed_stands r (length N) _ s _ o (element_type e) d
 
-pub type_bracket_stands : (r : Source) (p : Pos) (element : ElementType) (N : List Node) (s : List Entry) (t : Lexeme)
+pub type_bracket_stands : (r : Source) (p : Position) (element : ElementType) (N : List Node) (s : List Entry) (t : Lexeme)
     (o : List Lexeme) → Stands r (TypeBracket p element) s N (t ∷ o) → Leads r (type_bracket_step p element N s t) o
 unfolding machine Leads Stands
 type_bracket_stands r p element N s (a_sign n q) o (behind {N = M} {i = j} (past {p = x} e) d) =
@@ -70,14 +70,14 @@ type_bracket_stands r p element N s (a_sign n q) o (behind {N = M} {i = j} (past
     _ _ o (λ k. behind (element_array k) d) tt
 type_bracket_stands r p element N s _ o h = tt
 
-constructor_stands : (r : Source) (p : Pos) (w : List ℕ) (q : Pos) (N : List Node) (s : List Entry) (o : List Lexeme) →
+constructor_stands : (r : Source) (p : Position) (w : List ℕ) (q : Position) (N : List Node) (s : List Entry) (o : List Lexeme) →
     Due r for_type s N (a_name w p ∷ a_sign sign_left_parenthesis q ∷ o) → Leads r (constructor_step p w q N s) o
 unfolding machine Leads Stands
 constructor_stands r p w q N s o (member_open g d) = constructor_open g d
 constructor_stands r p w q N s o (parameter_open g d) = tt
 constructor_stands r p w q N s o (local_open l d) = tt
 
-pub type_name_stands : (r : Source) (p : Pos) (w : List ℕ) (N : List Node) (s : List Entry) (t : Lexeme)
+pub type_name_stands : (r : Source) (p : Position) (w : List ℕ) (N : List Node) (s : List Entry) (t : Lexeme)
     (o : List Lexeme) → Stands r (TypeName p w) s N (t ∷ o) → Leads r (type_name_step p w N s t) o
 unfolding machine Leads Stands
 type_name_stands r p w N s (a_sign n q) o d =
@@ -93,17 +93,17 @@ type_name_stands r p w N s (a_number v q) o d = typed_stands r (length N) _ s _ 
 type_name_stands r p w N s (a_text v q) o d = typed_stands r (length N) _ s _ o class_type d
 type_name_stands r p w N s (the_end q) o d = typed_stands r (length N) _ s _ o class_type d
 
-pub type_argument_name_stands : (r : Source) (p : Pos) (w : List ℕ) (N : List Node) (s : List Entry) (t : Lexeme)
+pub type_argument_name_stands : (r : Source) (p : Position) (w : List ℕ) (N : List Node) (s : List Entry) (t : Lexeme)
     (o : List Lexeme) → Stands r (TypeArgumentName p w) s N (t ∷ o) → Leads r (type_argument_name_step p w N s t) o
 unfolding machine Leads Stands
 type_argument_name_stands r p w N s (a_name v q) o (h, past d) = behind (argument_begun h) d
 type_argument_name_stands r p w N s _ o h = tt
 
-argument_ends : {p : Pos} {w : List ℕ} {a : ℕ} {M N : List Node} {j o : List Lexeme} {x : Pos} →
+argument_ends : {p : Position} {w : List ℕ} {a : ℕ} {M N : List Node} {j o : List Lexeme} {x : Position} →
     TypeArgumentBegun p w a M j N (a_sign sign_greater x ∷ o) → ElementRead p (Reference w (Some a)) M j N o
 argument_ends (argument_begun h) = argument_element h
 
-pub type_argument_end_stands : (r : Source) (p : Pos) (w : List ℕ) (a : ℕ) (N : List Node) (s : List Entry) (t : Lexeme)
+pub type_argument_end_stands : (r : Source) (p : Position) (w : List ℕ) (a : ℕ) (N : List Node) (s : List Entry) (t : Lexeme)
     (o : List Lexeme) → Stands r (TypeArgumentEnd p w a) s N (t ∷ o) → Leads r (type_argument_end_step p w a N s t) o
 unfolding machine Leads Stands
 type_argument_end_stands r p w a N s (a_sign n q) o (behind {N = M} {i = j} b d) =
@@ -173,8 +173,8 @@ flags_step_stands r b flags N s (the_end p) o f g = flags_ended_stands r b flags
 
 -- ---- annotations
 
-annotation_named_stands : (r : Source) (p : Pos) (w : List ℕ) (b : Bool) (flags : FlagSet) (N : List Node)
-    (s : List Entry) (q : Pos) (o : List Lexeme) → Due r (for_annotation p) (AnnotationOpen b flags ∷ s) N
+annotation_named_stands : (r : Source) (p : Position) (w : List ℕ) (b : Bool) (flags : FlagSet) (N : List Node)
+    (s : List Entry) (q : Position) (o : List Lexeme) → Due r (for_annotation p) (AnnotationOpen b flags ∷ s) N
     (a_name w q ∷ o) → Leads r (annotation_named p w b flags N s) o
 unfolding machine Leads Stands
 annotation_named_stands r p w b flags N s q o d =
@@ -193,7 +193,7 @@ annotation_named_stands r p w b flags N s q o d =
     (λ k. leads_option r flags.define_scope (λ id. None) _ o (λ id h. tt) (λ h. define_begun h k))
     tt)))
 
-pub at_stands : (r : Source) (p : Pos) (N : List Node) (s : List Entry) (t : Lexeme) (o : List Lexeme) →
+pub at_stands : (r : Source) (p : Position) (N : List Node) (s : List Entry) (t : Lexeme) (o : List Lexeme) →
     Stands r (At p) s N (t ∷ o) → Leads r (at_step p N s t) o
 unfolding machine Leads Stands
 at_stands r p N s (a_name w q) o (annotation_open f g) = annotation_named_stands r p w _ _ N _ q o (annotation_open f g)
@@ -211,8 +211,8 @@ unfolding machine Leads Stands PlainDone
 plain_without_stands r N (AnnotationOpen b flags ∷ s) t o (behind f g) = flags_step_stands r b flags N s t o f g
 plain_without_stands r N _ t o h = tt
 
-named_done_at : (r : Source) {p : Pos} {b : Bool} {flags : FlagSet} {s : List Entry} {N : List Node} {w : List ℕ}
-    {q : Pos} {i : List Lexeme} → is_effectless w ≡ true → Due r (for_annotation p) (AnnotationOpen b flags ∷ s) N
+named_done_at : (r : Source) {p : Position} {b : Bool} {flags : FlagSet} {s : List Entry} {N : List Node} {w : List ℕ}
+    {q : Position} {i : List Lexeme} → is_effectless w ≡ true → Due r (for_annotation p) (AnnotationOpen b flags ∷ s) N
     (a_name w q ∷ i) → (o : List Lexeme) → PlainArguments i o → Behind (Flagging r b s) (λ M j. FlagRow b M j N o flags)
 named_done_at r h (annotation_open f g) o a = behind (effectless f h a) g
 
@@ -237,7 +237,7 @@ pair_then : {i j o : List Lexeme} → PlainPair i j → AfterPair j o → PlainP
 pair_then v none_after = last_pair v
 pair_then v (more_after vs) = more_pairs v vs
 
-pair_ended_stands : (r : Source) (N : List Node) (s : List Entry) (n : ℕ) (p : Pos) (o : List Lexeme) →
+pair_ended_stands : (r : Source) (N : List Node) (s : List Entry) (n : ℕ) (p : Position) (o : List Lexeme) →
     PairEnds r s N (a_sign n p ∷ o) → Leads r (pair_ended N s n) o
 unfolding machine Leads Stands
 pair_ended_stands r N s n p o h =
@@ -310,7 +310,7 @@ plain_assigned_stands r N s (a_word w p) o h = plain_value_stands r N s (a_word 
 plain_assigned_stands r N s (a_text w p) o h = plain_value_stands r N s (a_text w p) o h
 plain_assigned_stands r N s _ o h = tt
 
-plain_longer : {w v : List ℕ} {p q x : Pos} {i j : List Lexeme} → PlainValue (a_name v x ∷ i) j →
+plain_longer : {w v : List ℕ} {p q x : Position} {i j : List Lexeme} → PlainValue (a_name v x ∷ i) j →
     PlainValue (a_name w p ∷ a_sign sign_dot q ∷ a_name v x ∷ i) j
 plain_longer (plain_dotted d) = plain_dotted (dotted_longer d)
 
@@ -328,7 +328,7 @@ plain_end_stands r N s _ o h = tt
 
 -- ---- scopes' names
 
-valued_stands : (r : Source) (id : ℕ) (N : List Node) (s : List Entry) (n : ℕ) (x : Pos)
+valued_stands : (r : Source) (id : ℕ) (N : List Node) (s : List Entry) (n : ℕ) (x : Position)
     (o : List Lexeme) {M : List Node} {j : List Lexeme} → ScopeValue M j N (a_sign n x ∷ o) id → Due r for_value s M j →
     Leads r (valued id N s n) o
 unfolding machine Leads Stands first_word
@@ -358,7 +358,7 @@ pub value_open_stands : (r : Source) (N : List Node) (s : List Entry) (t : Lexem
     Stands r ValueOpen s N (t ∷ o) → Leads r (value_open_step N s t) o
 unfolding machine Leads Stands
 value_open_stands r N s (a_sign n p) o h =
-    on_number r (λ m. (x : Pos) (i : List Lexeme) → (a_sign m p ∷ o) ≡ (a_sign sign_left_parenthesis x ∷ i) →
+    on_number r (λ m. (x : Position) (i : List Lexeme) → (a_sign m p ∷ o) ≡ (a_sign sign_left_parenthesis x ∷ i) →
     Due r for_value s N i) n sign_left_parenthesis h _ _ o (λ k. k p o refl) tt
 value_open_stands r N s _ o h = tt
 
@@ -370,7 +370,7 @@ value_start_stands r N s (a_name w p) o d =
     on_name r (λ v. Due r for_value s N (a_name v p ∷ o)) w (codes "Scope") d _ _ o (λ k. k) (behind bare_scope d)
 value_start_stands r N s _ o d = tt
 
-pub value_scope_stands : (r : Source) (p : Pos) (N : List Node) (s : List Entry) (t : Lexeme) (o : List Lexeme) →
+pub value_scope_stands : (r : Source) (p : Position) (N : List Node) (s : List Entry) (t : Lexeme) (o : List Lexeme) →
     Stands r (ValueScope p) s N (t ∷ o) → Leads r (value_scope_step p N s t) o
 unfolding machine Leads Stands
 value_scope_stands r p N s (a_sign n q) o d =
@@ -378,20 +378,20 @@ value_scope_stands r p N s (a_sign n q) o d =
     (valued_stands r _ _ s n q o bare_scope d)
 value_scope_stands r p N s _ o d = tt
 
-pub value_dot_stands : (r : Source) (p : Pos) (N : List Node) (s : List Entry) (t : Lexeme) (o : List Lexeme) →
+pub value_dot_stands : (r : Source) (p : Position) (N : List Node) (s : List Entry) (t : Lexeme) (o : List Lexeme) →
     Stands r (ValueDot p) s N (t ∷ o) → Leads r (value_dot_step p N s t) o
 unfolding machine Leads Stands
 value_dot_stands r p N s (a_name w q) o (past d) = behind qualified_scope d
 value_dot_stands r p N s _ o d = tt
 
-pub define_open_stands : (r : Source) (p : Pos) (N : List Node) (s : List Entry) (t : Lexeme) (o : List Lexeme) →
+pub define_open_stands : (r : Source) (p : Position) (N : List Node) (s : List Entry) (t : Lexeme) (o : List Lexeme) →
     Stands r (DefineOpen p) s N (t ∷ o) → Leads r (define_open_step p N s t) o
 unfolding machine Leads Stands
 define_open_stands r p N s (a_sign n q) o d =
     on_number r (λ m. DefineBegun r p s N (a_sign m q ∷ o)) n sign_left_parenthesis d _ _ o (λ k. past k) tt
 define_open_stands r p N s _ o d = tt
 
-pub define_name_stands : (r : Source) (p : Pos) (N : List Node) (s : List Entry) (t : Lexeme) (o : List Lexeme) →
+pub define_name_stands : (r : Source) (p : Position) (N : List Node) (s : List Entry) (t : Lexeme) (o : List Lexeme) →
     Stands r (DefineName p) s N (t ∷ o) → Leads r (define_name_step p N s t) o
 unfolding machine Leads Stands first_word
 define_name_stands r p N s (a_name w q) o (past {p = x} d) =
@@ -401,12 +401,12 @@ define_name_stands r p N s (a_name w q) o (past {p = x} d) =
     (λ k. (x, q, k)) tt)
 define_name_stands r p N s _ o d = tt
 
-define_assign_at : (r : Source) {p x u q : Pos} {first : Bool} {s : List Entry} {N : List Node} {o : List Lexeme} →
+define_assign_at : (r : Source) {p x u q : Position} {first : Bool} {s : List Entry} {N : List Node} {o : List Lexeme} →
     DefineBegun r p s N (a_sign sign_left_parenthesis x ∷ a_name (first_word first) u ∷ a_sign sign_assign q ∷ o) →
     Due r for_value (DefineFirst p first ∷ s) N o
 define_assign_at r (define_begun h d) = define_first h d
 
-pub define_assign_stands : (r : Source) (p : Pos) (first : Bool) (N : List Node) (s : List Entry) (t : Lexeme)
+pub define_assign_stands : (r : Source) (p : Position) (first : Bool) (N : List Node) (s : List Entry) (t : Lexeme)
     (o : List Lexeme) → Stands r (DefineAssign p first) s N (t ∷ o) → Leads r (define_assign_step p first N s t) o
 unfolding machine Leads Stands
 define_assign_stands r p first N s (a_sign n q) o (x, u, d) =
@@ -415,19 +415,19 @@ define_assign_stands r p first N s (a_sign n q) o (x, u, d) =
     sign_assign d _ _ o (λ k. define_assign_at r k) tt
 define_assign_stands r p first N s _ o d = tt
 
-pub define_other_stands : (r : Source) (p : Pos) (first : Bool) (id : ℕ) (N : List Node) (s : List Entry) (t : Lexeme)
+pub define_other_stands : (r : Source) (p : Position) (first : Bool) (id : ℕ) (N : List Node) (s : List Entry) (t : Lexeme)
     (o : List Lexeme) → Stands r (DefineOther p first id) s N (t ∷ o) → Leads r (define_other_step p first id N s t) o
 unfolding machine Leads Stands
 define_other_stands r p first id N s (a_name w q) o d =
     on_name r (λ v. DefineRead r p first id s N (a_name v q ∷ o)) w (other_word first) d _ _ o (λ k. past k) tt
 define_other_stands r p first id N s _ o d = tt
 
-define_other_at : (r : Source) {p z q : Pos} {first : Bool} {id : ℕ} {s : List Entry} {N : List Node}
+define_other_at : (r : Source) {p z q : Position} {first : Bool} {id : ℕ} {s : List Entry} {N : List Node}
     {o : List Lexeme} → DefineRead r p first id s N (a_name (other_word first) z ∷ a_sign sign_assign q ∷ o) →
     Due r for_value (DefineSecond p first id ∷ s) N o
 define_other_at r (define_read (define_begun h d) v) = define_second h d v
 
-pub define_other_assign_stands : (r : Source) (p : Pos) (first : Bool) (id : ℕ) (N : List Node) (s : List Entry)
+pub define_other_assign_stands : (r : Source) (p : Position) (first : Bool) (id : ℕ) (N : List Node) (s : List Entry)
     (t : Lexeme) (o : List Lexeme) → Stands r (DefineOtherAssign p first id) s N (t ∷ o) →
     Leads r (define_other_assign_step p first id N s t) o
 unfolding machine Leads Stands

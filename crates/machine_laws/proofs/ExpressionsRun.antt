@@ -12,7 +12,7 @@ use Rattle.parser_machine.specs.declared.entries.Entry.{Entry}
 use Rattle.parser_machine.specs.declared.entries.Entry.TheVariants.{ArgumentsOpen, BinaryLeft, CallOpen, CastOpen, GroupOpen, IndexOpen, LengthOpen, NewOpen, Target, UnaryOpen}
 use Rattle.parser_machine.specs.declared.modes.Mode.TheVariants.{ArgumentFirst, ArgumentNext, ClosedName, DotName, Minus, NameRead, Opened, Operand, PostDone, TextRead}
 use Rattle.scj_base.specs.Vocabulary.{sign_dot, sign_left_bracket, sign_left_parenthesis, sign_minus, sign_not, sign_right_parenthesis, sign_tilde}
-use Rattle.scj_base.specs.declared.places.Pos.{Pos}
+use Rattle.scj_base.specs.declared.positions.Position.{Position}
 use Rattle.scj_tree.specs.Expressions.{ArgumentRead, ArgumentsBegun, ArgumentsRead, Level, PostRead, Unary1Read, UnaryRead, argument_and_comma, arguments, binary, call_of, cast, complement, element_of, expression_argument, false_value, field_of, minimum_number, minimum_unary, minus, negation, new_booleans, new_ints, new_object, new_references, no_argument_yet, no_arguments, null_value, number, operand, parenthesized, parenthesized_name, plain_unary, post_unary, simple_call, simple_name, text_argument, this_value, tighter, true_value}
 use Rattle.scj_tree.specs.Nodes.{put}
 use Rattle.scj_tree.specs.Lexemes.{Lexeme, a_name, a_number, a_sign, a_text, a_word, the_end}
@@ -25,13 +25,13 @@ use mathlib.Core.Bool.{true≢false}
 
 -- ---- single steps
 
-post_ended_is : (kind : PostKind) (p : Pos) (id : ℕ) (N : List Node) (s : List Entry) (t : Lexeme) →
+post_ended_is : (kind : PostKind) (p : Position) (id : ℕ) (N : List Node) (s : List Entry) (t : Lexeme) →
     awaits_target s ≡ false → post_ended kind p id N s t ≡ closed id N s t
 unfolding post_ended awaits_target
 post_ended_is kind p id N (Target ∷ s) t e = absurd (true≢false e)
 post_ended_is kind p id N s t e = refl
 
-post_done_run : (kind : PostKind) (p : Pos) (id : ℕ) (N : List Node) (s : List Entry) (o : List Lexeme) →
+post_done_run : (kind : PostKind) (p : Position) (id : ℕ) (N : List Node) (s : List Entry) (o : List Lexeme) →
     ends 11 o ≡ true → awaits_target s ≡ false → answer (at (PostDone kind p id) s N) o ≡ next (closed id N s) o
 unfolding machine ends continues
 post_done_run kind p id N s [] e h = refl
@@ -47,7 +47,7 @@ post_done_run kind p id N s (a_sign m q ∷ o) e h =
     ∙ ap (λ r. after r o) (post_ended_is kind p id N s (a_sign m q) h))
 post_done_run kind p id N s (the_end q ∷ o) e h = ap (λ r. after r o) (post_ended_is kind p id N s (the_end q) h)
 
-name_sign_is : (p : Pos) (w : List ℕ) (N : List Node) (s : List Entry) (m : ℕ) (q : Pos) (o : List Lexeme) →
+name_sign_is : (p : Position) (w : List ℕ) (N : List Node) (s : List Entry) (m : ℕ) (q : Position) (o : List Lexeme) →
     compound m ≡ None → stepping m ≡ None →
     after (name_sign_step p w N s m q) o ≡ after
     (post_step Variable p (length N) (put N (SimpleName p w)) s (a_sign m q)) o
@@ -55,7 +55,7 @@ unfolding name_sign_step target_name_step
 name_sign_is p w N (Target ∷ s) m q o e f = is_none_there _ _ _ o e ∙ is_none_there _ _ _ o f
 name_sign_is p w N s m q o e f = refl
 
-name_run : (p : Pos) (w : List ℕ) (N : List Node) (s : List Entry) (o : List Lexeme) → follows o ≡ true →
+name_run : (p : Position) (w : List ℕ) (N : List Node) (s : List Entry) (o : List Lexeme) → follows o ≡ true →
     answer (at (NameRead p w) s N) o ≡ answer (at (PostDone Variable p (length N)) s (put N (SimpleName p w))) o
 unfolding machine follows calls_on
 name_run p w N s [] e = refl
@@ -70,7 +70,7 @@ name_run p w N s (a_sign m q ∷ o) e =
     (none_of _ (or_right (is_some (compound m)) _ (or_right (m == sign_left_parenthesis) _ (not_true _ e))))
 name_run p w N s (the_end q ∷ o) e = refl
 
-dot_name_run : (x : ℕ) (p : Pos) (w : List ℕ) (N : List Node) (s : List Entry) (o : List Lexeme) → follows o ≡ true →
+dot_name_run : (x : ℕ) (p : Position) (w : List ℕ) (N : List Node) (s : List Entry) (o : List Lexeme) → follows o ≡ true →
     answer (at (DotName x p w) s N) o ≡ answer (at (PostDone Variable p (length N)) s (put N (FieldAccess p w x))) o
 unfolding machine follows calls_on
 dot_name_run x p w N s [] e = refl
@@ -81,7 +81,7 @@ dot_name_run x p w N s (a_text v q ∷ o) e = refl
 dot_name_run x p w N s (a_sign m q ∷ o) e = fails _ _ _ o (or_left (m == sign_left_parenthesis) _ (not_true _ e))
 dot_name_run x p w N s (the_end q ∷ o) e = refl
 
-minus_run : (p : Pos) (N : List Node) (s : List Entry) (i : List Lexeme) → begins_with_minimum i ≡ false →
+minus_run : (p : Position) (N : List Node) (s : List Entry) (i : List Lexeme) → begins_with_minimum i ≡ false →
     answer (at (Minus p) s N) i ≡ answer (at Operand (UnaryOpen p sign_minus ∷ s) N) i
 unfolding machine
 minus_run p N s [] e = refl
@@ -92,7 +92,7 @@ minus_run p N s (a_text w q ∷ o) e = refl
 minus_run p N s (a_sign n q ∷ o) e = refl
 minus_run p N s (the_end q ∷ o) e = refl
 
-opened_run : (p : Pos) (N : List Node) (s : List Entry) (i : List Lexeme) → closes_name i ≡ false →
+opened_run : (p : Position) (N : List Node) (s : List Entry) (i : List Lexeme) → closes_name i ≡ false →
     answer (at (Opened p) s N) i ≡ answer (at Operand (GroupOpen p ∷ s) N) i
 unfolding machine
 opened_run p N s [] e = refl
@@ -109,7 +109,7 @@ opened_run p N s (a_text w q ∷ o) e = refl
 opened_run p N s (a_sign n q ∷ o) e = refl
 opened_run p N s (the_end q ∷ o) e = refl
 
-closed_name_run : (p q : Pos) (w : List ℕ) (N : List Node) (s : List Entry) (o : List Lexeme) →
+closed_name_run : (p q : Position) (w : List ℕ) (N : List Node) (s : List Entry) (o : List Lexeme) →
     begins_unary1 o ≡ false →
     answer (at (ClosedName p q w) s N) o ≡ answer
     (at (PostDone Value p (length (put N (SimpleName q w)))) s
@@ -119,7 +119,7 @@ closed_name_run p q w N s [] e = refl
 closed_name_run p q w N s (t ∷ o) e =
     fails (is_unary1_start t && not (awaits_target s)) _ _ o (ap (λ b. b && not (awaits_target s)) e)
 
-cast_run : (p q : Pos) (w : List ℕ) (N : List Node) (s : List Entry) (i : List Lexeme) → begins_unary1 i ≡ true →
+cast_run : (p q : Position) (w : List ℕ) (N : List Node) (s : List Entry) (i : List Lexeme) → begins_unary1 i ≡ true →
     awaits_target s ≡ false → answer (at (ClosedName p q w) s N) i ≡ answer (at Operand (CastOpen p q w ∷ s) N) i
 unfolding machine
 cast_run p q w N s [] e h = refl
@@ -195,7 +195,7 @@ no_target n [] h = refl
 no_target n (Target ∷ s) h = never h
 no_target n (_ ∷ s) h = refl
 
-shift_run : (l : ℕ) (N : List Node) (s : List Entry) (op : ℕ) (p : Pos) (i : List Lexeme) →
+shift_run : (l : ℕ) (N : List Node) (s : List Entry) (op : ℕ) (p : Position) (i : List Lexeme) →
     opens_at (level op) s ≡ true → next (closed l N s) (a_sign op p ∷ i) ≡ answer (at Operand (BinaryLeft p op l ∷ s) N)
     i
 unfolding machine opens_at
@@ -208,7 +208,7 @@ no_less n = le-ltb n 0 (omega arith)
 pub below_level : (n m : ℕ) → nat_le m n ≡ true → nat_lt n m ≡ false
 below_level n m h = le-ltb _ _ (leb-true _ _ h)
 
-reduce_run : (r : ℕ) (N : List Node) (s : List Entry) (l op : ℕ) (p : Pos) (o : List Lexeme) →
+reduce_run : (r : ℕ) (N : List Node) (s : List Entry) (l op : ℕ) (p : Position) (o : List Lexeme) →
     ends (level op) o ≡ true → next (closed r N (BinaryLeft p op l ∷ s)) o ≡ next
     (closed (length N) (put N (Binary p op l r)) s) o
 unfolding machine ends
@@ -269,7 +269,7 @@ mutual
   unary1_run {N1 = N1} {o = o} {e = e} (post_unary {kind = kind} {p = p} d) h s g = post_run d (follows_of 11 o h) s
       ∙ post_done_run kind p e N1 s o h g
 
-  pub post_run : {m : Bool} {k : PostKind} {q : Pos} {N N1 : List Node} {i o : List Lexeme} {e : ℕ} →
+  pub post_run : {m : Bool} {k : PostKind} {q : Position} {N N1 : List Node} {i o : List Lexeme} {e : ℕ} →
       PostRead m k q N i N1 o e → follows o ≡ true → (s : List Entry) →
       answer (at Operand s N) i ≡ answer (at (PostDone k q e) s N1) o
   post_run {N = N} {o = o} (simple_name {w = w} {p = p}) h s = name_run p w N s o h

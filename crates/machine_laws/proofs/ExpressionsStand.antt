@@ -13,7 +13,7 @@ use Rattle.parser_machine.specs.declared.entries.Entry.{Entry}
 use Rattle.parser_machine.specs.declared.entries.Entry.TheVariants.{ArgumentsOpen, BinaryLeft, CastOpen, ConstructorBody, GroupOpen, Target, UnaryOpen}
 use Rattle.parser_machine.specs.declared.modes.Mode.TheVariants.{ArgumentFirst, ClosedName, Dot, DotName, Minus, NameRead, NewElement, NewName, NewStart, Opened, OpenedName, PostDone, TextRead}
 use Rattle.scj_base.specs.Vocabulary.{sign_and, sign_and_and, sign_assign, sign_comma, sign_dot, sign_equal, sign_greater, sign_greater_equal, sign_left_bracket, sign_left_parenthesis, sign_less, sign_less_equal, sign_minus, sign_not, sign_not_equal, sign_or, sign_or_or, sign_percent, sign_plus, sign_right_bracket, sign_right_parenthesis, sign_semicolon, sign_shift_left, sign_shift_right, sign_shift_right_unsigned, sign_slash, sign_star, sign_tilde, sign_xor, word_boolean, word_false, word_for, word_int, word_new, word_null, word_super, word_this, word_true}
-use Rattle.scj_base.specs.declared.places.Pos.{Pos}
+use Rattle.scj_base.specs.declared.positions.Position.{Position}
 use Rattle.scj_tree.specs.Expressions.{ArgumentRead, ArgumentsRead, Level, PostRead, Unary1Read, UnaryRead, argument_and_comma, arguments, binary, call_of, cast, complement, element_of, expression_argument, false_value, field_of, minimum_number, minimum_unary, minus, negation, new_booleans, new_ints, new_object, new_references, no_argument_yet, no_arguments, null_value, number, operand, parenthesized, parenthesized_name, plain_unary, post_unary, simple_call, simple_name, text_argument, this_value, tighter, true_value}
 use Rattle.scj_tree.specs.Nodes.{put}
 use Rattle.scj_tree.specs.Lexemes.{Lexeme, a_name, a_number, a_sign, a_text, a_word, the_end}
@@ -57,7 +57,7 @@ read_unary1 : {M N : List Node} {j o : List Lexeme} {id : ℕ} → Unary1Read M 
 read_unary1 d =
     record { levels = λ n h. looser n 11 h (operand (plain_unary d)); unary = λ h. plain_unary d; unary1 = λ h f. d }
 
-minimum_begins : {kind : PostKind} {p : Pos} {M N : List Node} {j o : List Lexeme} {id : ℕ} →
+minimum_begins : {kind : PostKind} {p : Position} {M N : List Node} {j o : List Lexeme} {id : ℕ} →
     PostRead true kind p M j N o id → begins_unary1 j ≡ false
 unfolding begins_unary1 is_unary1_start
 minimum_begins (field_of d) = minimum_begins d
@@ -65,7 +65,7 @@ minimum_begins (call_of d a) = minimum_begins d
 minimum_begins (element_of h d x) = minimum_begins d
 minimum_begins minimum_number = refl
 
-minimum_no_target : {kind : PostKind} {p : Pos} {M N : List Node} {j o : List Lexeme} {id : ℕ} →
+minimum_no_target : {kind : PostKind} {p : Position} {M N : List Node} {j o : List Lexeme} {id : ℕ} →
     PostRead true kind p M j N o id → starts_target j ≡ false
 unfolding starts_target
 minimum_no_target (field_of d) = minimum_no_target d
@@ -73,7 +73,7 @@ minimum_no_target (call_of d a) = minimum_no_target d
 minimum_no_target (element_of h d x) = minimum_no_target d
 minimum_no_target minimum_number = refl
 
-read_post : {minimum : Bool} {kind : PostKind} {p : Pos} {M N : List Node} {j o : List Lexeme} {id : ℕ} →
+read_post : {minimum : Bool} {kind : PostKind} {p : Position} {M N : List Node} {j o : List Lexeme} {id : ℕ} →
     PostRead minimum kind p M j N o id → Read 11 M j N o id
 read_post {minimum = true} d = read_unary (minimum_unary d) (minimum_begins d)
 read_post {minimum = false} d = read_unary1 (post_unary d)
@@ -117,13 +117,13 @@ assignment_of : {M N : List Node} {j o : List Lexeme} {id : ℕ} → SimpleRead 
 assignment_of (assigned_read d) = d
 assignment_of (local_read l t v) = no_local l
 
-statement_of : {M N : List Node} {j o : List Lexeme} {id : ℕ} {p : Pos} →
+statement_of : {M N : List Node} {j o : List Lexeme} {id : ℕ} {p : Position} →
     SimpleRead in_statement M j N (a_sign sign_semicolon p ∷ o) id → StatementRead M j N o id
 statement_of (assigned_read d) = assign_statement d
 statement_of (local_read (bare h) t v) = local_with_value (plain_local t) v
 statement_of (local_read (flagged h f) t v) = local_with_value (flagged_local h f t) v
 
-first_of_for : {M N : List Node} {j o : List Lexeme} {id : ℕ} {p q x : Pos} →
+first_of_for : {M N : List Node} {j o : List Lexeme} {id : ℕ} {p q x : Position} →
     SimpleRead in_first M j N (a_sign sign_semicolon x ∷ o) id →
     ForFirstRead p id M (a_word word_for p ∷ a_sign sign_left_parenthesis q ∷ j) N o
 first_of_for (assigned_read d) = first_assignment d
@@ -146,13 +146,13 @@ assigned_stands r id N s _ o v (simple_open d) = tt
 assigned_stands r id N s _ o v (for_head d) = tt
 assigned_stands r id N s _ o v (for_step f c d) = tt
 
-call_of_begun : {minimum : Bool} {p : Pos} {w : List ℕ} {object : Option ℕ} {M N N1 : List Node} {j i o : List Lexeme}
+call_of_begun : {minimum : Bool} {p : Position} {w : List ℕ} {object : Option ℕ} {M N N1 : List Node} {j i o : List Lexeme}
     {ids : List ℕ} → CallBegun minimum p w object M j N i → ArgumentsRead N i N1 o ids →
     PostRead minimum Invocation p M j (put N1 (Call p w object ids)) o (length N1)
 call_of_begun simple_begun a = simple_call a
 call_of_begun (call_begun d) a = call_of d a
 
-super_called : (r : Source) {b p u : Pos} {flags ps : Option ℕ} {q : Pos} {w : List ℕ} {s : List Entry}
+super_called : (r : Source) {b p u : Position} {flags ps : Option ℕ} {q : Position} {w : List ℕ} {s : List Entry}
     {M N : List Node} {i j : List Lexeme} {ids : List ℕ} → ArgumentsRead M i N j ids →
     Due r (for_body b) (ConstructorBody flags q w ps None ∷ s) M (a_word word_super p ∷ a_sign sign_left_parenthesis u
     ∷ i) → SuperEnds r b (ConstructorBody flags q w ps (Some (length N)) ∷ s) (put N (SuperCall p ids)) j
@@ -178,7 +178,7 @@ argument_ended_stands r id ids N s (a_sign n p) o {M} {i} a (arguments_open b d)
     (λ k. arguments_ended_stands r _ N s o (arguments b k) d) tt)
 argument_ended_stands r id ids N s _ o a d = tt
 
-target_alone_stands : (r : Source) (kind : PostKind) (p q : Pos) (id : ℕ) (N : List Node) (s : List Entry)
+target_alone_stands : (r : Source) (kind : PostKind) (p q : Position) (id : ℕ) (N : List Node) (s : List Entry)
     (o : List Lexeme) {k : Place} {M : List Node} {j : List Lexeme} →
     PostRead false kind p M j N (a_sign sign_semicolon q ∷ o) id → Due r (for_simple k) s M j →
     Leads r (target_alone kind p id N s) o
@@ -188,7 +188,7 @@ target_alone_stands r Invocation p q id N s o v (for_head d) = tt
 target_alone_stands r Invocation p q id N s o v (for_step f c d) = tt
 target_alone_stands r _ p q id N s o v d = tt
 
-target_assigned_stands : (r : Source) (kind : PostKind) (p q : Pos) (id : ℕ) (N : List Node) (s : List Entry)
+target_assigned_stands : (r : Source) (kind : PostKind) (p q : Position) (id : ℕ) (N : List Node) (s : List Entry)
     (o : List Lexeme) {k : Place} {M : List Node} {j : List Lexeme} →
     PostRead false kind p M j N (a_sign sign_assign q ∷ o) id → Due r (for_simple k) s M j →
     Leads r (target_assigned kind id q N s) o
@@ -196,7 +196,7 @@ unfolding machine Leads Stands
 target_assigned_stands r Variable p q id N s o v d = assign_value v d
 target_assigned_stands r _ p q id N s o v d = tt
 
-target_ended_stands : (r : Source) (kind : PostKind) (p : Pos) (id : ℕ) (N : List Node) (s : List Entry) (t : Lexeme)
+target_ended_stands : (r : Source) (kind : PostKind) (p : Position) (id : ℕ) (N : List Node) (s : List Entry) (t : Lexeme)
     (o : List Lexeme) {k : Place} {M : List Node} {j : List Lexeme} → PostRead false kind p M j N (t ∷ o) id →
     Due r (for_simple k) s M j → Leads r (target_ended kind p id N s t) o
 unfolding machine Leads Stands
@@ -209,7 +209,7 @@ target_ended_stands r kind p id N s _ o v d = tt
 
 -- ---- where expressions end
 
-elements_read : {p : Pos} {element e : ℕ} {M N N1 : List Node} {j i o : List Lexeme} {x y : Pos} →
+elements_read : {p : Position} {element e : ℕ} {M N N1 : List Node} {j i o : List Lexeme} {x y : Position} →
     LengthBegun p element M j N (a_sign sign_left_bracket x ∷ i) → Level 1 N i N1 (a_sign sign_right_bracket y ∷ o) e →
     PostRead false NewArrayKind p M j (put N1 (NewArray p element e)) o (length N1)
 elements_read ints d = new_ints d
@@ -273,7 +273,7 @@ below_more a b e = let f : a < b = ltb-true a b e in le-leb 1 b (omega arith)
 one_more : (b : ℕ) → nat_lt 0 b ≡ true → nat_le 1 b ≡ true
 one_more b e = below_more 0 b e
 
-unary_made : {op : ℕ} {p : Pos} {M N : List Node} {j o : List Lexeme} {id : ℕ} → UnaryKind op j → UnaryRead M j N o id →
+unary_made : {op : ℕ} {p : Position} {M N : List Node} {j o : List Lexeme} {id : ℕ} → UnaryKind op j → UnaryRead M j N o id →
     Read 11 M (a_sign op p ∷ j) (put N (Unary p op id)) o (length N)
 unfolding begins_unary1 is_unary1_start
 unary_made is_not d = read_unary1 (negation d)
@@ -342,7 +342,7 @@ closed_stands r k id N s t o v f h (return_open d) = closed_at r k id N _ _ t o 
 
 -- ---- behind names, calls and brackets
 
-post_ended_stands : (r : Source) (kind : PostKind) (p : Pos) (id : ℕ) (N : List Node) (s : List Entry) (t : Lexeme)
+post_ended_stands : (r : Source) (kind : PostKind) (p : Position) (id : ℕ) (N : List Node) (s : List Entry) (t : Lexeme)
     (o : List Lexeme) {minimum : Bool} {M : List Node} {j : List Lexeme} → PostRead minimum kind p M j N (t ∷ o) id →
     Due r for_operand s M j → Leads r (post_ended kind p id N s t) o
 unfolding post_ended
@@ -378,7 +378,7 @@ post_ended_stands r kind p id N s t o v (while_test d) =
 post_ended_stands r kind p id N s t o v (return_open d) =
     closed_stands r 11 id N _ t o (read_post v) (fits_all _) (level_at_most t) (return_open d)
 
-pub post_stands : (r : Source) (kind : PostKind) (p : Pos) (id : ℕ) (N : List Node) (s : List Entry) (t : Lexeme)
+pub post_stands : (r : Source) (kind : PostKind) (p : Position) (id : ℕ) (N : List Node) (s : List Entry) (t : Lexeme)
     (o : List Lexeme) {minimum : Bool} {M : List Node} {j : List Lexeme} → PostRead minimum kind p M j N (t ∷ o) id →
     Due r for_operand s M j → Leads r (post_step kind p id N s t) o
 unfolding machine Leads Stands
@@ -396,7 +396,7 @@ post_stands r kind p id N s (a_number n q) o v d = post_ended_stands r kind p id
 post_stands r kind p id N s (a_text n q) o v d = post_ended_stands r kind p id N s (a_text n q) o v d
 post_stands r kind p id N s (the_end q) o v d = post_ended_stands r kind p id N s (the_end q) o v d
 
-pub post_done_stands : (r : Source) (kind : PostKind) (p : Pos) (id : ℕ) (N : List Node) (s : List Entry) (t : Lexeme)
+pub post_done_stands : (r : Source) (kind : PostKind) (p : Position) (id : ℕ) (N : List Node) (s : List Entry) (t : Lexeme)
     (o : List Lexeme) → Stands r (PostDone kind p id) s N (t ∷ o) → Leads r (post_step kind p id N s t) o
 unfolding Stands
 post_done_stands r kind p id N s t o (behind (post_so v) d) = post_stands r kind p id N s t o v d
@@ -407,7 +407,7 @@ unfolding machine Leads Stands
 dot_stands r object N s (a_name w p) o h = h
 dot_stands r object N s _ o h = tt
 
-pub dot_name_stands : (r : Source) (object : ℕ) (p : Pos) (w : List ℕ) (N : List Node) (s : List Entry) (t : Lexeme)
+pub dot_name_stands : (r : Source) (object : ℕ) (p : Position) (w : List ℕ) (N : List Node) (s : List Entry) (t : Lexeme)
     (o : List Lexeme) → Stands r (DotName object p w) s N (t ∷ o) → Leads r (dot_name_step object p w N s t) o
 unfolding machine Leads Stands
 dot_name_stands r object p w N s (a_sign n q) o
@@ -428,7 +428,7 @@ dot_name_stands r object p w N s (the_end q) o (past (behind (object_so v) d)) =
 
 -- ---- names
 
-target_name_stands : (r : Source) (p : Pos) (w : List ℕ) (N : List Node) (s : List Entry) (n : ℕ) (q : Pos)
+target_name_stands : (r : Source) (p : Position) (w : List ℕ) (N : List Node) (s : List Entry) (n : ℕ) (q : Position)
     (o : List Lexeme) {k : Place} → starts_target (a_name w p ∷ a_sign n q ∷ o) ≡ true →
     Due r (for_simple k) s N (a_name w p ∷ a_sign n q ∷ o) → Leads r (target_name_step p w N s n q) o
 unfolding machine Leads Stands
@@ -437,13 +437,13 @@ target_name_stands r p w N s n q o h d =
     (λ e. leads_option r (stepping n) _ _ o (λ op f. assigned_so (assigned_read (step_assignment f)) d)
     (λ f. post_stands r Variable p _ _ (Target ∷ s) (a_sign n q) o simple_name (target h d)))
 
-name_sign_stands : (r : Source) (p : Pos) (w : List ℕ) (N : List Node) (s : List Entry) (n : ℕ) (q : Pos)
+name_sign_stands : (r : Source) (p : Position) (w : List ℕ) (N : List Node) (s : List Entry) (n : ℕ) (q : Position)
     (o : List Lexeme) → Due r for_operand s N (a_name w p ∷ a_sign n q ∷ o) → Leads r (name_sign_step p w N s n q) o
 unfolding name_sign_step
 name_sign_stands r p w N (Target ∷ s) n q o (target h d) = target_name_stands r p w N s n q o h d
 name_sign_stands r p w N s n q o d = post_stands r Variable p _ _ s (a_sign n q) o simple_name d
 
-pub name_stands : (r : Source) (p : Pos) (w : List ℕ) (N : List Node) (s : List Entry) (t : Lexeme) (o : List Lexeme) →
+pub name_stands : (r : Source) (p : Position) (w : List ℕ) (N : List Node) (s : List Entry) (t : Lexeme) (o : List Lexeme) →
     Stands r (NameRead p w) s N (t ∷ o) → Leads r (name_step p w N s t) o
 unfolding machine Leads Stands
 name_stands r p w N s (a_sign n q) o d =
@@ -458,7 +458,7 @@ name_stands r p w N s (the_end q) o d = post_stands r Variable p _ _ s (the_end 
 -- ---- where an operand is due
 
 -- a target begins with no sign but `(`
-no_target : (r : Source) {s : List Entry} {N : List Node} {n : ℕ} {p : Pos} {o : List Lexeme} →
+no_target : (r : Source) {s : List Entry} {N : List Node} {n : ℕ} {p : Position} {o : List Lexeme} →
     Due r for_operand s N (a_sign n p ∷ o) → (n == sign_left_parenthesis) ≡ false → awaits_target s ≡ false
 unfolding starts_target awaits_target
 no_target r (target h d) e = absurd (true≢false (sym h ∙ e))
@@ -477,13 +477,13 @@ no_target r (if_test d) e = refl
 no_target r (while_test d) e = refl
 no_target r (return_open d) e = refl
 
-unary_at : (r : Source) {s : List Entry} {N : List Node} {n : ℕ} {p : Pos} {o : List Lexeme} → UnaryKind n o →
+unary_at : (r : Source) {s : List Entry} {N : List Node} {n : ℕ} {p : Position} {o : List Lexeme} → UnaryKind n o →
     Due r for_operand s N (a_sign n p ∷ o) → Due r for_operand (UnaryOpen p n ∷ s) N o
 unary_at r is_not d = unary_open is_not (no_target r d refl) d
 unary_at r is_tilde d = unary_open is_tilde (no_target r d refl) d
 unary_at r (is_minus h) d = unary_open (is_minus h) (no_target r d refl) d
 
-operand_sign_stands : (r : Source) (n : ℕ) (p : Pos) (N : List Node) (s : List Entry) (o : List Lexeme) →
+operand_sign_stands : (r : Source) (n : ℕ) (p : Position) (N : List Node) (s : List Entry) (o : List Lexeme) →
     Due r for_operand s N (a_sign n p ∷ o) → Leads r (operand_sign n p N s) o
 unfolding machine Leads Stands
 operand_sign_stands r n p N s o d =
@@ -497,7 +497,7 @@ operand_sign_stands r n p N s o d =
     either_kind false c e =
         subst (λ m. UnaryKind m o) (sym (eqb-true n sign_tilde (ap (λ b. b || n == sign_tilde) (sym c) ∙ e))) is_tilde
 
-operand_word_stands : (r : Source) (n : ℕ) (p : Pos) (N : List Node) (s : List Entry) (o : List Lexeme) →
+operand_word_stands : (r : Source) (n : ℕ) (p : Position) (N : List Node) (s : List Entry) (o : List Lexeme) →
     Due r for_operand s N (a_word n p ∷ o) → Leads r (operand_word n p N s) o
 unfolding machine Leads Stands
 operand_word_stands r n p N s o d =
@@ -519,7 +519,7 @@ operand_start_stands r N s (a_text w p) o d = tt
 operand_start_stands r N s (a_sign n p) o d = operand_sign_stands r n p N s o d
 operand_start_stands r N s (the_end p) o d = tt
 
-minus_number : (r : Source) {n : ℕ} {p q : Pos} {s : List Entry} {N : List Node} {o : List Lexeme} →
+minus_number : (r : Source) {n : ℕ} {p q : Position} {s : List Entry} {N : List Node} {o : List Lexeme} →
     (n == 2147483648) ≡ true → Due r for_operand s N (a_sign sign_minus p ∷ a_number n q ∷ o) →
     Behind (Due r for_operand s) (PostSo Value p (length N) (put N (Number p n true)) o)
 minus_number r {n} {p} {q} {s} {N} {o} e d =
@@ -528,7 +528,7 @@ minus_number r {n} {p} {q} {s} {N} {o} e d =
     (behind (post_so minimum_number)
     (subst (λ m. Due r for_operand s N (a_sign sign_minus p ∷ a_number m q ∷ o)) c d))
 
-pub minus_stands : (r : Source) (p : Pos) (N : List Node) (s : List Entry) (t : Lexeme) (o : List Lexeme) →
+pub minus_stands : (r : Source) (p : Position) (N : List Node) (s : List Entry) (t : Lexeme) (o : List Lexeme) →
     Stands r (Minus p) s N (t ∷ o) → Leads r (minus_step p N s t) o
 unfolding machine Leads Stands
 minus_stands r p N s (a_number n q) o (a, d) =
@@ -542,7 +542,7 @@ minus_stands r p N s (a_sign n q) o (a, d) = operand_start_stands r N (UnaryOpen
     (unary_open (is_minus refl) a d)
 minus_stands r p N s _ o (a, d) = tt
 
-pub opened_stands : (r : Source) (p : Pos) (N : List Node) (s : List Entry) (t : Lexeme) (o : List Lexeme) →
+pub opened_stands : (r : Source) (p : Position) (N : List Node) (s : List Entry) (t : Lexeme) (o : List Lexeme) →
     Stands r (Opened p) s N (t ∷ o) → Leads r (opened_step p N s t) o
 unfolding machine Leads Stands
 opened_stands r p N s (a_name w q) o d = d
@@ -551,7 +551,7 @@ opened_stands r p N s (a_number n q) o d = operand_start_stands r N _ (a_number 
 opened_stands r p N s (a_sign n q) o d = operand_start_stands r N _ (a_sign n q) o (group_open refl d)
 opened_stands r p N s _ o d = tt
 
-pub opened_name_stands : (r : Source) (p q : Pos) (w : List ℕ) (N : List Node) (s : List Entry) (t : Lexeme)
+pub opened_name_stands : (r : Source) (p q : Position) (w : List ℕ) (N : List Node) (s : List Entry) (t : Lexeme)
     (o : List Lexeme) → Stands r (OpenedName p q w) s N (t ∷ o) → Leads r (opened_name_step p q w N s t) o
 unfolding machine Leads Stands
 opened_name_stands r p q w N s (a_sign n x) o d = leads_if r (n == sign_right_parenthesis) _ _ o
@@ -569,7 +569,7 @@ opened_name_stands r p q w N s (a_text n x) o d =
 opened_name_stands r p q w N s (the_end x) o d = name_stands r q w N (GroupOpen p ∷ s) (the_end x) o (group_open refl d)
 
 -- behind a target no cast follows
-not_cast_stands : (r : Source) (p : Pos) (id : ℕ) (N : List Node) (s : List Entry) (t : Lexeme) (o : List Lexeme) →
+not_cast_stands : (r : Source) (p : Position) (id : ℕ) (N : List Node) (s : List Entry) (t : Lexeme) (o : List Lexeme) →
     awaits_target s ≡ true → is_unary1_start t ≡ true → Leads r (post_step Value p id N s t) o
 unfolding machine Leads Stands
 not_cast_stands r p id N (Target ∷ s) (a_sign n x) o a h =
@@ -587,7 +587,7 @@ not_cast_stands r p id N (Target ∷ s) (a_sign n x) o a h =
 not_cast_stands r p id N (Target ∷ s) _ o a h = tt
 not_cast_stands r p id N _ t o a h = absurd (true≢false (sym a))
 
-closed_name_at : (r : Source) (b c : Bool) (p q : Pos) (w : List ℕ) (N : List Node) (s : List Entry) (t : Lexeme)
+closed_name_at : (r : Source) (b c : Bool) (p q : Position) (w : List ℕ) (N : List Node) (s : List Entry) (t : Lexeme)
     (o : List Lexeme) → is_unary1_start t ≡ b → awaits_target s ≡ c → Stands r (ClosedName p q w) s N (t ∷ o) →
     Leads r
     (if b && not c then operand_start N (CastOpen p q w ∷ s) t else post_step Value p (length (put N (SimpleName q w)))
@@ -598,14 +598,14 @@ closed_name_at r true false p q w N s t o e f (past d) =
 closed_name_at r true true p q w N s t o e f (past d) = not_cast_stands r p _ _ s t o f e
 closed_name_at r false c p q w N s t o e f (past d) = post_stands r Value p _ _ s t o (parenthesized_name e) d
 
-pub closed_name_stands : (r : Source) (p q : Pos) (w : List ℕ) (N : List Node) (s : List Entry) (t : Lexeme)
+pub closed_name_stands : (r : Source) (p q : Position) (w : List ℕ) (N : List Node) (s : List Entry) (t : Lexeme)
     (o : List Lexeme) → Stands r (ClosedName p q w) s N (t ∷ o) → Leads r (closed_name_step p q w N s t) o
 unfolding closed_name_step
 closed_name_stands r p q w N s t o h = closed_name_at r (is_unary1_start t) (awaits_target s) p q w N s t o refl refl h
 
 -- ---- behind `new`
 
-pub new_stands : (r : Source) (p : Pos) (N : List Node) (s : List Entry) (t : Lexeme) (o : List Lexeme) →
+pub new_stands : (r : Source) (p : Position) (N : List Node) (s : List Entry) (t : Lexeme) (o : List Lexeme) →
     Stands r (NewStart p) s N (t ∷ o) → Leads r (new_step p N s t) o
 unfolding machine Leads Stands
 new_stands r p N s (a_name w q) o d = d
@@ -616,7 +616,7 @@ new_stands r p N s (a_word n q) o d =
     (λ k. behind booleans k) tt)
 new_stands r p N s _ o d = tt
 
-pub new_name_stands : (r : Source) (p q : Pos) (w : List ℕ) (N : List Node) (s : List Entry) (t : Lexeme)
+pub new_name_stands : (r : Source) (p q : Position) (w : List ℕ) (N : List Node) (s : List Entry) (t : Lexeme)
     (o : List Lexeme) → Stands r (NewName p q w) s N (t ∷ o) → Leads r (new_name_step p q w N s t) o
 unfolding machine Leads Stands
 new_name_stands r p q w N s (a_sign n x) o d =
@@ -626,7 +626,7 @@ new_name_stands r p q w N s (a_sign n x) o d =
     _ o (λ k. length_open references k) tt)
 new_name_stands r p q w N s _ o d = tt
 
-pub new_element_stands : (r : Source) (p : Pos) (element : ℕ) (N : List Node) (s : List Entry) (t : Lexeme)
+pub new_element_stands : (r : Source) (p : Position) (element : ℕ) (N : List Node) (s : List Entry) (t : Lexeme)
     (o : List Lexeme) → Stands r (NewElement p element) s N (t ∷ o) → Leads r (new_element_step p element N s t) o
 unfolding machine Leads Stands
 new_element_stands r p element N s (a_sign n x) o (behind {N = M} {i = j} b d) =

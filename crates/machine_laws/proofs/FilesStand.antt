@@ -10,7 +10,7 @@ use Rattle.parser_machine.specs.declared.entries.Entry.{Entry}
 use Rattle.parser_machine.specs.declared.entries.Entry.TheVariants.{FileOpen}
 use Rattle.parser_machine.specs.declared.modes.Mode.TheVariants.{ClassName, ClassNamed, FileStart, ImportDot, ImportEnd, ImportName, ImportStar, ImportStart, PackageEnd, PackageName, SuperArgumentEnd, SuperArgumentName, SuperName, SuperNamed}
 use Rattle.scj_base.specs.Vocabulary.{sign_comma, sign_dot, sign_greater, sign_left_brace, sign_less, sign_semicolon, sign_star, word_extends, word_implements, word_import, word_package, word_static}
-use Rattle.scj_base.specs.declared.places.Pos.{Pos}
+use Rattle.scj_base.specs.declared.positions.Position.{Position}
 use Rattle.scj_tree.specs.Grammar.{ClassesRead, Tree, file, file_of_package, no_class, no_member}
 use Rattle.scj_tree.specs.Headers.{HeaderRead, Imported, SuperRead, dotted_longer, dotted_name, extends_header, extends_implements_header, implements_header, imported_all, imported_name, interface_and_comma, no_flag, no_header, no_imports, no_interface_yet, plain_import, static_import, super_type, super_type_with_argument}
 use Rattle.scj_tree.specs.Nodes.{put}
@@ -52,7 +52,7 @@ import_start_stands r N s (a_word n p) o (file_due a (past {p = q} h)) =
 import_start_stands r N s (a_name w p) o (file_due a (past h)) = file_due a (w, p, λ u j d i e. h i (plain_import d e))
 import_start_stands r N s _ o h = tt
 
-import_longer : {w v : List ℕ} {p q x : Pos} {i j : List Lexeme} → Imported (a_name v x ∷ i) j →
+import_longer : {w v : List ℕ} {p q x : Position} {i j : List Lexeme} → Imported (a_name v x ∷ i) j →
     Imported (a_name w p ∷ a_sign sign_dot q ∷ a_name v x ∷ i) j
 import_longer (imported_name d) = imported_name (dotted_longer d)
 import_longer (imported_all d) = imported_all (dotted_longer d)
@@ -195,7 +195,7 @@ super_ended_stands r id N s _ o v (supers_open extends_begun d) = tt
 super_ended_stands r id N s _ o v (supers_open (implements_begun is) d) = tt
 super_ended_stands r id N s _ o v (supers_open (both_begun u is) d) = tt
 
-pub super_named_stands : (r : Source) (p : Pos) (w : List ℕ) (N : List Node) (s : List Entry) (t : Lexeme)
+pub super_named_stands : (r : Source) (p : Position) (w : List ℕ) (N : List Node) (s : List Entry) (t : Lexeme)
     (o : List Lexeme) → Stands r (SuperNamed p w) s N (t ∷ o) → Leads r (super_named_step p w N s t) o
 unfolding machine Leads Stands
 super_named_stands r p w N s (a_sign n q) o d =
@@ -208,18 +208,18 @@ super_named_stands r p w N s (a_number n q) o d = super_ended_stands r _ _ s (a_
 super_named_stands r p w N s (a_text n q) o d = super_ended_stands r _ _ s (a_text n q) o super_type d
 super_named_stands r p w N s (the_end q) o d = super_ended_stands r _ _ s (the_end q) o super_type d
 
-pub super_argument_name_stands : (r : Source) (p : Pos) (w : List ℕ) (N : List Node) (s : List Entry) (t : Lexeme)
+pub super_argument_name_stands : (r : Source) (p : Position) (w : List ℕ) (N : List Node) (s : List Entry) (t : Lexeme)
     (o : List Lexeme) → Stands r (SuperArgumentName p w) s N (t ∷ o) → Leads r (super_argument_name_step p w N s t) o
 unfolding machine Leads Stands
 super_argument_name_stands r p w N s (a_name v q) o (h, past d) = behind (argument_begun h) d
 super_argument_name_stands r p w N s _ o h = tt
 
-super_argument : {p : Pos} {w : List ℕ} {a : ℕ} {M N : List Node} {j o : List Lexeme} {x : Pos} →
+super_argument : {p : Position} {w : List ℕ} {a : ℕ} {M N : List Node} {j o : List Lexeme} {x : Position} →
     TypeArgumentBegun p w a M j N (a_sign sign_greater x ∷ o) →
     SuperRead M j (put N (SuperType p w (Some a))) o (length N)
 super_argument (argument_begun h) = super_type_with_argument h
 
-pub super_argument_end_stands : (r : Source) (p : Pos) (w : List ℕ) (a : ℕ) (N : List Node) (s : List Entry)
+pub super_argument_end_stands : (r : Source) (p : Position) (w : List ℕ) (a : ℕ) (N : List Node) (s : List Entry)
     (t : Lexeme) (o : List Lexeme) → Stands r (SuperArgumentEnd p w a) s N (t ∷ o) →
     Leads r (super_argument_end_step p w a N s t) o
 unfolding machine Leads Stands

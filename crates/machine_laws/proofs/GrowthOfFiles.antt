@@ -5,7 +5,7 @@ use Rattle.std.proofs.lemmas.Bool.Decides.{nat_tests}
 use Rattle.std.specs.Prelude.{Bool, List, None, Option, Some, [], false, if◌then◌else◌, length, nat_lt, not, slice_get, suc, true, zero, ℕ, ◌&&◌, ◌++◌, ◌+◌, ◌<◌, ◌==◌, ◌∷◌, ◌≡◌, ◌≤◌}
 use Rattle.machine_laws.proofs.Growth.{Grown, and_then, below-grows, below-low, below-one, counted, made, none_grown, times-none}
 use Rattle.scj_base.specs.Vocabulary.{word_abstract, word_final, word_private, word_protected, word_public, word_static, word_synchronized}
-use Rattle.scj_base.specs.declared.places.Pos.{Pos}
+use Rattle.scj_base.specs.declared.positions.Position.{Position}
 use Rattle.scj_tree.proofs.ForestLemmas.{AllClasses-append, AllClasses-more, joined-append, times-append}
 use Rattle.scj_tree.specs.Counts.{times}
 use Rattle.scj_tree.specs.Expressions.{ArgumentRead, ArgumentsBegun, ArgumentsRead, Level, PostRead, Unary1Read, UnaryRead, argument_and_comma, arguments, binary, call_of, cast, complement, element_of, expression_argument, false_value, field_of, minimum_number, minimum_unary, minus, negation, new_booleans, new_ints, new_object, new_references, no_argument_yet, no_arguments, null_value, number, operand, parenthesized, parenthesized_name, plain_unary, post_unary, simple_call, simple_name, text_argument, this_value, tighter, true_value}
@@ -35,10 +35,10 @@ none_is_some {A} {B} a e = let P : Option A → Type 0 = λ x. elim x [ None ↦
 some_is_none : {A : Type 0} {B : Type 0} (a : A) → Some a ≡ None → B
 some_is_none a e = none_is_some a (sym e)
 
-abbrev or_place : Pos → Option Pos → Option Pos
+abbrev or_place : Position → Option Position → Option Position
 or_place p position = elim position [ None ↦ Some p | Some q ↦ Some q ]
 
-placed_somewhere : {B : Type 0} (p : Pos) (flags : FlagSet) (position : Option Pos) → or_place p position ≡ None → B
+placed_somewhere : {B : Type 0} (p : Position) (flags : FlagSet) (position : Option Position) → or_place p position ≡ None → B
 placed_somewhere p flags None e = some_is_none p e
 placed_somewhere p flags (Some q) e = some_is_none q e
 
@@ -85,7 +85,7 @@ added_ids is_local w flags more = choose (is_local && not (w == word_final)) _ _
     (modifier_ids w flags more)
 
 -- flags without effect have no nodes
-no_effect : (position : Option Pos) (a b c : Option ℕ) (x0 x1 x2 x3 x4 x5 x6 : Bool) →
+no_effect : (position : Option Position) (a b c : Option ℕ) (x0 x1 x2 x3 x4 x5 x6 : Bool) →
     has_effect
     (record {
       position = position;
@@ -165,7 +165,7 @@ row_grown (define_scope_flag_parent_first {N3 = N3} {flags = flags} d h v w) =
     (λ x. define_scope_times flags.define_scope flags.scope flags.runs_in (length N3) x h)
 
 -- the flags' node, where there is one
-flags_put : (N N1 : List Node) (flags : FlagSet) (effect : Bool) (position : Option Pos) →
+flags_put : (N N1 : List Node) (flags : FlagSet) (effect : Bool) (position : Option Position) →
     (effect ≡ false → flag_ids flags ≡ []) → (position ≡ None → flag_ids flags ≡ []) → Grown N N1 (flag_ids flags) →
     let node : Option Node = if effect then elim position [ None ↦ None | Some p ↦ Some (flags_at p flags) ] else None in
     Grown N (elim node [ None ↦ N1 | Some m ↦ N1 ++ m ∷ [] ])
@@ -258,7 +258,7 @@ mutual
   unary1_grown (cast h d) = made _ (unary1_grown d)
   unary1_grown (post_unary d) = post_grown d
 
-  post_grown : {minimum : Bool} {kind : PostKind} {p : Pos} {N N1 : List Node} {i o : List Lexeme} {id : ℕ} →
+  post_grown : {minimum : Bool} {kind : PostKind} {p : Position} {N N1 : List Node} {i o : List Lexeme} {id : ℕ} →
       PostRead minimum kind p N i N1 o id → Grown N N1 (id ∷ [])
   post_grown simple_name = made _ (none_grown _)
   post_grown (simple_call d) = made _ (arguments_grown d)

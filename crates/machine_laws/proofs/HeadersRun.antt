@@ -10,7 +10,7 @@ use Rattle.parser_machine.specs.declared.entries.Entry.{Entry}
 use Rattle.parser_machine.specs.declared.entries.Entry.TheVariants.{AnnotationOpen, ClassBody, DefineFirst, DefineSecond, LocalOpen, MemberOpen, ParameterOpen, ParametersOpen, RunsInOpen, ScopeOpen, Simple}
 use Rattle.parser_machine.specs.declared.modes.Mode.TheVariants.{FlagsRead, ImportDot, ImportEnd, ImportName, ImportStart, InImports, PackageEnd, PackageName, ParameterDone, PlainAssigned, PlainDot, PlainFirst, PlainNext, PlainOpen, PlainPath, ValueStart}
 use Rattle.scj_base.specs.Vocabulary.{sign_assign, sign_at, sign_comma, sign_dot, sign_greater, sign_left_bracket, sign_left_parenthesis, sign_right_bracket, sign_right_parenthesis, sign_semicolon}
-use Rattle.scj_base.specs.declared.places.Pos.{Pos}
+use Rattle.scj_base.specs.declared.positions.Position.{Position}
 use Rattle.scj_tree.specs.Headers.{Dotted, FlagRow, Imported, Imports, ParameterRead, ParametersBegun, PlainArguments, PlainPair, PlainPairs, PlainValue, ScopeValue, TypeRead, argument_array, argument_type, bare_scope, boolean_array, boolean_type, class_array, class_type, define_scope_flag, define_scope_flag_parent_first, dotted_longer, dotted_name, effectless, empty_parentheses, imported_all, imported_name, int_array, int_type, last_pair, modifier, more_pairs, named_value, no_flag, no_imports, no_parameter_yet, no_parentheses, pairs_in_parentheses, parameter, parameter_and_comma, plain_dotted, plain_false, plain_import, plain_text, plain_true, qualified_scope, quoted_scope, runs_in_flag, scope_flag, static_import, value_alone}
 use Rattle.scj_tree.specs.Nodes.{put}
 use Rattle.scj_tree.specs.Lexemes.{Lexeme, a_name, a_number, a_sign, a_text, a_word, the_end}
@@ -46,13 +46,13 @@ unfolding machine
 import_start_run dotted_name s N = refl
 import_start_run (dotted_longer d) s N = import_dot_run d s N
 
-plain_import_run : {i o : List Lexeme} {p : Pos} → Imported i (a_sign sign_semicolon p ∷ o) →
+plain_import_run : {i o : List Lexeme} {p : Position} → Imported i (a_sign sign_semicolon p ∷ o) →
     (s : List Entry) (N : List Node) → answer (at ImportStart s N) i ≡ answer (at InImports s N) o
 unfolding machine
 plain_import_run (imported_name d) s N = import_start_run d s N
 plain_import_run (imported_all d) s N = import_start_run d s N
 
-static_import_run : {i o : List Lexeme} {p : Pos} → Imported i (a_sign sign_semicolon p ∷ o) →
+static_import_run : {i o : List Lexeme} {p : Position} → Imported i (a_sign sign_semicolon p ∷ o) →
     (s : List Entry) (N : List Node) → answer (at ImportName s N) i ≡ answer (at InImports s N) o
 unfolding machine
 static_import_run (imported_name d) s N = import_name_run d s N
@@ -74,7 +74,7 @@ plain_dot_run dotted_name s N = refl
 plain_dot_run (dotted_longer d) s N = plain_dot_run d s N
 
 -- a pair and the comma or `)` behind it
-alone_run : {i o : List Lexeme} {n : ℕ} {p : Pos} → PlainValue i (a_sign n p ∷ o) → (s : List Entry) (N : List Node) →
+alone_run : {i o : List Lexeme} {n : ℕ} {p : Position} → PlainValue i (a_sign n p ∷ o) → (s : List Entry) (N : List Node) →
     (n == sign_dot) ≡ false → (n == sign_assign) ≡ false → answer (at PlainNext s N) i ≡ after (pair_ended N s n) o
 unfolding machine
 alone_run plain_text s N h g = refl
@@ -83,7 +83,7 @@ alone_run (plain_dotted (dotted_longer d)) s N h g = plain_dot_run d s N ∙ fai
 alone_run plain_true s N h g = refl
 alone_run plain_false s N h g = refl
 
-named_run : {i o : List Lexeme} {n : ℕ} {p : Pos} → PlainValue i (a_sign n p ∷ o) → (s : List Entry) (N : List Node) →
+named_run : {i o : List Lexeme} {n : ℕ} {p : Position} → PlainValue i (a_sign n p ∷ o) → (s : List Entry) (N : List Node) →
     (n == sign_dot) ≡ false → answer (at PlainAssigned s N) i ≡ after (pair_ended N s n) o
 unfolding machine
 named_run plain_text s N h = refl
@@ -92,7 +92,7 @@ named_run (plain_dotted (dotted_longer d)) s N h = plain_dot_run d s N ∙ fails
 named_run plain_true s N h = refl
 named_run plain_false s N h = refl
 
-pair_run : {i o : List Lexeme} {n : ℕ} {p : Pos} → PlainPair i (a_sign n p ∷ o) → (s : List Entry) (N : List Node) →
+pair_run : {i o : List Lexeme} {n : ℕ} {p : Position} → PlainPair i (a_sign n p ∷ o) → (s : List Entry) (N : List Node) →
     (n == sign_dot) ≡ false → (n == sign_assign) ≡ false → answer (at PlainNext s N) i ≡ after (pair_ended N s n) o
 unfolding machine
 pair_run (value_alone v) s N h g = alone_run v s N h g
@@ -152,13 +152,13 @@ plain_run (pairs_in_parentheses ps) b flags s N h = pairs_first ps (AnnotationOp
 same_is : (w v : List ℕ) → is_same w v ≡ true → w ≡ v
 same_is w v e = (bytes_decides w v).0 e
 
-bare_scope_name : (N : List Node) (p : Pos) (o : List Lexeme) (n : ℕ) (q : Pos) (s : List Entry) →
+bare_scope_name : (N : List Node) (p : Position) (o : List Lexeme) (n : ℕ) (q : Position) (s : List Entry) →
     (n == sign_dot) ≡ false → answer (at ValueStart s N) (a_name (codes "Scope") p ∷ a_sign n q ∷ o) ≡ after
     (valued (length N) (put N (ScopeName p (codes "Scope"))) s n) o
 unfolding machine
 bare_scope_name N p o n q s h = fails _ _ _ _ h
 
-bare_run : (N : List Node) (w : List ℕ) (p : Pos) (o : List Lexeme) (n : ℕ) (q : Pos) (s : List Entry) →
+bare_run : (N : List Node) (w : List ℕ) (p : Position) (o : List Lexeme) (n : ℕ) (q : Position) (s : List Entry) →
     (n == sign_dot) ≡ false → (b : Bool) → is_same w (codes "Scope") ≡ b →
     answer (at ValueStart s N) (a_name w p ∷ a_sign n q ∷ o) ≡ after (valued (length N) (put N (ScopeName p w)) s n) o
 unfolding machine
@@ -169,7 +169,7 @@ bare_run N w p o n q s h true e =
     (valued (length N) (put N (ScopeName p v)) s n) o) (sym (same_is w (codes "Scope") e))
     (bare_scope_name N p o n q s h)
 
-value_run : {N N1 : List Node} {i o : List Lexeme} {n id : ℕ} {q : Pos} → ScopeValue N i N1 (a_sign n q ∷ o) id →
+value_run : {N N1 : List Node} {i o : List Lexeme} {n id : ℕ} {q : Position} → ScopeValue N i N1 (a_sign n q ∷ o) id →
     (s : List Entry) → (n == sign_dot) ≡ false → answer (at ValueStart s N) i ≡ after (valued id N1 s n) o
 unfolding machine
 value_run {o = o} {n = n} {q = q} (quoted_scope e) s h = holds _ _ _ (a_sign n q ∷ o) e
@@ -177,33 +177,33 @@ value_run bare_scope s h = bare_run _ _ _ _ _ _ s h _ refl
 value_run qualified_scope s h = refl
 
 -- a modifier
-modifier_run : (N : List Node) (w : ℕ) (p : Pos) (o : List Lexeme) (b : Bool) (flags more : FlagSet) (s : List Entry) →
+modifier_run : (N : List Node) (w : ℕ) (p : Position) (o : List Lexeme) (b : Bool) (flags more : FlagSet) (s : List Entry) →
     add_modifier b w flags ≡ Some more → answer (at (FlagsRead b flags) s N) (a_word w p ∷ o) ≡ answer
     (at (FlagsRead b (placed p more)) s N) o
 unfolding machine
 modifier_run N w p o b flags more s e = is_some_there _ _ _ _ _ e
 
-effectless_run : (N : List Node) (w : List ℕ) (p q : Pos) (i : List Lexeme) (b : Bool) (flags : FlagSet)
+effectless_run : (N : List Node) (w : List ℕ) (p q : Position) (i : List Lexeme) (b : Bool) (flags : FlagSet)
     (s : List Entry) → is_effectless w ≡ true → answer (at (FlagsRead b flags) s N) (a_sign sign_at p ∷ a_name w q ∷ i)
     ≡ answer (at PlainOpen (AnnotationOpen b (placed p flags) ∷ s) N) i
 unfolding machine
 effectless_run N w p q i b flags s e = holds _ _ _ _ e
 
-scope_run : (N : List Node) (p q r : Pos) (i : List Lexeme) (b : Bool) (flags : FlagSet) (s : List Entry) →
+scope_run : (N : List Node) (p q r : Position) (i : List Lexeme) (b : Bool) (flags : FlagSet) (s : List Entry) →
     flags.scope ≡ None →
     answer (at (FlagsRead b flags) s N) (a_sign sign_at p ∷ a_name (codes "Scope") q ∷ a_sign sign_left_parenthesis r
     ∷ i) ≡ answer (at ValueStart (ScopeOpen ∷ AnnotationOpen b (placed p flags) ∷ s) N) i
 unfolding machine
 scope_run N p q r i b flags s e = is_none_there _ _ _ (a_sign sign_left_parenthesis r ∷ i) e
 
-runs_in_run : (N : List Node) (p q r : Pos) (i : List Lexeme) (b : Bool) (flags : FlagSet) (s : List Entry) →
+runs_in_run : (N : List Node) (p q r : Position) (i : List Lexeme) (b : Bool) (flags : FlagSet) (s : List Entry) →
     flags.runs_in ≡ None →
     answer (at (FlagsRead b flags) s N) (a_sign sign_at p ∷ a_name (codes "RunsIn") q ∷ a_sign sign_left_parenthesis r
     ∷ i) ≡ answer (at ValueStart (RunsInOpen ∷ AnnotationOpen b (placed p flags) ∷ s) N) i
 unfolding machine
 runs_in_run N p q r i b flags s e = is_none_there _ _ _ (a_sign sign_left_parenthesis r ∷ i) e
 
-name_first_run : (N : List Node) (p q r u v : Pos) (i : List Lexeme) (b : Bool) (flags : FlagSet) (s : List Entry) →
+name_first_run : (N : List Node) (p q r u v : Position) (i : List Lexeme) (b : Bool) (flags : FlagSet) (s : List Entry) →
     flags.define_scope ≡ None → answer (at (FlagsRead b flags) s N) (a_sign sign_at p ∷ a_name (codes "DefineScope") q
     ∷ a_sign sign_left_parenthesis r ∷ a_name (codes "name") u ∷ a_sign sign_assign v ∷ i) ≡ answer
     (at ValueStart (DefineFirst p false ∷ AnnotationOpen b (placed p flags) ∷ s) N) i
@@ -211,7 +211,7 @@ unfolding machine
 name_first_run N p q r u v i b flags s e =
     is_none_there _ _ _ (a_sign sign_left_parenthesis r ∷ a_name (codes "name") u ∷ a_sign sign_assign v ∷ i) e
 
-parent_first_run : (N : List Node) (p q r u v : Pos) (i : List Lexeme) (b : Bool) (flags : FlagSet) (s : List Entry) →
+parent_first_run : (N : List Node) (p q r u v : Position) (i : List Lexeme) (b : Bool) (flags : FlagSet) (s : List Entry) →
     flags.define_scope ≡ None → answer (at (FlagsRead b flags) s N) (a_sign sign_at p ∷ a_name (codes "DefineScope") q
     ∷ a_sign sign_left_parenthesis r ∷ a_name (codes "parent") u ∷ a_sign sign_assign v ∷ i) ≡ answer
     (at ValueStart (DefineFirst p true ∷ AnnotationOpen b (placed p flags) ∷ s) N) i
@@ -219,36 +219,36 @@ unfolding machine
 parent_first_run N p q r u v i b flags s e =
     is_none_there _ _ _ (a_sign sign_left_parenthesis r ∷ a_name (codes "parent") u ∷ a_sign sign_assign v ∷ i) e
 
-scope_value_run : {N N1 : List Node} {i o : List Lexeme} {id : ℕ} {u : Pos} →
+scope_value_run : {N N1 : List Node} {i o : List Lexeme} {id : ℕ} {u : Position} →
     ScopeValue N i N1 (a_sign sign_right_parenthesis u ∷ o) id → (b : Bool) (flags : FlagSet) (s : List Entry) →
     answer (at ValueStart (ScopeOpen ∷ AnnotationOpen b flags ∷ s) N) i ≡ answer
     (at (FlagsRead b (with_scope id flags)) s N1) o
 unfolding machine
 scope_value_run v b flags s = value_run v (ScopeOpen ∷ AnnotationOpen b flags ∷ s) refl
 
-runs_in_value_run : {N N1 : List Node} {i o : List Lexeme} {id : ℕ} {u : Pos} →
+runs_in_value_run : {N N1 : List Node} {i o : List Lexeme} {id : ℕ} {u : Position} →
     ScopeValue N i N1 (a_sign sign_right_parenthesis u ∷ o) id → (b : Bool) (flags : FlagSet) (s : List Entry) →
     answer (at ValueStart (RunsInOpen ∷ AnnotationOpen b flags ∷ s) N) i ≡ answer
     (at (FlagsRead b (with_runs_in id flags)) s N1) o
 unfolding machine
 runs_in_value_run v b flags s = value_run v (RunsInOpen ∷ AnnotationOpen b flags ∷ s) refl
 
-name_value_run : {N N1 : List Node} {i o : List Lexeme} {id : ℕ} {u x y : Pos} →
+name_value_run : {N N1 : List Node} {i o : List Lexeme} {id : ℕ} {u x y : Position} →
     ScopeValue N i N1 (a_sign sign_comma u ∷ a_name (codes "parent") x ∷ a_sign sign_assign y ∷ o) id →
-    (p : Pos) (s : List Entry) → answer (at ValueStart (DefineFirst p false ∷ s) N) i ≡ answer
+    (p : Position) (s : List Entry) → answer (at ValueStart (DefineFirst p false ∷ s) N) i ≡ answer
     (at ValueStart (DefineSecond p false id ∷ s) N1) o
 unfolding machine
 name_value_run v p s = value_run v (DefineFirst p false ∷ s) refl
 
-parent_value_run : {N N1 : List Node} {i o : List Lexeme} {id : ℕ} {u x y : Pos} →
+parent_value_run : {N N1 : List Node} {i o : List Lexeme} {id : ℕ} {u x y : Position} →
     ScopeValue N i N1 (a_sign sign_comma u ∷ a_name (codes "name") x ∷ a_sign sign_assign y ∷ o) id →
-    (p : Pos) (s : List Entry) → answer (at ValueStart (DefineFirst p true ∷ s) N) i ≡ answer
+    (p : Position) (s : List Entry) → answer (at ValueStart (DefineFirst p true ∷ s) N) i ≡ answer
     (at ValueStart (DefineSecond p true id ∷ s) N1) o
 unfolding machine
 parent_value_run v p s = value_run v (DefineFirst p true ∷ s) refl
 
-second_value_run : {N N1 : List Node} {i o : List Lexeme} {id : ℕ} {u : Pos} →
-    ScopeValue N i N1 (a_sign sign_right_parenthesis u ∷ o) id → (p : Pos) (first : ℕ) (parent_first : Bool) (b : Bool)
+second_value_run : {N N1 : List Node} {i o : List Lexeme} {id : ℕ} {u : Position} →
+    ScopeValue N i N1 (a_sign sign_right_parenthesis u ∷ o) id → (p : Position) (first : ℕ) (parent_first : Bool) (b : Bool)
     (flags : FlagSet) (s : List Entry) →
     answer (at ValueStart (DefineSecond p parent_first first ∷ AnnotationOpen b flags ∷ s) N) i ≡ answer
     (at (FlagsRead b (with_define_scope (length N1) flags)) s (put N1 (DefineScope p first id parent_first))) o
@@ -276,7 +276,7 @@ argument_holds : (w : List ℕ) (x : Option State) (o : List Lexeme) → has_typ
     after (if has_type_argument w then x else None) o ≡ after x o
 argument_holds w x o e = holds (has_type_argument w) x None o e
 
-pub type_run : {N N1 : List Node} {i o : List Lexeme} {t : ℕ} {w : List ℕ} {p : Pos} →
+pub type_run : {N N1 : List Node} {i o : List Lexeme} {t : ℕ} {w : List ℕ} {p : Position} →
     TypeRead N i N1 (a_name w p ∷ o) t → (s : List Entry) →
     next (type_start N s) i ≡ next (typed t N1 s) (a_name w p ∷ o)
 unfolding machine
@@ -307,7 +307,7 @@ type_opens (argument_array e) = refl
 
 -- where flags end before a type
 pub parameter_type : {N N1 : List Node} {i o : List Lexeme} {t : ℕ} → TypeRead N i N1 o t →
-    (flags : FlagSet) (p : Pos) (ids : List ℕ) (s : List Entry) (M : List Node) →
+    (flags : FlagSet) (p : Position) (ids : List ℕ) (s : List Entry) (M : List Node) →
     answer (at (FlagsRead false flags) (ParametersOpen p ids ∷ s) M) i ≡ next
     (type_start (with_flags M flags) (ParameterOpen (flags_number M flags) ∷ ParametersOpen p ids ∷ s)) i
 unfolding machine
@@ -334,7 +334,7 @@ local_type (argument_type e) flags s M = refl
 local_type (argument_array e) flags s M = refl
 
 pub member_type : {N N1 : List Node} {i o : List Lexeme} {t : ℕ} → TypeRead N i N1 o t →
-    (flags : FlagSet) (f : Option ℕ) (p : Pos) (w : List ℕ) (h : Option ℕ) (ids : List ℕ) (s : List Entry)
+    (flags : FlagSet) (f : Option ℕ) (p : Position) (w : List ℕ) (h : Option ℕ) (ids : List ℕ) (s : List Entry)
     (M : List Node) → answer (at (FlagsRead false flags) (ClassBody f p w h ids ∷ s) M) i ≡ next
     (type_start (with_flags M flags) (MemberOpen (flags_number M flags) ∷ ClassBody f p w h ids ∷ s)) i
 unfolding machine
@@ -349,26 +349,26 @@ member_type (argument_array e) flags f p w h ids s M = refl
 
 -- ---- parameters
 
-typed_parameter : (t : ℕ) (N : List Node) (flags : Option ℕ) (q : Pos) (ids : List ℕ) (s : List Entry) (w : List ℕ)
-    (p : Pos) (o : List Lexeme) → next (typed t N (ParameterOpen flags ∷ ParametersOpen q ids ∷ s)) (a_name w p ∷ o)
+typed_parameter : (t : ℕ) (N : List Node) (flags : Option ℕ) (q : Position) (ids : List ℕ) (s : List Entry) (w : List ℕ)
+    (p : Position) (o : List Lexeme) → next (typed t N (ParameterOpen flags ∷ ParametersOpen q ids ∷ s)) (a_name w p ∷ o)
     ≡ answer (at (ParameterDone (length N)) (ParametersOpen q ids ∷ s) (put N (Parameter p w flags t))) o
 unfolding machine
 typed_parameter t N flags q ids s w p o = refl
 
 pub parameter_run : {N N1 : List Node} {i o : List Lexeme} {id : ℕ} → ParameterRead N i N1 o id →
-    (q : Pos) (ids : List ℕ) (s : List Entry) → answer (at (FlagsRead false no_flags) (ParametersOpen q ids ∷ s) N) i
+    (q : Position) (ids : List ℕ) (s : List Entry) → answer (at (FlagsRead false no_flags) (ParametersOpen q ids ∷ s) N) i
     ≡ answer (at (ParameterDone id) (ParametersOpen q ids ∷ s) N1) o
 parameter_run (parameter f t) q ids s = flags_run f _ (type_opens t)
     ∙ (parameter_type t _ q ids s _ ∙ (type_run t _ ∙ typed_parameter _ _ _ q ids s _ _ _))
 
-comma_run : (id : ℕ) (N : List Node) (q : Pos) (ids : List ℕ) (s : List Entry) (p : Pos) (o : List Lexeme) →
+comma_run : (id : ℕ) (N : List Node) (q : Position) (ids : List ℕ) (s : List Entry) (p : Position) (o : List Lexeme) →
     answer (at (ParameterDone id) (ParametersOpen q ids ∷ s) N) (a_sign sign_comma p ∷ o) ≡ answer
     (at (FlagsRead false no_flags) (ParametersOpen q (ids ++ id ∷ []) ∷ s) N) o
 unfolding machine
 comma_run id N q ids s p o = refl
 
 pub parameters_begun_run : {N N1 : List Node} {i o : List Lexeme} {ids : List ℕ} → ParametersBegun N i N1 o ids →
-    (q : Pos) (s : List Entry) → answer (at (FlagsRead false no_flags) (ParametersOpen q [] ∷ s) N) i ≡ answer
+    (q : Position) (s : List Entry) → answer (at (FlagsRead false no_flags) (ParametersOpen q [] ∷ s) N) i ≡ answer
     (at (FlagsRead false no_flags) (ParametersOpen q ids ∷ s) N1) o
 parameters_begun_run no_parameter_yet q s = refl
 parameters_begun_run (parameter_and_comma b d) q s = parameters_begun_run b q s

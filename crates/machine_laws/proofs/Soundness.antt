@@ -19,7 +19,7 @@ use Rattle.parser_machine.specs.States.{State, at}
 use Rattle.parser_machine.specs.declared.entries.Entry.{Entry}
 use Rattle.parser_machine.specs.declared.modes.Mode.{Mode}
 use Rattle.parser_machine.specs.declared.modes.Mode.TheVariants.{ArgumentFirst, ArgumentNext, Assigned, At, ClassName, ClassNamed, ClosedName, ConstructorStart, DefineAssign, DefineName, DefineOpen, DefineOther, DefineOtherAssign, Dot, DotName, FileStart, Finished, FlagsRead, ForFirst, ForOpen, ForStepStart, IfOpen, ImportDot, ImportEnd, ImportName, ImportStar, ImportStart, InClasses, InImports, InMembers, InStatements, LiteralDone, LiteralMinus, LiteralStart, LocalNamed, MemberNamed, MethodNamed, Minus, NameBracket, NameFirst, NameRead, NewElement, NewName, NewStart, Opened, OpenedName, Operand, PackageEnd, PackageName, ParameterDone, ParametersDone, ParametersFirst, PlainAssigned, PlainDot, PlainEnd, PlainFirst, PlainName, PlainNext, PlainOpen, PlainPath, PostDone, ResultDone, ReturnStart, StatementEnd, StatementStart, SuperArgumentEnd, SuperArgumentName, SuperDone, SuperEnd, SuperName, SuperNamed, SuperOpen, TextRead, TypeArgumentEnd, TypeArgumentName, TypeBracket, TypeDone, TypeEnd, TypeName, ValueDot, ValueOpen, ValueRead, ValueScope, ValueStart, WhileOpen}
-use Rattle.scj_base.specs.declared.places.Pos.{Pos}
+use Rattle.scj_base.specs.declared.positions.Position.{Position}
 use Rattle.scj_tree.specs.Grammar.{Tree}
 use Rattle.scj_tree.specs.Lexemes.{Lexeme, the_end}
 use Rattle.scj_tree.specs.declared.nodes.Node.{Node}
@@ -200,7 +200,7 @@ pub starts_so : (N : List Node) (i : List Lexeme) → StandsSo (record { nodes =
 unfolding StandsSo Stands AtFile
 starts_so N i = file_due refl (λ N1 ids d. d)
 
-file_finished : (r : Source) (s : List Entry) (N : List Node) {N1 : List Node} {ids : List ℕ} {p : Pos} →
+file_finished : (r : Source) (s : List Entry) (N : List Node) {N1 : List Node} {ids : List ℕ} {p : Position} →
     Due r for_class s N (the_end p ∷ []) → finished (at Finished s N) ≡ Some (parsed N1 ids) →
     Tree r.nodes r.lexemes N1 ids
 unfolding finished

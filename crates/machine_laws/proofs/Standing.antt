@@ -9,7 +9,7 @@ use Rattle.parser_machine.specs.declared.entries.Entry.TheVariants.{AnnotationOp
 use Rattle.parser_machine.specs.declared.modes.ElementType.{ElementType}
 use Rattle.parser_machine.specs.declared.modes.ElementType.TheVariants.{Boolean, Int, Reference}
 use Rattle.scj_base.specs.Vocabulary.{sign_assign, sign_at, sign_comma, sign_dot, sign_greater, sign_left_brace, sign_left_bracket, sign_left_parenthesis, sign_less, sign_minus, sign_not, sign_right_brace, sign_right_parenthesis, sign_semicolon, sign_tilde, word_boolean, word_class, word_else, word_extends, word_for, word_if, word_implements, word_int, word_new, word_return, word_super, word_while}
-use Rattle.scj_base.specs.declared.places.Pos.{Pos}
+use Rattle.scj_base.specs.declared.positions.Position.{Position}
 use Rattle.scj_tree.specs.Expressions.{ArgumentsBegun, ArgumentsRead, Level, PostRead}
 use Rattle.scj_tree.specs.Grammar.{ClassesRead, MembersRead, Tree}
 use Rattle.scj_tree.specs.Headers.{FlagRow, HeaderRead, InterfacesBegun, ParametersBegun, ParametersRead, ResultRead, ScopeValue, SuperRead, TypeRead}
@@ -45,7 +45,7 @@ pub data LocalFlags : Place → Option ℕ → List Node → List Lexeme → Lis
       LocalFlags in_statement (flags_number N1 flags) N i (with_flags N1 flags) o
 
 -- a type without its brackets
-pub data ElementRead : Pos → ElementType → List Node → List Lexeme → List Node → List Lexeme → Type 0 where
+pub data ElementRead : Position → ElementType → List Node → List Lexeme → List Node → List Lexeme → Type 0 where
   int_element : {N : _} {p : _} {o : _} → ElementRead p Int N (a_word word_int p ∷ o) N o
   boolean_element : {N : _} {p : _} {o : _} → ElementRead p Boolean N (a_word word_boolean p ∷ o) N o
   plain_element : {N : _} {w : _} {p : _} {o : _} → ElementRead p (Reference w None) N (a_name w p ∷ o) N o
@@ -53,12 +53,12 @@ pub data ElementRead : Pos → ElementType → List Node → List Lexeme → Lis
       ElementRead p (Reference w (Some (length N))) N (a_name w p ∷ a_sign sign_less q ∷ a_name v x
       ∷ a_sign sign_greater y ∷ o) (put N (TypeArgument x v)) o
 
-pub data TypeArgumentBegun : Pos → List ℕ → ℕ → List Node → List Lexeme → List Node → List Lexeme → Type 0 where
+pub data TypeArgumentBegun : Position → List ℕ → ℕ → List Node → List Lexeme → List Node → List Lexeme → Type 0 where
   argument_begun : {N : _} {w v : _} {p q x : _} {o : _} → has_type_argument w ≡ true →
       TypeArgumentBegun p w (length N) N (a_name w p ∷ a_sign sign_less q ∷ a_name v x ∷ o) (put N (TypeArgument x v)) o
 
 -- `new` and the type of the elements
-pub data LengthBegun : Pos → ℕ → List Node → List Lexeme → List Node → List Lexeme → Type 0 where
+pub data LengthBegun : Position → ℕ → List Node → List Lexeme → List Node → List Lexeme → Type 0 where
   ints : {N : _} {p q : _} {o : _} → LengthBegun p (length N) N (a_word word_new p ∷ a_word word_int q ∷ o)
       (put N (IntType q false)) o
   booleans : {N : _} {p q : _} {o : _} → LengthBegun p (length N) N (a_word word_new p ∷ a_word word_boolean q ∷ o)
@@ -66,14 +66,14 @@ pub data LengthBegun : Pos → ℕ → List Node → List Lexeme → List Node �
   references : {N : _} {w : _} {p q : _} {o : _} → LengthBegun p (length N) N (a_word word_new p ∷ a_name w q ∷ o)
       (put N (ClassType q w None false)) o
 
-pub data CallBegun : Bool → Pos → List ℕ → Option ℕ → List Node → List Lexeme → List Node → List Lexeme → Type 0 where
+pub data CallBegun : Bool → Position → List ℕ → Option ℕ → List Node → List Lexeme → List Node → List Lexeme → Type 0 where
   simple_begun : {N : _} {w : _} {p q : _} {o : _} →
       CallBegun false p w None N (a_name w p ∷ a_sign sign_left_parenthesis q ∷ o) N o
   call_begun : {minimum : _} {kind : _} {q : _} {N N1 : _} {i o : _} {e : _} {w : _} {p x u : _} →
       PostRead minimum kind q N i N1 (a_sign sign_dot x ∷ a_name w p ∷ a_sign sign_left_parenthesis u ∷ o) e →
       CallBegun minimum p w (Some e) N i N1 o
 
-pub data ForFirstRead : Pos → ℕ → List Node → List Lexeme → List Node → List Lexeme → Type 0 where
+pub data ForFirstRead : Position → ℕ → List Node → List Lexeme → List Node → List Lexeme → Type 0 where
   first_local : {N N1 N2 : _} {i i1 o : _} {t e : _} {w : _} {p q x a b : _} →
       TypeRead N i N1 (a_name w a ∷ a_sign sign_assign b ∷ i1) t → Level 1 N1 i1 N2 (a_sign sign_semicolon x ∷ o) e →
       ForFirstRead p (length N2) N (a_word word_for p ∷ a_sign sign_left_parenthesis q ∷ i)
@@ -81,7 +81,7 @@ pub data ForFirstRead : Pos → ℕ → List Node → List Lexeme → List Node 
   first_assignment : {N N1 : _} {i o : _} {f : _} {p q x : _} → AssignmentRead N i N1 (a_sign sign_semicolon x ∷ o) f →
       ForFirstRead p f N (a_word word_for p ∷ a_sign sign_left_parenthesis q ∷ i) N1 o
 
-pub data SupersBegun : Pos → Bool → Option ℕ → List ℕ → List Node → List Lexeme → List Node → List Lexeme → Type 0 where
+pub data SupersBegun : Position → Bool → Option ℕ → List ℕ → List Node → List Lexeme → List Node → List Lexeme → Type 0 where
   extends_begun : {N : _} {p : _} {o : _} → SupersBegun p true None [] N (a_word word_extends p ∷ o) N o
   implements_begun : {N N1 : _} {i o : _} {ids : _} {p : _} → InterfacesBegun N i N1 o ids →
       SupersBegun p false None ids N (a_word word_implements p ∷ i) N1 o
@@ -102,7 +102,7 @@ pub data UnaryKind : ℕ → List Lexeme → Type 0 where
   is_minus : {i : _} → begins_with_minimum i ≡ false → UnaryKind sign_minus i
 
 -- behind the brace at p
-pub data BlockRead : Pos → List Node → List Lexeme → List Node → List Lexeme → ℕ → Type 0 where
+pub data BlockRead : Position → List Node → List Lexeme → List Node → List Lexeme → ℕ → Type 0 where
   block_read : {N N1 : _} {i o : _} {ids : _} {p q : _} → StatementsRead N i N1 (a_sign sign_right_brace q ∷ o) ids →
       BlockRead p N i (put N1 (Block p ids)) o (length N1)
 
@@ -132,12 +132,12 @@ pub record Source : Type 0 where
   pub lexemes : List Lexeme
 
 abbrev pub Header : Source → List Lexeme → Type 0
-Header r i1 = (N1 : List Node) (ids : List ℕ) (p : Pos) → ClassesRead r.nodes i1 N1 (the_end p ∷ []) ids →
+Header r i1 = (N1 : List Node) (ids : List ℕ) (p : Position) → ClassesRead r.nodes i1 N1 (the_end p ∷ []) ids →
     Tree r.nodes r.lexemes N1 ids
 
 pub data Kind : Type 0 where
   for_class : Kind
-  for_annotation : Pos → Kind
+  for_annotation : Position → Kind
   for_value : Kind
   for_header : Kind
   for_super : Kind
@@ -146,7 +146,7 @@ pub data Kind : Type 0 where
   for_literal : Kind
   for_parameters : Kind
   for_parameter : Kind
-  for_body : Pos → Kind
+  for_body : Position → Kind
   for_statement : Kind
   for_simple : Place → Kind
   for_operand : Kind

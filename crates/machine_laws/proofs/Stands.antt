@@ -12,7 +12,7 @@ use Rattle.parser_machine.specs.declared.entries.Entry.TheVariants.{AnnotationOp
 use Rattle.parser_machine.specs.declared.modes.Mode.{Mode}
 use Rattle.parser_machine.specs.declared.modes.Mode.TheVariants.{ArgumentFirst, ArgumentNext, Assigned, At, ClassName, ClassNamed, ClosedName, ConstructorStart, DefineAssign, DefineName, DefineOpen, DefineOther, DefineOtherAssign, Dot, DotName, FileStart, Finished, FlagsRead, ForFirst, ForOpen, ForStepStart, IfOpen, ImportDot, ImportEnd, ImportName, ImportStar, ImportStart, InClasses, InImports, InMembers, InStatements, LiteralDone, LiteralMinus, LiteralStart, LocalNamed, MemberNamed, MethodNamed, Minus, NameBracket, NameFirst, NameRead, NewElement, NewName, NewStart, Opened, OpenedName, Operand, PackageEnd, PackageName, ParameterDone, ParametersDone, ParametersFirst, PlainAssigned, PlainDot, PlainEnd, PlainFirst, PlainName, PlainNext, PlainOpen, PlainPath, PostDone, ResultDone, ReturnStart, StatementEnd, StatementStart, SuperArgumentEnd, SuperArgumentName, SuperDone, SuperEnd, SuperName, SuperNamed, SuperOpen, TextRead, TypeArgumentEnd, TypeArgumentName, TypeBracket, TypeDone, TypeEnd, TypeName, ValueDot, ValueOpen, ValueRead, ValueScope, ValueStart, WhileOpen}
 use Rattle.scj_base.specs.Vocabulary.{sign_assign, sign_comma, sign_dot, sign_left_bracket, sign_left_parenthesis, sign_less, sign_minus, sign_right_parenthesis, sign_semicolon, sign_star, word_class, word_for, word_if, word_import, word_new, word_return, word_super, word_while}
-use Rattle.scj_base.specs.declared.places.Pos.{Pos}
+use Rattle.scj_base.specs.declared.positions.Position.{Position}
 use Rattle.scj_tree.specs.Expressions.{ArgumentRead, PostRead}
 use Rattle.scj_tree.specs.Grammar.{LiteralRead, Tree}
 use Rattle.scj_tree.specs.Headers.{Dotted, FlagRow, Imported, Imports, ParameterRead, ParametersRead, PlainPairs, PlainValue, ResultRead, ScopeValue, SuperRead, TypeRead}
@@ -42,10 +42,10 @@ abbrev pub ImportsDue : Source → List Lexeme → Type 0
 ImportsDue r i = (o : List Lexeme) → Imports i o → Header r o
 
 abbrev pub PackageDue : Source → List Lexeme → Type 0
-PackageDue r i = (q : Pos) (o : List Lexeme) → Dotted i (a_sign sign_semicolon q ∷ o) → ImportsDue r o
+PackageDue r i = (q : Position) (o : List Lexeme) → Dotted i (a_sign sign_semicolon q ∷ o) → ImportsDue r o
 
 abbrev pub ImportedDue : Source → List Lexeme → Type 0
-ImportedDue r i = (q : Pos) (o : List Lexeme) → Imported i (a_sign sign_semicolon q ∷ o) → ImportsDue r o
+ImportedDue r i = (q : Position) (o : List Lexeme) → Imported i (a_sign sign_semicolon q ∷ o) → ImportsDue r o
 
 -- ---- annotations without effect
 
@@ -73,13 +73,13 @@ pub data AnnotationNamed (r : Source) : List Entry → List Node → List Lexeme
       AnnotationNamed r (AnnotationOpen b flags ∷ s) N o
 
 -- `@DefineScope` up to where the lexemes begin
-pub data DefineBegun (r : Source) (p : Pos) : List Entry → List Node → List Lexeme → Type 0 where
+pub data DefineBegun (r : Source) (p : Position) : List Entry → List Node → List Lexeme → Type 0 where
   define_begun : {b : _} {s : _} {N : _} {o : _} {flags : FlagSet} {q : _} → flags.define_scope ≡ None →
       Due r (for_annotation p) (AnnotationOpen b flags ∷ s) N (a_name (codes "DefineScope") q ∷ o) →
       DefineBegun r p (AnnotationOpen b flags ∷ s) N o
 
 -- and up to the first value
-pub data DefineRead (r : Source) (p : Pos) (first : Bool) (id : ℕ) : List Entry → List Node → List Lexeme → Type 0 where
+pub data DefineRead (r : Source) (p : Position) (first : Bool) (id : ℕ) : List Entry → List Node → List Lexeme → Type 0 where
   define_read : {s : _} {N N1 : _} {i o : _} {x u v y : _} →
       DefineBegun r p s N (a_sign sign_left_parenthesis x ∷ a_name (first_word first) u ∷ a_sign sign_assign v ∷ i) →
       ScopeValue N i N1 (a_sign sign_comma y ∷ o) id → DefineRead r p first id s N1 o
@@ -99,14 +99,14 @@ pub data LocalTyped : Place → Option ℕ → ℕ → List Node → List Lexeme
       TypeRead N1 i1 N2 o t → LocalTyped k flags t N i N2 o
 
 -- a constructor's body begins
-pub data ConstructorDue (r : Source) (b : Pos) : List Entry → List Node → List Lexeme → Type 0 where
+pub data ConstructorDue (r : Source) (b : Position) : List Entry → List Node → List Lexeme → Type 0 where
   constructor_due : {flags ps : _} {w : _} {q : _} {s : _} {N : _} {o : _} →
       Due r (for_body b) (ConstructorBody flags q w ps None ∷ s) N o →
       ConstructorDue r b (ConstructorBody flags q w ps None ∷ s) N o
 
 -- behind `super(..)`
-abbrev pub SuperEnds : Source → Pos → List Entry → List Node → List Lexeme → Type 0
-SuperEnds r b s N i = (p : Pos) (o : List Lexeme) → i ≡ a_sign sign_semicolon p ∷ o → Due r (for_body b) s N o
+abbrev pub SuperEnds : Source → Position → List Entry → List Node → List Lexeme → Type 0
+SuperEnds r b s N i = (p : Position) (o : List Lexeme) → i ≡ a_sign sign_semicolon p ∷ o → Due r (for_body b) s N o
 
 -- ---- statements
 
@@ -134,7 +134,7 @@ pub data AssignedSo (r : Source) (id : ℕ) (s : List Entry) (N : List Node) (o 
 
 -- ---- expressions
 
-pub data PostSo (kind : PostKind) (p : Pos) (id : ℕ) (N : List Node) (o : List Lexeme) (M : List Node)
+pub data PostSo (kind : PostKind) (p : Position) (id : ℕ) (N : List Node) (o : List Lexeme) (M : List Node)
     (i : List Lexeme) : Type 0 where
   post_so : {minimum : _} → PostRead minimum kind p M i N o id → PostSo kind p id N o M i
 
@@ -154,7 +154,7 @@ pub data TextArgument (r : Source) (id : ℕ) : List Entry → List Node → Lis
       Due r for_operand (ArgumentsOpen ids ∷ s) N i → TextArgument r id (ArgumentsOpen ids ∷ s) N1 o
 
 -- a lexeme was read before these
-pub data Past (P : Pos → Type 0) : Type 0 where
+pub data Past (P : Position → Type 0) : Type 0 where
   past : {p : _} → P p → Past P
 
 -- ---- all modes
@@ -163,15 +163,15 @@ unfoldable pub Stands : Source → Mode → List Entry → List Node → List Le
 Stands r FileStart s N i =
     FileDue r s N ((N1 : List Node) (ids : List ℕ) → Tree r.nodes i N1 ids → Tree r.nodes r.lexemes N1 ids)
 Stands r PackageName s N i = FileDue r s N (PackageDue r i)
-Stands r PackageEnd s N i = FileDue r s N ((w : List ℕ) × (p : Pos) × PackageDue r (a_name w p ∷ i))
+Stands r PackageEnd s N i = FileDue r s N ((w : List ℕ) × (p : Position) × PackageDue r (a_name w p ∷ i))
 Stands r InImports s N i = FileDue r s N (ImportsDue r i)
 Stands r ImportStart s N i = FileDue r s N (Past (λ p. ImportsDue r (a_word word_import p ∷ i)))
 Stands r ImportName s N i = FileDue r s N (ImportedDue r i)
 Stands r ImportDot s N i =
-    FileDue r s N ((w : List ℕ) × (p : Pos) × (q : Pos) × ImportedDue r (a_name w p ∷ a_sign sign_dot q ∷ i))
-Stands r ImportEnd s N i = FileDue r s N ((w : List ℕ) × (p : Pos) × ImportedDue r (a_name w p ∷ i))
+    FileDue r s N ((w : List ℕ) × (p : Position) × (q : Position) × ImportedDue r (a_name w p ∷ a_sign sign_dot q ∷ i))
+Stands r ImportEnd s N i = FileDue r s N ((w : List ℕ) × (p : Position) × ImportedDue r (a_name w p ∷ i))
 Stands r ImportStar s N i =
-    FileDue r s N ((w : List ℕ) × (p : Pos) × (q : Pos) × (u : Pos) ×
+    FileDue r s N ((w : List ℕ) × (p : Position) × (q : Position) × (u : Position) ×
     ImportedDue r (a_name w p ∷ a_sign sign_dot q ∷ a_sign sign_star u ∷ i))
 Stands r InClasses s N i = Due r for_class s N i
 Stands r Finished s N i = Past (λ p. Due r for_class s N (the_end p ∷ i))
@@ -180,13 +180,13 @@ Stands r (At p) s N i = Due r (for_annotation p) s N i
 Stands r PlainOpen s N i = AnnotationNamed r s N i
 Stands r PlainFirst s N i = Past (λ p. AnnotationNamed r s N (a_sign sign_left_parenthesis p ∷ i))
 Stands r PlainNext s N i = PairsDue r s N i
-Stands r PlainName s N i = (w : List ℕ) × (p : Pos) × PairsDue r s N (a_name w p ∷ i)
+Stands r PlainName s N i = (w : List ℕ) × (p : Position) × PairsDue r s N (a_name w p ∷ i)
 Stands r PlainAssigned s N i = PlainValueDue r s N i
-Stands r PlainPath s N i = (w : List ℕ) × (p : Pos) × PlainValueDue r s N (a_name w p ∷ i)
-Stands r PlainDot s N i = (w : List ℕ) × (p : Pos) × (q : Pos) ×
+Stands r PlainPath s N i = (w : List ℕ) × (p : Position) × PlainValueDue r s N (a_name w p ∷ i)
+Stands r PlainDot s N i = (w : List ℕ) × (p : Position) × (q : Position) ×
     PlainValueDue r s N (a_name w p ∷ a_sign sign_dot q ∷ i)
 Stands r PlainEnd s N i = PairEnds r s N i
-Stands r ValueOpen s N i = (x : Pos) (o : List Lexeme) → i ≡ a_sign sign_left_parenthesis x ∷ o → Due r for_value s N o
+Stands r ValueOpen s N i = (x : Position) (o : List Lexeme) → i ≡ a_sign sign_left_parenthesis x ∷ o → Due r for_value s N o
 Stands r ValueStart s N i = Due r for_value s N i
 Stands r (ValueScope p) s N i = Due r for_value s N (a_name (codes "Scope") p ∷ i)
 Stands r (ValueDot p) s N i = Past (λ q. Due r for_value s N (a_name (codes "Scope") p ∷ a_sign sign_dot q ∷ i))
@@ -194,7 +194,7 @@ Stands r (ValueRead id) s N i = Behind (Due r for_value s) (λ M j. ScopeValue M
 Stands r (DefineOpen p) s N i = DefineBegun r p s N i
 Stands r (DefineName p) s N i = Past (λ x. DefineBegun r p s N (a_sign sign_left_parenthesis x ∷ i))
 Stands r (DefineAssign p first) s N i =
-    (x : Pos) × (u : Pos) × DefineBegun r p s N (a_sign sign_left_parenthesis x ∷ a_name (first_word first) u ∷ i)
+    (x : Position) × (u : Position) × DefineBegun r p s N (a_sign sign_left_parenthesis x ∷ a_name (first_word first) u ∷ i)
 Stands r (DefineOther p first id) s N i = DefineRead r p first id s N i
 Stands r (DefineOtherAssign p first id) s N i =
     Past (λ z. DefineRead r p first id s N (a_name (other_word first) z ∷ i))

@@ -14,7 +14,7 @@ use Rattle.parser_machine.specs.declared.entries.Entry.{Entry}
 use Rattle.parser_machine.specs.declared.entries.Entry.TheVariants.{AssignValue, CompoundValue, IndexOpen, LocalOpen, Simple, Target}
 use Rattle.parser_machine.specs.declared.modes.Mode.TheVariants.{Assigned, ForStepStart, NameBracket, NameFirst, NameRead, Operand, StatementStart, TypeArgumentName}
 use Rattle.scj_base.specs.Vocabulary.{sign_at, sign_left_brace, sign_left_bracket, sign_left_parenthesis, sign_less, sign_right_bracket, sign_semicolon, word_boolean, word_final, word_for, word_if, word_int, word_return, word_while}
-use Rattle.scj_base.specs.declared.places.Pos.{Pos}
+use Rattle.scj_base.specs.declared.positions.Position.{Position}
 use Rattle.scj_tree.specs.Expressions.{PostRead, call_of, element_of, false_value, field_of, new_booleans, new_ints, new_object, new_references, null_value, number, parenthesized, parenthesized_name, simple_call, simple_name, this_value, true_value}
 use Rattle.scj_tree.specs.Nodes.{put}
 use Rattle.scj_tree.specs.Lexemes.{Lexeme, a_name, a_number, a_sign, a_text, a_word, the_end}
@@ -34,7 +34,7 @@ unfoldable pub begins_target : List Lexeme → Bool
 begins_target [] = false
 begins_target (t ∷ o) = is_target_start t
 
-pub target_begins : {k : PostKind} {p : Pos} {N N1 : List Node} {i o : List Lexeme} {e : ℕ} →
+pub target_begins : {k : PostKind} {p : Position} {N N1 : List Node} {i o : List Lexeme} {e : ℕ} →
     PostRead false k p N i N1 o e → begins_target i ≡ true
 unfolding begins_target is_target_start is_unary1_start
 target_begins simple_name = refl
@@ -75,7 +75,7 @@ no_bracket (a_number w p ∷ o) e = refl
 no_bracket (a_text w p ∷ o) e = refl
 no_bracket (the_end p ∷ o) e = refl
 
-pub post_no_local : {k : PostKind} {p : Pos} {N N1 : List Node} {i o : List Lexeme} {e : ℕ} →
+pub post_no_local : {k : PostKind} {p : Position} {N N1 : List Node} {i o : List Lexeme} {e : ℕ} →
     PostRead false k p N i N1 o e → name_goes_on o ≡ true → no_local i ≡ true
 unfolding no_local name_goes_on
 post_no_local simple_name g = g
@@ -97,7 +97,7 @@ post_no_local (new_references d) g = refl
 
 -- ---- where a target is due
 
-bracket_run : (p : Pos) (w : List ℕ) (q : Pos) (N : List Node) (s : List Entry) (o : List Lexeme) →
+bracket_run : (p : Position) (w : List ℕ) (q : Position) (N : List Node) (s : List Entry) (o : List Lexeme) →
     begins_with_sign sign_right_bracket o ≡ false →
     answer (at (NameBracket p w q) s N) o ≡ answer
     (at Operand (IndexOpen q (length N) ∷ Target ∷ s) (put N (SimpleName p w))) o
@@ -111,14 +111,14 @@ bracket_run p w q N s (a_sign n r ∷ o) e = fails _ _ _ o e
 bracket_run p w q N s (the_end r ∷ o) e = refl
 
 -- `[` behind a name
-bracket_sign_run : (p : Pos) (w : List ℕ) (q : Pos) (N : List Node) (s : List Entry) (o : List Lexeme) →
+bracket_sign_run : (p : Position) (w : List ℕ) (q : Position) (N : List Node) (s : List Entry) (o : List Lexeme) →
     begins_with_sign sign_right_bracket o ≡ false →
     answer (at (NameFirst p w) s N) (a_sign sign_left_bracket q ∷ o) ≡ answer (at (NameRead p w) (Target ∷ s) N)
     (a_sign sign_left_bracket q ∷ o)
 unfolding machine
 bracket_sign_run p w q N s o e = bracket_run p w q N s o e
 
-at_bracket : (p : Pos) (w : List ℕ) (n : ℕ) (q : Pos) (N : List Node) (s : List Entry) (o : List Lexeme) →
+at_bracket : (p : Position) (w : List ℕ) (n : ℕ) (q : Position) (N : List Node) (s : List Entry) (o : List Lexeme) →
     n ≡ sign_left_bracket → name_goes_on (a_sign n q ∷ o) ≡ true →
     answer (at (NameFirst p w) s N) (a_sign n q ∷ o) ≡ answer (at (NameRead p w) (Target ∷ s) N) (a_sign n q ∷ o)
 unfolding name_goes_on
@@ -126,7 +126,7 @@ at_bracket p w n q N s o h =
     subst (λ m. name_goes_on (a_sign m q ∷ o) ≡ true → answer (at (NameFirst p w) s N) (a_sign m q ∷ o) ≡ answer
     (at (NameRead p w) (Target ∷ s) N) (a_sign m q ∷ o)) (sym h) (λ e. bracket_sign_run p w q N s o (not_true _ e))
 
-other_sign_run : (p : Pos) (w : List ℕ) (n : ℕ) (q : Pos) (N : List Node) (s : List Entry) (o : List Lexeme)
+other_sign_run : (p : Position) (w : List ℕ) (n : ℕ) (q : Position) (N : List Node) (s : List Entry) (o : List Lexeme)
     (b : Bool) → (n == sign_left_bracket) ≡ b → name_goes_on (a_sign n q ∷ o) ≡ true →
     answer (at (NameFirst p w) s N) (a_sign n q ∷ o) ≡ answer (at (NameRead p w) (Target ∷ s) N) (a_sign n q ∷ o)
 unfolding machine name_goes_on
@@ -138,11 +138,11 @@ other_sign_run p w n q N s o false h e =
     ∙ fails (n == sign_left_bracket) (Some (at (NameBracket p w q) s N)) _ o h
 other_sign_run p w n q N s o true h e = at_bracket p w n q N s o (eqb-true n sign_left_bracket h) e
 
-no_name : {A : Type 0} (v : List ℕ) (q : Pos) (o : List Lexeme) → name_goes_on (a_name v q ∷ o) ≡ true → A
+no_name : {A : Type 0} (v : List ℕ) (q : Position) (o : List Lexeme) → name_goes_on (a_name v q ∷ o) ≡ true → A
 unfolding name_goes_on
 no_name v q o e = never e
 
-name_first_run : (p : Pos) (w : List ℕ) (N : List Node) (s : List Entry) (o : List Lexeme) → name_goes_on o ≡ true →
+name_first_run : (p : Position) (w : List ℕ) (N : List Node) (s : List Entry) (o : List Lexeme) → name_goes_on o ≡ true →
     answer (at (NameFirst p w) s N) o ≡ answer (at (NameRead p w) (Target ∷ s) N) o
 unfolding machine
 name_first_run p w N s [] e = refl
@@ -218,7 +218,7 @@ steps_no_compound n e =
 some_of : (r : Option ℕ) (x : ℕ) → r ≡ Some x → is_some r ≡ true
 some_of r x e = ap is_some e
 
-value_end_run : (p : Pos) (x e : ℕ) (N : List Node) (s : List Entry) (o : List Lexeme) → ends 0 o ≡ true →
+value_end_run : (p : Position) (x e : ℕ) (N : List Node) (s : List Entry) (o : List Lexeme) → ends 0 o ≡ true →
     next (closed e N (AssignValue p x ∷ s)) o ≡ next (assigned (length N) (put N (Assign p x e)) s) o
 unfolding machine ends
 value_end_run p x e N s [] h = refl
@@ -229,7 +229,7 @@ value_end_run p x e N s (a_text w q ∷ o) h = refl
 value_end_run p x e N s (a_sign m q ∷ o) h = fails _ _ _ o (below_level 0 (level m) (and_left _ _ h))
 value_end_run p x e N s (the_end q ∷ o) h = refl
 
-compound_end_run : (p : Pos) (op x l e : ℕ) (N : List Node) (s : List Entry) (o : List Lexeme) → ends 0 o ≡ true →
+compound_end_run : (p : Position) (op x l e : ℕ) (N : List Node) (s : List Entry) (o : List Lexeme) → ends 0 o ≡ true →
     next (closed e N (CompoundValue p op x l ∷ s)) o ≡ next
     (assigned (compounded_number N p op l e) (compounded N p op x l e) s) o
 unfolding machine ends
@@ -247,7 +247,7 @@ unfolding machine
 assigned_run id N s [] = refl
 assigned_run id N s (t ∷ o) = refl
 
-compound_begin_run : (n op : ℕ) (w : List ℕ) (p q : Pos) (N : List Node) (s : List Entry) (i : List Lexeme) →
+compound_begin_run : (n op : ℕ) (w : List ℕ) (p q : Position) (N : List Node) (s : List Entry) (i : List Lexeme) →
     compound n ≡ Some op → answer (at (NameRead q w) (Target ∷ s) N) (a_sign n p ∷ i) ≡ answer
     (at Operand (CompoundValue p op (length N) (length (put N (SimpleName q w))) ∷ s) (name_twice N q w)) i
 unfolding machine
@@ -255,7 +255,7 @@ compound_begin_run n op w p q N s i u =
     fails _ _ _ i (differs (λ m. is_some (compound m)) n sign_left_parenthesis (some_of _ _ u) refl)
     ∙ is_some_there _ _ _ _ i u
 
-stepping_run : (n op : ℕ) (w : List ℕ) (p q : Pos) (N : List Node) (s : List Entry) (i : List Lexeme) →
+stepping_run : (n op : ℕ) (w : List ℕ) (p q : Position) (N : List Node) (s : List Entry) (i : List Lexeme) →
     stepping n ≡ Some op → answer (at (NameRead q w) (Target ∷ s) N) (a_sign n p ∷ i) ≡ after
     (stepping_step q w p op N s) i
 unfolding machine steps
@@ -282,7 +282,7 @@ assignment_begins (assignment d v) = target_begins d
 assignment_begins (compound_assignment u v) = refl
 assignment_begins (step_assignment u) = refl
 
-sign_goes_on : (f : ℕ → Bool) (n : ℕ) (p : Pos) (o : List Lexeme) → f n ≡ true → f sign_less ≡ false →
+sign_goes_on : (f : ℕ → Bool) (n : ℕ) (p : Position) (o : List Lexeme) → f n ≡ true → f sign_less ≡ false →
     f sign_left_bracket ≡ false → name_goes_on (a_sign n p ∷ o) ≡ true
 unfolding name_goes_on
 sign_goes_on f n p o e g h =

@@ -14,7 +14,7 @@ use Rattle.parser_machine.specs.declared.entries.Entry.{Entry}
 use Rattle.parser_machine.specs.declared.entries.Entry.TheVariants.{ArgumentsOpen, BlockOpen, FieldOpen, ForHead, IfElse, IfTest, IndexOpen, LocalOpen, LocalValue, MethodOpen, Simple, SuperCallOpen, Target, WhileTest}
 use Rattle.parser_machine.specs.declared.modes.Mode.TheVariants.{ConstructorStart, ForFirst, ForOpen, ForStepStart, IfOpen, LiteralDone, LiteralMinus, LiteralStart, LocalNamed, MemberNamed, MethodNamed, NameBracket, NameFirst, Operand, ParameterDone, ParametersDone, ParametersFirst, ResultDone, ReturnStart, StatementEnd, SuperEnd, SuperOpen, WhileOpen}
 use Rattle.scj_base.specs.Vocabulary.{sign_assign, sign_at, sign_comma, sign_left_brace, sign_left_bracket, sign_left_parenthesis, sign_less, sign_minus, sign_right_brace, sign_right_bracket, sign_right_parenthesis, sign_semicolon, word_boolean, word_class, word_else, word_false, word_final, word_for, word_if, word_int, word_null, word_return, word_super, word_true, word_while}
-use Rattle.scj_base.specs.declared.places.Pos.{Pos}
+use Rattle.scj_base.specs.declared.positions.Position.{Position}
 use Rattle.scj_tree.specs.Expressions.{ArgumentsRead, Level, simple_name}
 use Rattle.scj_tree.specs.Grammar.{ClassRead, LiteralRead, MemberRead, MembersRead, bare_method, class, constructor, constructor_with_super, false_literal, field, field_with_value, method, negative_literal, null_literal, number_literal, one_class_more, one_member_more, true_literal}
 use Rattle.scj_tree.specs.Headers.{HeaderRead, ParameterRead, ParametersRead, ResultRead, TypeRead, class_array, class_type, no_flag, no_parameter_yet, no_parameters, parameter_and_comma, parameters, typed_result}
@@ -58,7 +58,7 @@ first_start_stands r N s (a_text n p) o (first_due h d) = target_start_stands r 
 first_start_stands r N s (a_sign n p) o (first_due h d) = target_start_stands r N s (a_sign n p) o d
 first_start_stands r N s (the_end p) o (first_due h d) = target_start_stands r N s (the_end p) o d
 
-pub name_first_stands : (r : Source) (p : Pos) (w : List ℕ) (N : List Node) (s : List Entry) (t : Lexeme)
+pub name_first_stands : (r : Source) (p : Position) (w : List ℕ) (N : List Node) (s : List Entry) (t : Lexeme)
     (o : List Lexeme) → Stands r (NameFirst p w) s N (t ∷ o) → Leads r (name_first_step p w N s t) o
 unfolding machine Leads Stands starts_target
 name_first_stands r p w N s (a_name v q) o (first_due h d) =
@@ -71,13 +71,13 @@ name_first_stands r p w N s (a_sign n q) o (first_due {k = k} h d) =
     (name_stands r p w N (Target ∷ s) (a_sign n q) o (target refl d)))
 name_first_stands r p w N s _ o h = tt
 
-bracket_index : (r : Source) (p : Pos) (w : List ℕ) (b : Pos) (N : List Node) (s : List Entry) (t : Lexeme)
+bracket_index : (r : Source) (p : Position) (w : List ℕ) (b : Position) (N : List Node) (s : List Entry) (t : Lexeme)
     (o : List Lexeme) {k : Place} → Due r (for_simple k) s N (a_name w p ∷ a_sign sign_left_bracket b ∷ t ∷ o) →
     Leads r (operand_start (put N (SimpleName p w)) (IndexOpen b (length N) ∷ Target ∷ s) t) o
 unfolding starts_target indexable
 bracket_index r p w b N s t o d = operand_start_stands r _ _ t o (index_open refl simple_name (target refl d))
 
-pub name_bracket_stands : (r : Source) (p : Pos) (w : List ℕ) (b : Pos) (N : List Node) (s : List Entry) (t : Lexeme)
+pub name_bracket_stands : (r : Source) (p : Position) (w : List ℕ) (b : Position) (N : List Node) (s : List Entry) (t : Lexeme)
     (o : List Lexeme) → Stands r (NameBracket p w b) s N (t ∷ o) → Leads r (name_bracket_step p w b N s t) o
 unfolding machine Leads Stands
 name_bracket_stands r p w b N s (a_sign n q) o (first_due {k = k} h d) =
@@ -95,7 +95,7 @@ local_type_of : {flags : Option ℕ} {t : ℕ} {M N : List Node} {j o : List Lex
 local_type_of (local_typed (bare h) d) = plain_local d
 local_type_of (local_typed (flagged h f) d) = flagged_local h f d
 
-local_ended_stands : (r : Source) (flags : Option ℕ) (t : ℕ) (p : Pos) (w : List ℕ) (q : Pos) (N : List Node)
+local_ended_stands : (r : Source) (flags : Option ℕ) (t : ℕ) (p : Position) (w : List ℕ) (q : Position) (N : List Node)
     (s : List Entry) (o : List Lexeme) {k : Place} {M : List Node} {j : List Lexeme} →
     LocalTyped k flags t M j N (a_name w p ∷ a_sign sign_semicolon q ∷ o) → Due r (for_simple k) s M j →
     Leads r (local_ended flags t p w N s) o
@@ -104,12 +104,12 @@ local_ended_stands r flags t p w q N s o l (simple_open d) = statement_done (loc
 local_ended_stands r flags t p w q N s o l (for_head d) = tt
 local_ended_stands r flags t p w q N s o l (for_step f c d) = tt
 
-local_opened : (r : Source) {flags : Option ℕ} {t : ℕ} {p q : Pos} {w : List ℕ} {k : Place} {s : List Entry}
+local_opened : (r : Source) {flags : Option ℕ} {t : ℕ} {p q : Position} {w : List ℕ} {k : Place} {s : List Entry}
     {M N : List Node} {j o : List Lexeme} → LocalTyped k flags t M j N (a_name w p ∷ a_sign sign_assign q ∷ o) →
     Due r (for_simple k) s M j → Due r for_operand (LocalValue q p w flags t ∷ s) N o
 local_opened r (local_typed l x) d = local_value l x d
 
-pub local_named_stands : (r : Source) (flags : Option ℕ) (t : ℕ) (p : Pos) (w : List ℕ) (N : List Node) (s : List Entry)
+pub local_named_stands : (r : Source) (flags : Option ℕ) (t : ℕ) (p : Position) (w : List ℕ) (N : List Node) (s : List Entry)
     (x : Lexeme) (o : List Lexeme) → Stands r (LocalNamed flags t p w) s N (x ∷ o) →
     Leads r (local_named_step flags t p w N s x) o
 unfolding machine Leads Stands
@@ -122,7 +122,7 @@ local_named_stands r flags t p w N s _ o h = tt
 
 -- ---- where a statement is due
 
-pub if_open_stands : (r : Source) (p : Pos) (N : List Node) (s : List Entry) (t : Lexeme) (o : List Lexeme) →
+pub if_open_stands : (r : Source) (p : Position) (N : List Node) (s : List Entry) (t : Lexeme) (o : List Lexeme) →
     Stands r (IfOpen p) s N (t ∷ o) → Leads r (test_open_step Operand (IfTest p) N s t) o
 unfolding machine Leads Stands
 if_open_stands r p N s (a_sign n q) o d =
@@ -130,7 +130,7 @@ if_open_stands r p N s (a_sign n q) o d =
     (λ k. if_test k) tt
 if_open_stands r p N s _ o d = tt
 
-pub while_open_stands : (r : Source) (p : Pos) (N : List Node) (s : List Entry) (t : Lexeme) (o : List Lexeme) →
+pub while_open_stands : (r : Source) (p : Position) (N : List Node) (s : List Entry) (t : Lexeme) (o : List Lexeme) →
     Stands r (WhileOpen p) s N (t ∷ o) → Leads r (test_open_step Operand (WhileTest p) N s t) o
 unfolding machine Leads Stands
 while_open_stands r p N s (a_sign n q) o d =
@@ -138,7 +138,7 @@ while_open_stands r p N s (a_sign n q) o d =
     (λ k. while_test k) tt
 while_open_stands r p N s _ o d = tt
 
-pub for_open_stands : (r : Source) (p : Pos) (N : List Node) (s : List Entry) (t : Lexeme) (o : List Lexeme) →
+pub for_open_stands : (r : Source) (p : Position) (N : List Node) (s : List Entry) (t : Lexeme) (o : List Lexeme) →
     Stands r (ForOpen p) s N (t ∷ o) → Leads r (test_open_step ForFirst (ForHead p) N s t) o
 unfolding machine Leads Stands
 for_open_stands r p N s (a_sign n q) o d =
@@ -146,7 +146,7 @@ for_open_stands r p N s (a_sign n q) o d =
     (λ k. first_due first_takes (for_head k)) tt
 for_open_stands r p N s _ o d = tt
 
-pub return_stands : (r : Source) (p : Pos) (N : List Node) (s : List Entry) (t : Lexeme) (o : List Lexeme) →
+pub return_stands : (r : Source) (p : Position) (N : List Node) (s : List Entry) (t : Lexeme) (o : List Lexeme) →
     Stands r (ReturnStart p) s N (t ∷ o) → Leads r (return_step p N s t) o
 unfolding machine Leads Stands
 return_stands r p N s (a_sign n q) o d =
@@ -158,7 +158,7 @@ return_stands r p N s (a_number n q) o d = operand_start_stands r N _ (a_number 
 return_stands r p N s (a_text n q) o d = operand_start_stands r N _ (a_text n q) o (return_open d)
 return_stands r p N s (the_end q) o d = operand_start_stands r N _ (the_end q) o (return_open d)
 
-statement_word_stands : (r : Source) (n : ℕ) (p : Pos) (N : List Node) (s : List Entry) (o : List Lexeme) →
+statement_word_stands : (r : Source) (n : ℕ) (p : Position) (N : List Node) (s : List Entry) (o : List Lexeme) →
     Due r for_statement s N (a_word n p ∷ o) → Leads r (statement_word n p N s) o
 unfolding machine Leads Stands
 statement_word_stands r n p N s o d =
@@ -170,7 +170,7 @@ statement_word_stands r n p N s o d =
     (λ e. flags_step_stands r true no_flags N (Simple ∷ s) (a_word n p) o no_flag (on_local e (simple_open d)))
     (λ e. first_start_stands r N (Simple ∷ s) (a_word n p) o (first_due statement_takes (simple_open d)))))))
 
-statement_sign_stands : (r : Source) (n : ℕ) (p : Pos) (N : List Node) (s : List Entry) (o : List Lexeme) →
+statement_sign_stands : (r : Source) (n : ℕ) (p : Position) (N : List Node) (s : List Entry) (o : List Lexeme) →
     Due r for_statement s N (a_sign n p ∷ o) → Leads r (statement_sign n p N s) o
 unfolding machine Leads Stands
 statement_sign_stands r n p N s o d =
@@ -195,7 +195,7 @@ statement_start_stands r N s (a_text n p) o d =
 statement_start_stands r N s (the_end p) o d =
     first_start_stands r N (Simple ∷ s) (the_end p) o (first_due statement_takes (simple_open d))
 
-block_ended_stands : (r : Source) (p : Pos) (N : List Node) (s : List Entry) (o : List Lexeme) →
+block_ended_stands : (r : Source) (p : Position) (N : List Node) (s : List Entry) (o : List Lexeme) →
     Due r for_statement s N (a_sign sign_right_brace p ∷ o) → Leads r (block_ended N s) o
 unfolding machine Leads Stands
 block_ended_stands r p N s o (block_open b d) = statement_done (block b) d
@@ -224,28 +224,28 @@ pub member_read_stands : (r : Source) (id : ℕ) (N : List Node) (s : List Entry
 unfolding machine Leads Stands
 member_read_stands r id N s o v (class_body g h m d) = class_body g h (one_member_more m v) d
 
-field_of_given : {flags : Option ℕ} {t : ℕ} {p q : Pos} {w : List ℕ} {M N : List Node} {j o : List Lexeme} →
+field_of_given : {flags : Option ℕ} {t : ℕ} {p q : Position} {w : List ℕ} {M N : List Node} {j o : List Lexeme} →
     TypeGiven flags t M j N (a_name w p ∷ a_sign sign_semicolon q ∷ o) →
     MemberRead M j (put N (Field p w flags t None None)) o (length N)
 field_of_given (type_given (given f) x) = field f x
 
-valued_field : {flags : Option ℕ} {t v : ℕ} {p q x : Pos} {w : List ℕ} {M N N1 N2 : List Node}
+valued_field : {flags : Option ℕ} {t v : ℕ} {p q x : Position} {w : List ℕ} {M N N1 N2 : List Node}
     {j i i1 o : List Lexeme} → FlagsGiven flags M j N i → TypeRead N i N1 (a_name w p ∷ a_sign sign_assign q ∷ i1) t →
     LiteralRead N1 i1 N2 (a_sign sign_semicolon x ∷ o) v →
     MemberRead M j (put N2 (Field p w flags t (Some q) (Some v))) o (length N2)
 valued_field (given f) d v = field_with_value f d v
 
-field_begun : (r : Source) {flags : Option ℕ} {t : ℕ} {p q : Pos} {w : List ℕ} {s : List Entry} {M N : List Node}
+field_begun : (r : Source) {flags : Option ℕ} {t : ℕ} {p q : Position} {w : List ℕ} {s : List Entry} {M N : List Node}
     {j o : List Lexeme} → TypeGiven flags t M j N (a_name w p ∷ a_sign sign_assign q ∷ o) → Due r for_member s M j →
     Due r for_literal (FieldOpen flags t p w q ∷ s) N o
 field_begun r (type_given g x) d = field_open g x d
 
-method_begun : (r : Source) {flags : Option ℕ} {t : ℕ} {p : Pos} {w : List ℕ} {s : List Entry} {M N : List Node}
+method_begun : (r : Source) {flags : Option ℕ} {t : ℕ} {p : Position} {w : List ℕ} {s : List Entry} {M N : List Node}
     {j o : List Lexeme} → TypeGiven flags t M j N (a_name w p ∷ o) → Due r for_member s M j →
     Due r for_parameters (MethodOpen flags t p w ∷ s) N o
 method_begun r (type_given g x) d = method_open g (typed_result x) d
 
-pub member_named_stands : (r : Source) (flags : Option ℕ) (t : ℕ) (p : Pos) (w : List ℕ) (N : List Node)
+pub member_named_stands : (r : Source) (flags : Option ℕ) (t : ℕ) (p : Position) (w : List ℕ) (N : List Node)
     (s : List Entry) (x : Lexeme) (o : List Lexeme) → Stands r (MemberNamed flags t p w) s N (x ∷ o) →
     Leads r (member_named_step flags t p w N s x) o
 unfolding machine Leads Stands
@@ -270,13 +270,13 @@ literal_stands r N s (a_sign n p) o d = on_number r (λ m. Due r for_literal s N
     (λ k. k) tt
 literal_stands r N s _ o d = tt
 
-pub literal_minus_stands : (r : Source) (p : Pos) (N : List Node) (s : List Entry) (t : Lexeme) (o : List Lexeme) →
+pub literal_minus_stands : (r : Source) (p : Position) (N : List Node) (s : List Entry) (t : Lexeme) (o : List Lexeme) →
     Stands r (LiteralMinus p) s N (t ∷ o) → Leads r (literal_minus_step p N s t) o
 unfolding machine Leads Stands
 literal_minus_stands r p N s (a_number n q) o d = behind negative_literal d
 literal_minus_stands r p N s _ o d = tt
 
-field_ended_stands : (r : Source) (id : ℕ) (x : Pos) (N : List Node) (s : List Entry) (o : List Lexeme) {M : List Node}
+field_ended_stands : (r : Source) (id : ℕ) (x : Position) (N : List Node) (s : List Entry) (o : List Lexeme) {M : List Node}
     {j : List Lexeme} → LiteralRead M j N (a_sign sign_semicolon x ∷ o) id → Due r for_literal s M j →
     Leads r (field_ended id N s) o
 unfolding machine Leads Stands
@@ -296,12 +296,12 @@ unfolding machine Leads Stands
 result_stands r flags t N s (a_name w p) o h = h
 result_stands r flags t N s _ o h = tt
 
-result_begun : (r : Source) {flags : Option ℕ} {t : ℕ} {p : Pos} {w : List ℕ} {s : List Entry} {M N : List Node}
+result_begun : (r : Source) {flags : Option ℕ} {t : ℕ} {p : Position} {w : List ℕ} {s : List Entry} {M N : List Node}
     {j o : List Lexeme} → ResultGiven flags t M j N (a_name w p ∷ o) → Due r for_member s M j →
     Due r for_parameters (MethodOpen flags t p w ∷ s) N o
 result_begun r (result_given g x) d = method_open g x d
 
-pub method_named_stands : (r : Source) (flags : Option ℕ) (t : ℕ) (p : Pos) (w : List ℕ) (N : List Node)
+pub method_named_stands : (r : Source) (flags : Option ℕ) (t : ℕ) (p : Position) (w : List ℕ) (N : List Node)
     (s : List Entry) (x : Lexeme) (o : List Lexeme) → Stands r (MethodNamed flags t p w) s N (x ∷ o) →
     Leads r (method_named_step flags t p w N s x) o
 unfolding machine Leads Stands
@@ -310,7 +310,7 @@ method_named_stands r flags t p w N s (a_sign n q) o (behind {N = M} {i = j} g d
     (λ k. result_begun r k d) tt
 method_named_stands r flags t p w N s _ o h = tt
 
-pub parameters_first_stands : (r : Source) (p : Pos) (N : List Node) (s : List Entry) (t : Lexeme) (o : List Lexeme) →
+pub parameters_first_stands : (r : Source) (p : Position) (N : List Node) (s : List Entry) (t : Lexeme) (o : List Lexeme) →
     Stands r (ParametersFirst p) s N (t ∷ o) → Leads r (parameters_first_step p N s t) o
 unfolding machine Leads Stands
 parameters_first_stands r p N s (a_sign n q) o d =
@@ -328,7 +328,7 @@ parameters_first_stands r p N s (a_text n q) o d =
 parameters_first_stands r p N s (the_end q) o d =
     flags_step_stands r false no_flags N _ (the_end q) o no_flag (on_parameter (parameters_open no_parameter_yet d))
 
-parameter_ended_stands : (r : Source) (id : ℕ) (N : List Node) (s : List Entry) (n : ℕ) (x : Pos)
+parameter_ended_stands : (r : Source) (id : ℕ) (N : List Node) (s : List Entry) (n : ℕ) (x : Position)
     (o : List Lexeme) {M : List Node} {j : List Lexeme} → ParameterRead M j N (a_sign n x ∷ o) id →
     Due r for_parameter s M j → Leads r (parameter_ended id N s n) o
 unfolding machine Leads Stands
@@ -344,13 +344,13 @@ unfolding machine Leads Stands
 parameter_end_stands r id N s (a_sign n x) o (behind v d) = parameter_ended_stands r id N s n x o v d
 parameter_end_stands r id N s _ o h = tt
 
-bare_method_of : {flags ps : Option ℕ} {t : ℕ} {p q : Pos} {w : List ℕ} {M N N1 N2 : List Node}
+bare_method_of : {flags ps : Option ℕ} {t : ℕ} {p q : Position} {w : List ℕ} {M N N1 N2 : List Node}
     {j i i1 o : List Lexeme} → FlagsGiven flags M j N i → ResultRead N i N1 (a_name w p ∷ i1) t →
     ParametersRead N1 i1 N2 (a_sign sign_semicolon q ∷ o) ps → MemberRead M j (put N2 (Method p w flags t ps None)) o
     (length N2)
 bare_method_of (given f) d v = bare_method f d v
 
-body_stands : (r : Source) (ps : Option ℕ) (N : List Node) (s : List Entry) (n : ℕ) (q : Pos)
+body_stands : (r : Source) (ps : Option ℕ) (N : List Node) (s : List Entry) (n : ℕ) (q : Position)
     (o : List Lexeme) {M : List Node} {j : List Lexeme} → ParametersRead M j N (a_sign n q ∷ o) ps →
     Due r for_parameters s M j → Leads r (body_step ps N s n q) o
 unfolding machine Leads Stands
@@ -369,7 +369,7 @@ unfolding machine Leads Stands
 parameters_end_stands r ps N s (a_sign n q) o (behind v d) = body_stands r ps N s n q o v d
 parameters_end_stands r ps N s _ o h = tt
 
-pub constructor_start_stands : (r : Source) (b : Pos) (N : List Node) (s : List Entry) (t : Lexeme) (o : List Lexeme) →
+pub constructor_start_stands : (r : Source) (b : Position) (N : List Node) (s : List Entry) (t : Lexeme) (o : List Lexeme) →
     Stands r (ConstructorStart b) s N (t ∷ o) → Leads r (constructor_start_step b N s t) o
 unfolding machine Leads Stands
 constructor_start_stands r b N s (a_word n p) o h =
@@ -390,12 +390,12 @@ constructor_start_stands r b N s (a_sign n p) o (constructor_due d) =
 constructor_start_stands r b N s (the_end p) o (constructor_due d) =
     statements_stands r N _ (the_end p) o (body_open no_statement d)
 
-super_begun : (r : Source) {b p q : Pos} {s : List Entry} {N : List Node} {o : List Lexeme} →
+super_begun : (r : Source) {b p q : Position} {s : List Entry} {N : List Node} {o : List Lexeme} →
     ConstructorDue r b s N (a_word word_super p ∷ a_sign sign_left_parenthesis q ∷ o) →
     FirstArgument r (ArgumentsOpen [] ∷ SuperCallOpen b p ∷ s) N o
 super_begun r (constructor_due d) = first_argument (super_call_open d)
 
-pub super_open_stands : (r : Source) (b p : Pos) (N : List Node) (s : List Entry) (t : Lexeme) (o : List Lexeme) →
+pub super_open_stands : (r : Source) (b p : Position) (N : List Node) (s : List Entry) (t : Lexeme) (o : List Lexeme) →
     Stands r (SuperOpen b p) s N (t ∷ o) → Leads r (super_open_step b p N s t) o
 unfolding machine Leads Stands
 super_open_stands r b p N s (a_sign n q) o h =
@@ -403,7 +403,7 @@ super_open_stands r b p N s (a_sign n q) o h =
     (λ k. super_begun r k) tt
 super_open_stands r b p N s _ o h = tt
 
-pub super_end_stands : (r : Source) (b : Pos) (N : List Node) (s : List Entry) (t : Lexeme) (o : List Lexeme) →
+pub super_end_stands : (r : Source) (b : Position) (N : List Node) (s : List Entry) (t : Lexeme) (o : List Lexeme) →
     Stands r (SuperEnd b) s N (t ∷ o) → Leads r (super_end_step b N s t) o
 unfolding machine Leads Stands
 super_end_stands r b N s (a_sign n q) o h =
@@ -413,13 +413,13 @@ super_end_stands r b N s _ o h = tt
 
 -- ---- classes
 
-class_of : {flags header : Option ℕ} {ids : List ℕ} {p q x : Pos} {w : List ℕ} {M N N1 N2 : List Node}
+class_of : {flags header : Option ℕ} {ids : List ℕ} {p q x : Position} {w : List ℕ} {M N N1 N2 : List Node}
     {j i i1 o : List Lexeme} → FlagsGiven flags M j N (a_word word_class q ∷ a_name w p ∷ i) →
     HeaderRead N i N1 i1 header → MembersRead N1 i1 N2 (a_sign sign_right_brace x ∷ o) ids →
     ClassRead M j (put N2 (Class p w flags header ids)) o (length N2)
 class_of (given f) h m = class f h m
 
-class_ended_stands : (r : Source) (x : Pos) (N : List Node) (s : List Entry) (o : List Lexeme) →
+class_ended_stands : (r : Source) (x : Position) (N : List Node) (s : List Entry) (o : List Lexeme) →
     Due r for_member s N (a_sign sign_right_brace x ∷ o) → Leads r (class_ended N s) o
 unfolding machine Leads Stands
 class_ended_stands r x N s o (class_body g h m (file_open c d)) = file_open (one_class_more c (class_of g h m)) d
@@ -445,19 +445,19 @@ unfolding member_ended
 member_ended_stands r id N s t o v (class_body g h m d) =
     members_stands r N _ t o (class_body g h (one_member_more m v) d)
 
-method_of : {flags ps : Option ℕ} {t id : ℕ} {p b : Pos} {w : List ℕ} {M N N1 N2 N3 : List Node}
+method_of : {flags ps : Option ℕ} {t id : ℕ} {p b : Position} {w : List ℕ} {M N N1 N2 N3 : List Node}
     {j i i1 i2 o : List Lexeme} → FlagsGiven flags M j N i → ResultRead N i N1 (a_name w p ∷ i1) t →
     ParametersRead N1 i1 N2 (a_sign sign_left_brace b ∷ i2) ps → BlockRead b N2 i2 N3 o id →
     MemberRead M j (put N3 (Method p w flags t ps (Some id))) o (length N3)
 method_of (given f) d v (block_read s) = method f d v s
 
-constructor_of : {flags ps : Option ℕ} {id : ℕ} {p b : Pos} {w : List ℕ} {M N N1 N2 : List Node}
+constructor_of : {flags ps : Option ℕ} {id : ℕ} {p b : Position} {w : List ℕ} {M N N1 N2 : List Node}
     {j i i1 o : List Lexeme} → FlagsGiven flags M j N (a_name w p ∷ i) →
     ParametersRead N i N1 (a_sign sign_left_brace b ∷ i1) ps → BlockRead b N1 i1 N2 o id →
     MemberRead M j (put N2 (Constructor p w flags ps None id)) o (length N2)
 constructor_of (given f) v (block_read s) = constructor f v s
 
-super_constructor_of : {flags ps : Option ℕ} {arguments : List ℕ} {id : ℕ} {p b x u y : Pos} {w : List ℕ}
+super_constructor_of : {flags ps : Option ℕ} {arguments : List ℕ} {id : ℕ} {p b x u y : Position} {w : List ℕ}
     {M N N1 N2 N3 : List Node} {j i i1 i2 o : List Lexeme} → FlagsGiven flags M j N (a_name w p ∷ i) →
     ParametersRead N i N1 (a_sign sign_left_brace b ∷ a_word word_super x ∷ a_sign sign_left_parenthesis u ∷ i1) ps →
     ArgumentsRead N1 i1 N2 (a_sign sign_semicolon y ∷ i2) arguments →
@@ -466,7 +466,7 @@ super_constructor_of : {flags ps : Option ℕ} {arguments : List ℕ} {id : ℕ}
 super_constructor_of (given f) v a (block_read s) = constructor_with_super f v a s
 
 body_done_stands : (r : Source) (id : ℕ) (N : List Node) (s : List Entry) (t : Lexeme)
-    (o : List Lexeme) {b : Pos} {M : List Node} {j : List Lexeme} → BlockRead b M j N (t ∷ o) id →
+    (o : List Lexeme) {b : Position} {M : List Node} {j : List Lexeme} → BlockRead b M j N (t ∷ o) id →
     Due r (for_body b) s M j → Leads r (statement_ended id N s t) o
 unfolding statement_ended
 body_done_stands r id N s t o v (method_body g x ps d) = member_ended_stands r _ _ _ t o (method_of g x ps v) d
@@ -479,7 +479,7 @@ unfolding is_else begins_with_word
 not_else (a_word n p) o e = e
 not_else _ o e = refl
 
-else_begun : (r : Source) {p q x : Pos} {c id : ℕ} {s : List Entry} {L M N : List Node} {i j o : List Lexeme}
+else_begun : (r : Source) {p q x : Position} {c id : ℕ} {s : List Entry} {L M N : List Node} {i j o : List Lexeme}
     (t : Lexeme) → is_else t ≡ true → Level 1 L i M (a_sign sign_right_parenthesis x ∷ j) c →
     StatementRead M j N (t ∷ o) id → Due r for_statement s L (a_word word_if p ∷ a_sign sign_left_parenthesis q ∷ i) →
     Due r for_statement (IfElse p c id ∷ s) N o
@@ -488,7 +488,7 @@ else_begun r {id = id} {M = M} {N = N} {j = j} {o = o} (a_word n y) e c v d =
     if_rest c (subst (λ m. StatementRead M j N (a_word m y ∷ o) id) (eqb-true n word_else e) v) d
 else_begun r _ e c v d = absurd (true≢false (sym e))
 
-for_of : {p q x : Pos} {first c u s : ℕ} {L M N N1 N2 : List Node} {i i1 i2 i3 o : List Lexeme} →
+for_of : {p q x : Position} {first c u s : ℕ} {L M N N1 N2 : List Node} {i i1 i2 i3 o : List Lexeme} →
     ForFirstRead p first L i M i1 → Level 1 M i1 N (a_sign sign_semicolon q ∷ i2) c →
     AssignmentRead N i2 N1 (a_sign sign_right_parenthesis x ∷ i3) u → StatementRead N1 i3 N2 o s →
     StatementRead L i (put N2 (For p first c u s)) o (length N2)

@@ -1,7 +1,7 @@
 -- The sequencer makes an object by `new`: nothing names it but the operand of its frame, and it is being made.
 use Rattle.std.specs.Prelude.{Some, slice_get}
 use Rattle.std.proofs.Common.{◌≡◌, ◌⊎◌, ℕ, List, [], ◌∷◌, length, Bool, refl, subst, inl, inr}
-use Rattle.scj_base.specs.declared.places.Pos.{Pos}
+use Rattle.scj_base.specs.declared.positions.Position.{Position}
 use Rattle.scj_base.specs.declared.values.Value.{Value}
 use Rattle.scj_base.specs.declared.values.Value.TheVariants.{At}
 use Rattle.scj_rules.specs.declared.views.Body.{Body}
@@ -32,7 +32,7 @@ past_end [] x e = cc (e)
 past_end (y ∷ xs) x e = past_end xs x e
 
 module _ (code : Code) (Inner : Op → Type 0) (OnWay : ℕ → Type 0) (G : Body → Bool → Type 0) (s : State)
-    (heap : HeapLacks (length s.objects) s) (activity : Activity) (below : List Frame) (position : Pos) (f : Frame)
+    (heap : HeapLacks (length s.objects) s) (activity : Activity) (below : List Frame) (position : Position) (f : Frame)
     (class : ℕ) (slots : List Value) (lacks : AllLack (length s.objects) slots)
     (holder : Holder code Inner OnWay (length s.objects)
     (record f { operands = At (length s.objects) ∷ f.operands })) where

@@ -8,7 +8,7 @@ use Rattle.std.proofs.lemmas.List.Elements.{filter-append}
 use Rattle.std.proofs.lemmas.List.Sums.{sum_by-append}
 use Rattle.scj_base.specs.declared.faults.RunFault.{RunFault}
 use Rattle.scj_base.specs.declared.faults.RunFault.TheVariants.{MemoryFull, DepthFull, CeilingViolation, ScopedCycle, StoreFull}
-use Rattle.scj_base.specs.declared.places.Pos.{Pos}
+use Rattle.scj_base.specs.declared.positions.Position.{Position}
 use Rattle.scj_base.specs.declared.values.Value.{Value}
 use Rattle.scj_base.specs.declared.values.Value.TheVariants.{At}
 use Rattle.scj_rules.specs.Layout.{size_with_slots}
@@ -121,13 +121,13 @@ module _ (code : Code) (table : Table) where
             let is = changed_at (λ (x : Release). record x { status = Ended }) index t.releases r there in
             cc (ap (λ (o : Option Release). o >>= (λ x. activity_in x.status)) is, e)
 
-    pub faults_with : (t : State) (activity : Activity) (pos : Pos) (fault : RunFault) →
+    pub faults_with : (t : State) (activity : Activity) (pos : Position) (fault : RunFault) →
         BoundedAfter (fault_in t (ReleaseAt index) activity pos fault)
     unfolding fault_in
     faults_with t activity pos fault = ends_with (closed_all t activity.frames) _
 
     -- ---- the operations
-    module _ (s : State) (activity : Activity) (is : activity_of s (ReleaseAt index) ≡ Some activity) (pos : Pos)
+    module _ (s : State) (activity : Activity) (is : activity_of s (ReleaseAt index) ≡ Some activity) (pos : Position)
         (before : Frame) (below : List Frame) (b : IsBounded code table s (before ∷ below)) where
       nothing_moves : MemoryStays code table s s
       nothing_moves = stays s s refl (same_areas s s refl)

@@ -2,7 +2,7 @@
 use Rattle.std.specs.Prelude.{Option, Some, None, slice_get, if◌then◌else◌, length, option_map, codes, ◌&&◌, not, ◌+◌, ◌++◌}
 use Rattle.std.proofs.Common.{◌≡◌, ℕ, zero, suc, List, [], ◌∷◌, Bool, true, false, refl, sym, ◌∙◌, ap, subst}
 use Rattle.scj_base.specs.declared.faults.RunFault.TheVariants.{MemoryFull, NullPointer, StoreFull}
-use Rattle.scj_base.specs.declared.places.Pos.{Pos}
+use Rattle.scj_base.specs.declared.positions.Position.{Position}
 use Rattle.scj_base.specs.declared.values.Value.{Value}
 use Rattle.scj_base.specs.declared.values.Value.TheVariants.{Null, At}
 use Rattle.scj_builtins.specs.Framework.{mission}
@@ -88,7 +88,7 @@ module _ (code : Code) (Q : ℕ → ℕ → Type 0) (with_all : OpenedWith code 
   -- ---- the sequencer's own operations, and START
 
   module _ (s : State) (i : Invariant code s) (held : Has Q store s) where
-    opened : (place : Pos) (scope bytes : ℕ) → Q scope bytes → Has Q store (area_opened s place scope bytes).state
+    opened : (place : Position) (scope bytes : ℕ) → Q scope bytes → Has Q store (area_opened s place scope bytes).state
     unfolding area_opened opening
     opened place scope bytes q = go (has_store_for s bytes)
       where
@@ -106,7 +106,7 @@ module _ (code : Code) (Q : ℕ → ℕ → Type 0) (with_all : OpenedWith code 
             (opened_more Q store s scope (innermost s.activity.areas) bytes q held)
         go false = faulted Q store s TheSequencer s.activity place StoreFull held
 
-    made : (place : Pos) (class area : ℕ) → Has Q store (safelet_made code s place class area).state
+    made : (place : Position) (class area : ℕ) → Has Q store (safelet_made code s place class area).state
     unfolding safelet_made allocating
     made place class area = go (has_room s area (length (new_slots code.program class)))
       where

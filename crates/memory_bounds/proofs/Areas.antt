@@ -5,7 +5,7 @@ use Rattle.std.proofs.Common.{◌≡◌, inl, inr, ℕ, ◌+◌, List, [], ◌�
 use Rattle.std.proofs.lemmas.Bool.Decides.{nat_tests}
 use Rattle.scj_base.specs.declared.faults.RunFault.{RunFault}
 use Rattle.scj_base.specs.declared.faults.RunFault.TheVariants.{MemoryFull, StoreFull, DepthFull, CeilingViolation, ScopedCycle, NotInitializing, TooManyHandlers}
-use Rattle.scj_base.specs.declared.places.Pos.{Pos}
+use Rattle.scj_base.specs.declared.positions.Position.{Position}
 use Rattle.scj_base.specs.declared.values.Value.{Value}
 use Rattle.scj_base.specs.declared.values.Value.TheVariants.{At}
 use Rattle.accepted_laws.proofs.Lists.{get_either}
@@ -89,7 +89,7 @@ module _ (Q : ℕ → ℕ → Type 0) (store : ℕ) where
   all_closed [] s h = h
   all_closed (f ∷ fs) s h = all_closed fs (closed s f.opened) (one_closed s f.opened h)
 
-  pub faulted : (s : State) (job : Job) (activity : Activity) (pos : Pos) (fault : RunFault) → Has s →
+  pub faulted : (s : State) (job : Job) (activity : Activity) (pos : Position) (fault : RunFault) → Has s →
       Has (fault_in s job activity pos fault).state
   unfolding fault_in
   faulted s TheSequencer activity pos fault h =
@@ -140,7 +140,7 @@ module _ (Q : ℕ → ℕ → Type 0) (store : ℕ) where
       of true false = still u (record u { is_end_asked = true }) refl refl h
       of false d = h
 
-  module _ (code : Code) (s : State) (job : Job) (activity : Activity) (pos : Pos) (below : List Frame) (held : Has s)
+  module _ (code : Code) (s : State) (job : Job) (activity : Activity) (pos : Position) (below : List Frame) (held : Has s)
     where
       abbrev Spared : Step → Type 0
       Spared step = Has step.state

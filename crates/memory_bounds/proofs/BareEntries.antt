@@ -1,7 +1,7 @@
 -- In an accepted program no private memory is entered without a size.
 use Rattle.std.specs.Prelude.{Option, Some, None, is_some, slice_get, if◌then◌else◌}
 use Rattle.std.proofs.Common.{◌≡◌, ℕ, ◌==◌, ◌&&◌, List, [], Bool, true, false, true≢false, refl, sym, ◌∙◌, ap, subst, arith}
-use Rattle.scj_base.specs.declared.places.Pos.{Pos}
+use Rattle.scj_base.specs.declared.positions.Position.{Position}
 use Rattle.scj_builtins.specs.declared.methods.FrameworkMethod.{FrameworkMethod}
 use Rattle.scj_builtins.specs.Framework.{managed_memory_enter_private_memory, parameter_list}
 use Rattle.scj_tree.specs.declared.nodes.Node.TheVariants.{Call}
@@ -89,7 +89,7 @@ module _ (forest : Forest) (a : IsAcceptedProgram forest) where
   sorted : IsWellSorted forest.nodes
   sorted = well_sorted forest a.is_read
 
-  module _ (id : ℕ) (position : Pos) (name : List ℕ) (object : Option ℕ) (x : Target)
+  module _ (id : ℕ) (position : Position) (name : List ℕ) (object : Option ℕ) (x : Target)
       (there : slice_get forest.nodes id ≡ Some (Call position name object []))
       (enters : (x.id == managed_memory_enter_private_memory) ≡ true) where
     with_method : (r : Receiver) (f : FoundMethod) → call_receiver p types id object ≡ Some r →

@@ -5,7 +5,7 @@ use Rattle.std.proofs.lemmas.Bool.Decides.{nat_tests}
 use Rattle.std.proofs.lemmas.Option.{slice_get-map}
 use Rattle.scj_base.specs.declared.faults.RunFault.{RunFault}
 use Rattle.scj_base.specs.declared.faults.RunFault.TheVariants.{MemoryFull, DepthFull, CeilingViolation, ScopedCycle, StoreFull, NotInitializing}
-use Rattle.scj_base.specs.declared.places.Pos.{Pos}
+use Rattle.scj_base.specs.declared.positions.Position.{Position}
 use Rattle.scj_base.specs.declared.values.Value.{Value}
 use Rattle.scj_base.specs.declared.values.Value.TheVariants.{At}
 use Rattle.scj_tree.specs.declared.nodes.Node.{Node}
@@ -107,7 +107,7 @@ module _ (code : Code) (row : HandlerRow) (index : ℕ) where
           let is = changed_at (λ (x : Release). record x { status = Ended }) index t.releases r there in
           cc (ap (λ (o : Option Release). o >>= (λ x. activity_in x.status)) is, e)
 
-  pub faults_with : (t : State) (activity : Activity) (pos : Pos) (fault : RunFault) →
+  pub faults_with : (t : State) (activity : Activity) (pos : Position) (fault : RunFault) →
       After (fault_in t (ReleaseAt index) activity pos fault)
   unfolding fault_in
   faults_with t activity pos fault = ends_with (closed_all t activity.frames) _
@@ -186,7 +186,7 @@ module _ (code : Code) (row : HandlerRow) (index : ℕ) where
 
   -- ---- one operation
 
-  module _ (s : State) (activity : Activity) (is : activity_of s (ReleaseAt index) ≡ Some activity) (pos : Pos)
+  module _ (s : State) (activity : Activity) (is : activity_of s (ReleaseAt index) ≡ Some activity) (pos : Position)
       (f : Frame) (below : List Frame) (chain : Chain code s row (f ∷ below)) where
     -- with other objects or static fields
     goes_to : (t : State) (h : Frame) (events : List Event) → activity_of t (ReleaseAt index) ≡ Some activity →

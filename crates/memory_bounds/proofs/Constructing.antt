@@ -3,7 +3,7 @@
 use Rattle.std.specs.Prelude.{Option, Some, None, if◌then◌else◌, nat_lt}
 use Rattle.std.proofs.Common.{◌≡◌, ◌⊎◌, ℕ, List, [], ◌∷◌, ◌++◌, length, Bool, true, false, refl, sym, ◌∙◌, ap, subst, inl, inr}
 use Rattle.scj_base.specs.declared.faults.RunFault.{RunFault}
-use Rattle.scj_base.specs.declared.places.Pos.{Pos}
+use Rattle.scj_base.specs.declared.positions.Position.{Position}
 use Rattle.scj_base.specs.declared.values.Value.{Value}
 use Rattle.scj_base.specs.declared.values.Value.TheVariants.{At}
 use Rattle.scj_rules.specs.declared.views.Body.{Body}
@@ -109,7 +109,7 @@ pub record CalledOn (code : Code) (u : ℕ) (o : Object) (body : Body) (before t
   pub heap : Heap u o s
   pub frames : HasCalled code u body before tail s.activity.frames
 
-module _ (code : Code) (u : ℕ) (o : Object) (s : State) (heap : Heap u o s) (activity : Activity) (position : Pos)
+module _ (code : Code) (u : ℕ) (o : Object) (s : State) (heap : Heap u o s) (activity : Activity) (position : Position)
     (tail : List Frame) (body : Body) (at : Option ℕ) (area : ℕ) (arguments : List Value)
     (lacks : AllLack u arguments) where
   abbrev g : Frame

@@ -1,7 +1,7 @@
 -- A constructor of a class on the way to a form begins with the super call of the next class on the way, or with the form.
 use Rattle.std.specs.Prelude.{Option, Some, None, flat_map, if◌then◌else◌, slice_get}
 use Rattle.std.proofs.Common.{◌≡◌, ◌⊎◌, ℕ, List, [], ◌∷◌, ◌++◌, length, true, false, refl, sym, ◌∙◌, ap, subst, inl, inr, append_assoc, true≢false}
-use Rattle.scj_base.specs.declared.places.Pos.{Pos}
+use Rattle.scj_base.specs.declared.positions.Position.{Position}
 use Rattle.scj_base.specs.declared.values.Value.TheVariants.{At}
 use Rattle.scj_tree.specs.declared.nodes.Node.{Node}
 use Rattle.scj_tree.specs.declared.nodes.Node.TheVariants.{Class, Constructor, SuperCall}
@@ -44,16 +44,16 @@ pub record OnTheWay (code : Code) (OnWay : ℕ → Type 0) : Type 0 where
   -- the constructor of such a class is written, or the class stands for it
   pub node : (class b : ℕ) (node : Node) → OnWay class → constructor_body code.program class ≡ Some (Written b) →
       slice_get code.program.nodes b ≡ Some node →
-      ((position : Pos) × (name : List ℕ) × (flags : Option ℕ) × (parameters : Option ℕ) × (call : Option ℕ) × (inner : ℕ) ×
+      ((position : Position) × (name : List ℕ) × (flags : Option ℕ) × (parameters : Option ℕ) × (call : Option ℕ) × (inner : ℕ) ×
       (node ≡ Constructor position name flags parameters call inner))
-      ⊎ ((position : Pos) × (name : List ℕ) × (flags header : Option ℕ) × (members : List ℕ) ×
+      ⊎ ((position : Position) × (name : List ℕ) × (flags header : Option ℕ) × (members : List ℕ) ×
       (node ≡ Class position name flags header members))
   pub empty : (class : ℕ) → OnWay class → constructor_body code.program class ≡ Some Empty → ⊥
   pub class_there : (class : ℕ) → OnWay class → (node : ℕ) × (class_node code.program class ≡ Some node)
   -- a super call is bound to the next class
-  pub written : (b c call superclass : ℕ) (position : Pos) (name : List ℕ) (flags : Option ℕ) (parameters : Option ℕ)
+  pub written : (b c call superclass : ℕ) (position : Position) (name : List ℕ) (flags : Option ℕ) (parameters : Option ℕ)
       (inner : ℕ) → OnWay c → class_of_body code.program b ≡ Some c →
-      slice_get code.program.nodes b ≡ Some (Constructor position name flags parameters (Some call) inner) → (at : Pos)
+      slice_get code.program.nodes b ≡ Some (Constructor position name flags parameters (Some call) inner) → (at : Position)
       (arguments : List ℕ) → slice_get code.program.nodes call ≡ Some (SuperCall at arguments) →
       binding code call ≡ ClassNamed superclass → GoesOn OnWay superclass
   pub unwritten : (c node superclass : ℕ) → OnWay c → class_node code.program c ≡ Some node →
@@ -138,7 +138,7 @@ module _ (code : Code) (facts : Facts code) (bare : ClassesAskNothing code) (InS
                 ++ (literal_ops code class ++ (inner ++ LEAVE ∷ []))
           ]) class
 
-      of_written : (position : Pos) (name : List ℕ) (flags : Option ℕ) (parameters : Option ℕ) (call inner : ℕ) →
+      of_written : (position : Position) (name : List ℕ) (flags : Option ℕ) (parameters : Option ℕ) (call inner : ℕ) →
           slice_get code.program.nodes b ≡ Some (Constructor position name flags parameters (Some call) inner) →
           WrittenSuperFact code b c sig call → ComesToForm code I OnWay (Written b)
       unfolding body_ops node_ops argument_count
@@ -176,7 +176,7 @@ module _ (code : Code) (facts : Facts code) (bare : ClassesAskNothing code) (InS
           ∙ same_super n.0 sub [] refl (binding code n.0))))
           f.super_fact (ways.unwritten c n.0 f.super_fact.superclass way n.1 f.super_fact.is))
 
-      of_constructor : (position : Pos) (name : List ℕ) (flags : Option ℕ) (parameters : Option ℕ) (call : Option ℕ) (inner : ℕ) →
+      of_constructor : (position : Position) (name : List ℕ) (flags : Option ℕ) (parameters : Option ℕ) (call : Option ℕ) (inner : ℕ) →
           slice_get code.program.nodes b ≡ Some (Constructor position name flags parameters call inner) →
           OptionSuperFact code b c sig call → ComesToForm code I OnWay (Written b)
       unfolding node_ops
@@ -185,7 +185,7 @@ module _ (code : Code) (facts : Facts code) (bare : ClassesAskNothing code) (InS
       of_constructor position name flags parameters None inner there r =
           of_unwritten (sub inner) (ops_at code b (Constructor position name flags parameters None inner) there) r
 
-      of_class : (position : Pos) (name : List ℕ) (flags header : Option ℕ) (members : List ℕ) →
+      of_class : (position : Position) (name : List ℕ) (flags header : Option ℕ) (members : List ℕ) →
           slice_get code.program.nodes b ≡ Some (Class position name flags header members) →
           ((node : ℕ) → class_node code.program c ≡ Some node → UnwrittenSuperFact code b c sig node) →
           ComesToForm code I OnWay (Written b)
@@ -200,9 +200,9 @@ module _ (code : Code) (facts : Facts code) (bare : ClassesAskNothing code) (InS
         entry : EntryFact code b c sig body.node
         entry = facts.entries b c sig body
 
-        of : ((position : Pos) × (name : List ℕ) × (flags : Option ℕ) × (parameters : Option ℕ) × (call : Option ℕ) ×
+        of : ((position : Position) × (name : List ℕ) × (flags : Option ℕ) × (parameters : Option ℕ) × (call : Option ℕ) ×
             (inner : ℕ) × (body.node ≡ Constructor position name flags parameters call inner))
-            ⊎ ((position : Pos) × (name : List ℕ) × (flags header : Option ℕ) × (members : List ℕ) ×
+            ⊎ ((position : Position) × (name : List ℕ) × (flags header : Option ℕ) × (members : List ℕ) ×
             (body.node ≡ Class position name flags header members)) → ComesToForm code I OnWay (Written b)
         of (inl (position, name, flags, parameters, call, inner, e)) =
             (let r = subst (EntryFact code b c sig) e entry in

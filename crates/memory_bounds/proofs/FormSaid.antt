@@ -2,7 +2,7 @@
 use Rattle.std.specs.Prelude.{Option, Some, None, if◌then◌else◌, option_map, slice_get}
 use Rattle.std.proofs.lemmas.Option.{slice_get_within}
 use Rattle.std.proofs.Common.{◌≡◌, ℕ, ◌<◌, ◌==◌, not, ◌&&◌, ◌||◌, List, [], ◌∷◌, ◌++◌, length, Bool, true, false, refl, sym, ◌∙◌, ap, subst, true≢false}
-use Rattle.scj_base.specs.declared.places.Pos.{Pos}
+use Rattle.scj_base.specs.declared.positions.Position.{Position}
 use Rattle.scj_builtins.specs.Framework.{mission_sequencer, priority_parameters, storage_parameters}
 use Rattle.scj_tree.specs.declared.nodes.Node.{Node}
 use Rattle.scj_tree.specs.declared.nodes.Node.TheVariants.{Constructor, New, SuperCall}
@@ -47,7 +47,7 @@ use Rattle.memory_bounds.proofs.FormWays.{before_others, behind_others, call_sta
 -- ---- nodes
 
 constructor_with : (node : Node) (id : ℕ) → super_call_of node ≡ Some id →
-    (position : Pos) × (name : List ℕ) × (flags parameters : Option ℕ) × (inner : ℕ) ×
+    (position : Position) × (name : List ℕ) × (flags parameters : Option ℕ) × (inner : ℕ) ×
     (node ≡ Constructor position name flags parameters (Some id) inner)
 unfolding super_call_of
 constructor_with (Constructor position name flags parameters call inner) id e =
@@ -55,7 +55,7 @@ constructor_with (Constructor position name flags parameters call inner) id e =
 constructor_with _ id e = absurd (cc (e))
 
 only_new : (node : Node) (argument : ℕ) → only_argument node ≡ Some argument →
-    (position name_position : Pos) × (name : List ℕ) × (node ≡ New position name_position name (argument ∷ []))
+    (position name_position : Position) × (name : List ℕ) × (node ≡ New position name_position name (argument ∷ []))
 unfolding only_argument
 only_new (New position name_position name (x ∷ [])) argument e =
     (position, name_position, name, ap (λ (y : ℕ). New position name_position name (y ∷ [])) (some_inj x argument e))
@@ -134,7 +134,7 @@ module _ (forest : Forest) (a : IsAcceptedProgram forest) where
       (id : ℕ) (call : IsSuperCall p b id) (superclass : ℕ) (bound_to : bound_class (binding code id) ≡ Some superclass)
       (form : has_form superclass ≡ true) where
     -- the constructor
-    abbrev k : (position : Pos) × (name : List ℕ) × (flags parameters : Option ℕ) × (inner : ℕ) ×
+    abbrev k : (position : Position) × (name : List ℕ) × (flags parameters : Option ℕ) × (inner : ℕ) ×
         (call.node ≡ Constructor position name flags parameters (Some id) inner)
     k = constructor_with call.node id call.is_call
 
@@ -210,8 +210,8 @@ module _ (forest : Forest) (a : IsAcceptedProgram forest) where
         x : ℕ
         second : slice_get parts 1 ≡ Some x
         argument : ℕ
-        position : Pos
-        name_position : Pos
+        position : Position
+        name_position : Position
         name : List ℕ
         is_new : slice_get p.nodes x ≡ Some (New position name_position name (argument ∷ []))
         number : read p.nodes number_literal argument ≡ Some n

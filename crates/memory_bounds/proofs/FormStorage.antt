@@ -1,7 +1,7 @@
 -- The last operand of a form is the number of its storage, where that is written as a number.
 use Rattle.std.specs.Prelude.{Option, Some, None, pos, slice_get}
 use Rattle.std.proofs.Common.{◌≡◌, ℕ, List, [], ◌∷◌, ◌++◌, refl, ◌∙◌, ap, subst}
-use Rattle.scj_base.specs.declared.places.Pos.{Pos}
+use Rattle.scj_base.specs.declared.positions.Position.{Position}
 use Rattle.scj_base.specs.declared.values.Value.{Value}
 use Rattle.scj_base.specs.declared.values.Value.TheVariants.{Int}
 use Rattle.scj_tree.specs.declared.nodes.Node.{Node}
@@ -33,7 +33,7 @@ all_last left (y ∷ ys) x s = all_last left ys x (with_left (left y) s)
 
 module _ (code : Code) (behind : BehindChildren code.program) where
   -- a part of a form with one number leaves that number
-  pub part_leaves : (x argument n : ℕ) (position name_position : Pos) (name : List ℕ) →
+  pub part_leaves : (x argument n : ℕ) (position name_position : Position) (name : List ℕ) →
       slice_get code.program.nodes x ≡ Some (New position name_position name (argument ∷ [])) → binding code x ≡ Plain →
       part code number_literal argument ≡ Some n → left_by code x ≡ One (Exactly (Int (pos n)))
   unfolding left_by next_left left_by_node left_by_new left_by_part children AllBelow
@@ -48,7 +48,7 @@ module _ (code : Code) (behind : BehindChildren code.program) where
       ∙ number_leaves code argument n written)))
 
   -- and is the highest operand when the form is read
-  pub storage_last : (id x n : ℕ) (front : List ℕ) (position : Pos) →
+  pub storage_last : (id x n : ℕ) (front : List ℕ) (position : Position) →
       slice_get code.program.nodes id ≡ Some (SuperCall position (front ++ x ∷ [])) →
       left_by code x ≡ One (Exactly (Int (pos n))) → (operands : List Value) →
       Operands (asked code (PARAMS id)) operands → slice_get operands 0 ≡ Some (Int (pos n))

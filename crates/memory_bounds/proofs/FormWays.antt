@@ -1,7 +1,7 @@
 -- In an accepted program the classes on the way to a form have constructors that lead there.
 use Rattle.std.specs.Prelude.{Option, Some, None, if◌then◌else◌, option_map, slice_get}
 use Rattle.std.proofs.Common.{◌≡◌, ◌⊎◌, ℕ, ◌==◌, ◌||◌, List, [], ◌∷◌, ◌++◌, Bool, true, false, refl, sym, ◌∙◌, ap, inl, inr, true≢false}
-use Rattle.scj_base.specs.declared.places.Pos.{Pos}
+use Rattle.scj_base.specs.declared.positions.Position.{Position}
 use Rattle.scj_builtins.specs.Framework.{object}
 use Rattle.scj_tree.specs.declared.nodes.Node.{Node}
 use Rattle.scj_tree.specs.declared.nodes.Node.TheVariants.{Class, Constructor, SuperCall}
@@ -53,7 +53,7 @@ before_others x ys = ap (λ t. t || is_among x ys) (is_same_number x x refl)
 
 -- a constructor is a node
 constructor_is : (nodes : List Node) (x : ℕ) (n : Node) (con : DeclaredConstructor) → constructor_of nodes x n ≡ Some con →
-    ((position : Pos) × (name : List ℕ) × (flags : Option ℕ) × (parameters : Option ℕ) × (call : Option ℕ) × (inner : ℕ) ×
+    ((position : Position) × (name : List ℕ) × (flags : Option ℕ) × (parameters : Option ℕ) × (call : Option ℕ) × (inner : ℕ) ×
     (n ≡ Constructor position name flags parameters call inner)) × (con.node ≡ x)
 unfolding constructor_of
 constructor_is nodes x (Constructor position name flags parameters call inner) con e =
@@ -125,9 +125,9 @@ module _ (forest : Forest) (a : IsAcceptedProgram forest) where
 
   node_of : (class b : ℕ) (node : Node) → OnWay forest a class → constructor_body p class ≡ Some (Written b) →
       slice_get p.nodes b ≡ Some node →
-      ((position : Pos) × (name : List ℕ) × (flags : Option ℕ) × (parameters : Option ℕ) × (call : Option ℕ) × (inner : ℕ) ×
+      ((position : Position) × (name : List ℕ) × (flags : Option ℕ) × (parameters : Option ℕ) × (call : Option ℕ) × (inner : ℕ) ×
       (node ≡ Constructor position name flags parameters call inner))
-      ⊎ ((position : Pos) × (name : List ℕ) × (flags header : Option ℕ) × (members : List ℕ) ×
+      ⊎ ((position : Position) × (name : List ℕ) × (flags header : Option ℕ) × (members : List ℕ) ×
       (node ≡ Class position name flags header members))
   unfolding declarations_of
   node_of class b node way is there = of (constructor_in p.classes class) refl (sym (body_is class way) ∙ is)
@@ -136,9 +136,9 @@ module _ (forest : Forest) (a : IsAcceptedProgram forest) where
       w = is_written class way
 
       of : (o : Option DeclaredConstructor) → constructor_in p.classes class ≡ o → made o (class_node p class) ≡ Some (Written b) →
-          ((position : Pos) × (name : List ℕ) × (flags : Option ℕ) × (parameters : Option ℕ) × (call : Option ℕ) × (inner : ℕ) ×
+          ((position : Position) × (name : List ℕ) × (flags : Option ℕ) × (parameters : Option ℕ) × (call : Option ℕ) × (inner : ℕ) ×
           (node ≡ Constructor position name flags parameters call inner))
-          ⊎ ((position : Pos) × (name : List ℕ) × (flags header : Option ℕ) × (members : List ℕ) ×
+          ⊎ ((position : Position) × (name : List ℕ) × (flags header : Option ℕ) × (members : List ℕ) ×
           (node ≡ Class position name flags header members))
       of (Some con) e k =
           (let s = constructor_stands forest a.is_accepted a.whole sorted class con e in
@@ -162,7 +162,7 @@ module _ (forest : Forest) (a : IsAcceptedProgram forest) where
           ))
 
   -- the super call of a constructor stands in its class
-  pub call_stands : (b c call : ℕ) (position : Pos) (name : List ℕ) (flags parameters : Option ℕ) (inner : ℕ) →
+  pub call_stands : (b c call : ℕ) (position : Position) (name : List ℕ) (flags parameters : Option ℕ) (inner : ℕ) →
       class_of_body p b ≡ Some c →
       slice_get forest.nodes b ≡ Some (Constructor position name flags parameters (Some call) inner) →
       (context p call).class ≡ Some c
@@ -180,9 +180,9 @@ module _ (forest : Forest) (a : IsAcceptedProgram forest) where
           behind_others call (optional flags) (optional parameters ++ (call ∷ (inner ∷ [])))
           (behind_others call (optional parameters) (call ∷ (inner ∷ [])) (before_others call (inner ∷ [])))
 
-  pub up_of_call : (b c call superclass : ℕ) (position : Pos) (name : List ℕ) (flags parameters : Option ℕ) (inner : ℕ) →
+  pub up_of_call : (b c call superclass : ℕ) (position : Position) (name : List ℕ) (flags parameters : Option ℕ) (inner : ℕ) →
       class_of_body p b ≡ Some c →
-      slice_get forest.nodes b ≡ Some (Constructor position name flags parameters (Some call) inner) → (at : Pos)
+      slice_get forest.nodes b ≡ Some (Constructor position name flags parameters (Some call) inner) → (at : Position)
       (arguments : List ℕ) → slice_get forest.nodes call ≡ Some (SuperCall at arguments) →
       binding_at_node p call ≡ ClassNamed superclass → superclass_in p.classes c ≡ Some superclass
   unfolding binding_of

@@ -3,7 +3,7 @@
 use Rattle.std.specs.Prelude.{Some, None, codes, length}
 use Rattle.std.proofs.Common.{◌≡◌, ◌⊎◌, ℕ, false, List, [], ◌∷◌, refl, inl, inr}
 use Rattle.scj_base.specs.declared.faults.RunFault.{RunFault}
-use Rattle.scj_base.specs.declared.places.Pos.{Pos}
+use Rattle.scj_base.specs.declared.positions.Position.{Position}
 use Rattle.scj_base.specs.declared.values.Value.{Value}
 use Rattle.scj_rules.specs.declared.views.Body.{Body}
 use Rattle.scj_rules.specs.Words.{◌>>=◌}
@@ -27,18 +27,18 @@ pub record SameRows (s t : State) : Type 0 where
   pub operation : (t.operation ≡ s.operation) ⊎ (t.outcome ≡ None)
 
 module _ (code : Code) (s : State) where
-  faulted : (activity : Activity) (position : Pos) (fault : RunFault) →
+  faulted : (activity : Activity) (position : Position) (fault : RunFault) →
       SameRows s (fault_in s TheSequencer activity position fault).state
   unfolding fault_in is_init
   faulted activity position fault = record { registry = refl; phase = inr refl; operation = inr refl }
 
-  opened : (position : Pos) (scope bytes : ℕ) → SameRows s (area_opened s position scope bytes).state
+  opened : (position : Position) (scope bytes : ℕ) → SameRows s (area_opened s position scope bytes).state
   unfolding area_opened opening
   opened position scope bytes =
       step_if (SameRows s) (has_store_for s bytes) _ _
       (λ e. record { registry = refl; phase = inl refl; operation = inl refl }) (λ e. faulted s.activity position _)
 
-  made : (position : Pos) (class area : ℕ) → SameRows s (safelet_made code s position class area).state
+  made : (position : Position) (class area : ℕ) → SameRows s (safelet_made code s position class area).state
   unfolding safelet_made allocating
   made position class area =
       step_if (SameRows s) (has_room s area _) _ _
@@ -90,7 +90,7 @@ module _ (code : Code) (s : State) where
     pub frames : t.activity.frames ≡ []
     pub areas : t.activity.areas ≡ length s.areas ∷ s.activity.areas
 
-  opened_empty : s.activity.frames ≡ [] → (position : Pos) (scope bytes : ℕ) → (v : Value) →
+  opened_empty : s.activity.frames ≡ [] → (position : Position) (scope bytes : ℕ) → (v : Value) →
       (area_opened s position scope bytes).state.outcome ≡ Some v → OpensEmpty (area_opened s position scope bytes).state
   unfolding area_opened opening fault_in
   opened_empty none position scope bytes v =

@@ -1,7 +1,7 @@
 -- The operations of the arguments of a super call: none looks at the object that is being made.
 use Rattle.std.specs.Prelude.{Option, Some, None, flat_map, slice_get, if◌then◌else◌, ◌==◌}
 use Rattle.std.proofs.Common.{◌≡◌, ◌⊎◌, ℕ, zero, suc, ◌<◌, List, [], ◌∷◌, ◌++◌, Bool, true, false, refl, sym, ◌∙◌, ap, subst, arith, inl, inr, ◌||◌}
-use Rattle.scj_base.specs.declared.places.Pos.{Pos}
+use Rattle.scj_base.specs.declared.positions.Position.{Position}
 use Rattle.scj_base.specs.Vocabulary.{sign_and_and, sign_or_or}
 use Rattle.scj_tree.specs.declared.nodes.Node.{Node}
 use Rattle.scj_tree.specs.declared.nodes.Node.TheVariants.{Binary, Unary, Cast, Parenthesized, SimpleName, FieldAccess, Call, Element, New, NewArray, Number, True, False, Null, SuperCall, This}
@@ -29,14 +29,14 @@ use Rattle.memory_bounds.proofs.Makers.{InnerLaws, IsStraight}
 
 -- what is asked of the nodes that stand in a super call: their parts stand there too, and no object is at hand
 pub record StandWithoutObject (code : Code) (InSuper : ℕ → Type 0) : Type 0 where
-  pub first : (call x : ℕ) (position : Pos) (arguments : List ℕ) →
+  pub first : (call x : ℕ) (position : Position) (arguments : List ℕ) →
       slice_get code.program.nodes call ≡ Some (SuperCall position arguments) → is_among x arguments ≡ true → InSuper x
   pub down : (id x : ℕ) (node : Node) → slice_get code.program.nodes id ≡ Some node →
       is_among x (children node) ≡ true → InSuper id → InSuper x
-  pub this : (id : ℕ) (position : Pos) → slice_get code.program.nodes id ≡ Some (This position) → InSuper id → ⊥
-  pub field : (id k : ℕ) (position : Pos) (name : List ℕ) →
+  pub this : (id : ℕ) (position : Position) → slice_get code.program.nodes id ≡ Some (This position) → InSuper id → ⊥
+  pub field : (id k : ℕ) (position : Position) (name : List ℕ) →
       slice_get code.program.nodes id ≡ Some (SimpleName position name) → binding code id ≡ Field k → InSuper id → ⊥
-  pub call : (b c id : ℕ) (position : Pos) (name arguments : List ℕ) (t : Target) →
+  pub call : (b c id : ℕ) (position : Position) (name arguments : List ℕ) (t : Target) →
       slice_get code.program.nodes id ≡ Some (Call position name None arguments) → Inside code.program b c id →
       binding code id ≡ Method t → InSuper id → ⊥
 
@@ -123,14 +123,14 @@ module _ (code : Code) (facts : Facts code) (InSuper : ℕ → Type 0) (laws : S
 
     -- ---- operators on two operands
 
-    right_is : (position : Pos) (operator l r : ℕ) → slice_get code.program.nodes id ≡ Some (Binary position operator l r) →
+    right_is : (position : Position) (operator l r : ℕ) → slice_get code.program.nodes id ≡ Some (Binary position operator l r) →
         part code right_operand id ≡ Some r
     unfolding right_operand
     right_is position operator l r there =
         ap (λ (o : Option Node). elim o as (λ z. Option ℕ) [ None ↦ None | Some n ↦ right_operand n ]) there
 
     short_inner : (op : Op) → (op ≡ AND id) ⊎ (op ≡ OR id) → (UsesThis op → ⊥) → IsStraight op →
-        (position : Pos) (operator l r : ℕ) → slice_get code.program.nodes id ≡ Some (Binary position operator l r) →
+        (position : Position) (operator l r : ℕ) → slice_get code.program.nodes id ≡ Some (Binary position operator l r) →
         (k : Kind) → HasValue code.program b c id r (Some k) → InSuper r → Inner op
     short_inner op which own straight position operator l r there k h i = record {
       own = own;
@@ -163,7 +163,7 @@ module _ (code : Code) (facts : Facts code) (InSuper : ℕ → Type 0) (laws : S
               stands = i;
             })
 
-    binary_inner : (position : Pos) (operator l r : ℕ) (j k : Kind) →
+    binary_inner : (position : Position) (operator l r : ℕ) (j k : Kind) →
         slice_get code.program.nodes id ≡ Some (Binary position operator l r) →
         HasValue code.program b c id l (Some j) → HasValue code.program b c id r (Some k) →
         All (binary_ops (below [] id (ops_of code)) id operator l r)
@@ -196,7 +196,7 @@ module _ (code : Code) (facts : Facts code) (InSuper : ℕ → Type 0) (laws : S
 
     -- ---- names, and calls
 
-    name_inner : (position : Pos) (name : List ℕ) (x : Binding) →
+    name_inner : (position : Position) (name : List ℕ) (x : Binding) →
         slice_get code.program.nodes id ≡ Some (SimpleName position name) → binding code id ≡ x →
         All (name_ops id x)
     unfolding name_ops IsStraight UsesThis
@@ -225,7 +225,7 @@ module _ (code : Code) (facts : Facts code) (InSuper : ℕ → Type 0) (laws : S
     access_inner object _ own e h = tt
 
     -- a call of a method
-    receiver_inner : (position : Pos) (name : List ℕ) (object : Option ℕ) (xs : List ℕ) (t : Target) (class : ℕ) (scope : _) →
+    receiver_inner : (position : Position) (name : List ℕ) (object : Option ℕ) (xs : List ℕ) (t : Target) (class : ℕ) (scope : _) →
         slice_get code.program.nodes id ≡ Some (Call position name object xs) → binding code id ≡ Method t →
         ReceiverIs code.program b c id object class scope → All (receiver_ops (below [] id (ops_of code)) id object)
     unfolding receiver_ops children
@@ -238,7 +238,7 @@ module _ (code : Code) (facts : Facts code) (InSuper : ℕ → Type 0) (laws : S
     among_arguments None xs x h = h
     among_arguments (Some object) xs x h = later x object xs h
 
-    arguments_inner : (position : Pos) (name : List ℕ) (object : Option ℕ) (xs : List ℕ) (ks : List Kind) →
+    arguments_inner : (position : Position) (name : List ℕ) (object : Option ℕ) (xs : List ℕ) (ks : List Kind) →
         slice_get code.program.nodes id ≡ Some (Call position name object xs) → HaveValues code.program b c id xs ks →
         All (flat_map (below [] id (ops_of code)) xs)
     unfolding children
@@ -246,7 +246,7 @@ module _ (code : Code) (facts : Facts code) (InSuper : ℕ → Type 0) (laws : S
         all_children xs ks h (λ x a. laws.down id x (Call position name object xs) there (among_arguments object xs x a) stands)
 
     -- of the calls of the framework two give a value
-    builtin_inner : (position : Pos) (name : List ℕ) (object : Option ℕ) (xs : List ℕ) (m on : ℕ) (k : Kind) →
+    builtin_inner : (position : Position) (name : List ℕ) (object : Option ℕ) (xs : List ℕ) (m on : ℕ) (k : Kind) →
         slice_get code.program.nodes id ≡ Some (Call position name object xs) →
         BuiltinCases code b c sig id object xs m on (Some k) →
         All (builtin_ops (below [] id (ops_of code)) id object xs m)
@@ -277,7 +277,7 @@ module _ (code : Code) (facts : Facts code) (InSuper : ℕ → Type 0) (laws : S
         (r.first_is, (r.second_is, tt))))
         (plain (SAME id) (λ x. x) tt (λ n e. cc (e)) (λ n e. cc (e))))
 
-    call_inner : (position : Pos) (name : List ℕ) (object : Option ℕ) (xs : List ℕ) (k : Kind) →
+    call_inner : (position : Position) (name : List ℕ) (object : Option ℕ) (xs : List ℕ) (k : Kind) →
         slice_get code.program.nodes id ≡ Some (Call position name object xs) →
         CallFact code b c sig id object xs (Some k)
         ⊎ (StaticCallFact code b c sig id xs (Some k) ⊎ BuiltinFact code b c sig id object xs (Some k)) →

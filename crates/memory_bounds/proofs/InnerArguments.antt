@@ -1,7 +1,7 @@
 -- The operations of the arguments of a super call, of a user's class or of a form, look at no object that is being made.
 use Rattle.std.specs.Prelude.{Some, flat_map, slice_get}
 use Rattle.std.proofs.Common.{◌≡◌, ℕ, List, [], ◌∷◌, true, refl, sym, ◌∙◌, ap, subst}
-use Rattle.scj_base.specs.declared.places.Pos.{Pos}
+use Rattle.scj_base.specs.declared.positions.Position.{Position}
 use Rattle.scj_tree.specs.declared.nodes.Node.TheVariants.{New}
 use Rattle.scj_tree.specs.Recursion.{below}
 use Rattle.scj_tree.specs.Shape.{children}
@@ -57,7 +57,7 @@ module _ (code : Code) (facts : Facts code) (InSuper : ℕ → Type 0) (laws : S
   same_below id [] l = refl
   same_below id (x ∷ xs) l = cc (below_lt [] id (ops_of code) x l.0, same_below id xs l.1)
 
-  part_ops : (x : ℕ) (position name_position : Pos) (name xs : List ℕ) →
+  part_ops : (x : ℕ) (position name_position : Position) (name xs : List ℕ) →
       slice_get code.program.nodes x ≡ Some (New position name_position name xs) → binding code x ≡ Plain → AreSmaller x xs →
       ops_of code x ≡ flat_map (ops_of code) xs
   unfolding node_ops new_ops

@@ -2,7 +2,7 @@
 use Rattle.std.specs.Prelude.{Option, Some, None, slice_get, if◌then◌else◌}
 use Rattle.std.proofs.Common.{◌≡◌, ◌⊎◌, ℕ, ◌<◌, List, [], ◌∷◌, length, Bool, true, false, true≢false, inl, inr, refl, sym, ◌∙◌, ap, subst}
 use Rattle.scj_base.specs.declared.faults.RunFault.{RunFault}
-use Rattle.scj_base.specs.declared.places.Pos.{Pos}
+use Rattle.scj_base.specs.declared.positions.Position.{Position}
 use Rattle.scj_rules.specs.declared.typing.Binding.{Binding}
 use Rattle.scj_rules.specs.declared.typing.Binding.TheVariants.{Builtin}
 use Rattle.scj_rules.specs.declared.typing.Scope.{Scope}
@@ -59,7 +59,7 @@ pub record IsLinked (code : Code) (f : Frame) (e : Effect) : Type 0 where
 -- the call at a node has a first argument
 pub record FirstArgument (code : Code) (id : ℕ) : Type 0 where
   pub size : ℕ
-  pub position : Pos
+  pub position : Position
   pub name : List ℕ
   pub object : Option ℕ
   pub more : List ℕ

@@ -1,7 +1,7 @@
 -- The next operation of the sequencer while an object is being made: it is being made afterwards, or its form is read now.
 use Rattle.std.specs.Prelude.{Some}
 use Rattle.std.proofs.Common.{◌≡◌, ◌⊎◌, ℕ, Bool, List, [], ◌∷◌, ◌++◌, refl, sym, ◌∙◌, ap, subst}
-use Rattle.scj_base.specs.declared.places.Pos.{Pos}
+use Rattle.scj_base.specs.declared.positions.Position.{Position}
 use Rattle.scj_rules.specs.declared.views.Body.{Body}
 use Rattle.scj_model.specs.declared.operations.Op.{Op}
 use Rattle.scj_model.specs.declared.operations.Op.TheVariants.{This as THIS, Construct as CONSTRUCT, Params as PARAMS, Super as SUPER}
@@ -29,7 +29,7 @@ split x y xs ys e = record { head = cc (e); tail = cc (e) }
 
 module _ (code : Code) (Inner : Op → Type 0) (OnWay : ℕ → Type 0) (laws : InnerLaws code Inner)
     (G : Body → Bool → Type 0) (bare : ClassesAskNothing code) (u : ℕ) (o : Object) (s : State) (heap : Heap u o s)
-    (activity : Activity) (position : Pos) (world : Environment)
+    (activity : Activity) (position : Position) (world : Environment)
     (objects : (r : ℕ) (x : Object) → world.object_at r ≡ Some x → AllLack u x.slots)
     (statics : AllLack u world.statics) (f : Frame) (below : List Frame) (acts : s.activity.frames ≡ f ∷ below)
     (op : Op) (rest : List Op) (ops : f.rest ≡ op ∷ rest)

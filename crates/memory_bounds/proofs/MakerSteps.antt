@@ -1,7 +1,7 @@
 -- One operation of the sequencer while an object is being made: the object is still being made, unless its form is read.
 use Rattle.std.specs.Prelude.{Option, Some, None}
 use Rattle.std.proofs.Common.{◌≡◌, ◌⊎◌, ℕ, Bool, length, arith, List, [], ◌∷◌, ◌++◌, refl, sym, ◌∙◌, ap, subst, inl, inr, append-nil, append_assoc}
-use Rattle.scj_base.specs.declared.places.Pos.{Pos}
+use Rattle.scj_base.specs.declared.positions.Position.{Position}
 use Rattle.scj_base.specs.declared.values.Value.{Value}
 use Rattle.scj_base.specs.declared.values.Value.TheVariants.{At}
 use Rattle.scj_rules.specs.declared.views.Body.{Body}
@@ -32,7 +32,7 @@ use Rattle.memory_bounds.proofs.Unnamed.{AllBare, Back, Called, Clean, Further, 
 
 module _ (code : Code) (Inner : Op → Type 0) (OnWay : ℕ → Type 0) (laws : InnerLaws code Inner) (G : Body → Bool → Type 0)
     (bare : ClassesAskNothing code) (u : ℕ) (o : Object) (s : State) (heap : Heap u o s) (activity : Activity)
-    (position : Pos) (world : Environment)
+    (position : Position) (world : Environment)
     (objects : (r : ℕ) (x : Object) → world.object_at r ≡ Some x → AllLack u x.slots)
     (statics : AllLack u world.statics) where
   -- the object is being made, and the heap doesn't name it

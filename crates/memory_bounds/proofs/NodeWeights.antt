@@ -3,7 +3,7 @@ use Rattle.std.specs.Prelude.{Option, Some, None, slice_get, flat_map, max, if�
 use Rattle.std.proofs.Common.{◌≡◌, ℕ, zero, suc, ◌+◌, ◌<◌, ◌≤◌, List, [], ◌∷◌, ◌++◌, Bool, true, false, ◌==◌, nat_lt, refl, sym, ◌∙◌, ap, subst, arith, zero-add}
 use Rattle.std.proofs.lemmas.Bool.Decides.{nat_tests}
 use Rattle.scj_base.specs.Vocabulary.{sign_and_and, sign_or_or}
-use Rattle.scj_base.specs.declared.places.Pos.{Pos}
+use Rattle.scj_base.specs.declared.positions.Position.{Position}
 use Rattle.scj_builtins.specs.Framework.{mission_request_termination, periodic_handler_register, aperiodic_handler_register, aperiodic_handler_release, managed_memory_enter_private_memory, managed_memory_execute_in_area_of, managed_memory_alloc_in_same, services_set_ceiling, trace_print, device_read}
 use Rattle.scj_tree.specs.declared.nodes.Node.{Node}
 use Rattle.scj_tree.specs.declared.nodes.Node.TheVariants.{Class, Method as MethodNode, Constructor, SuperCall, Block, Local as LocalNode, LocalWithValue, Assign, ExpressionStatement, If, While, For, Return, Binary, Unary, Cast, Parenthesized, SimpleName, FieldAccess, Call, Element, New, NewArray, Number, True, False, Null, This}
@@ -249,13 +249,13 @@ module _ (code : Code) (table : Table) where
         part code f id ≡ f n
     part_at f n there = ap (λ (x : Option Node). elim x [ None ↦ None | Some y ↦ f y ]) there
 
-    short_weight : (position : Pos) (operator left right : ℕ) →
+    short_weight : (position : Position) (operator left right : ℕ) →
         slice_get code.program.nodes id ≡ Some (Binary position operator left right) →
         sum_of (weight code table) (option_to_list (part code right_operand id)) ≡ weight code table right
     unfolding sum_of right_operand
     short_weight position operator left right there = rw (part_at right_operand _ there) (omega arith)
 
-    binary_covered : (position : Pos) (operator left right : ℕ) →
+    binary_covered : (position : Position) (operator left right : ℕ) →
         slice_get code.program.nodes id ≡ Some (Binary position operator left right) →
         sub right ≡ weight code table right →
         ops_weight code table (binary_ops ops id operator left right) ≤ sub left + (sub right + 0)
@@ -411,7 +411,7 @@ module _ (code : Code) (table : Table) where
       all_same [] h = refl
       all_same (x ∷ xs) h = let a = same x h.0 in let b = all_same xs h.1 in omega (arith, a, b)
 
-      if_weight : (position : Pos) (condition then_part : ℕ) (else_part : Option ℕ) →
+      if_weight : (position : Position) (condition then_part : ℕ) (else_part : Option ℕ) →
           slice_get code.program.nodes id ≡ Some (If position condition then_part else_part) →
           AllBelow id (condition ∷ then_part ∷ optional else_part) →
           op_weight code table (IF id) ≡ max (sub then_part) (sum_of sub (optional else_part))
@@ -427,7 +427,7 @@ module _ (code : Code) (table : Table) where
           ]) (part_at if_parts (If position condition then_part else_part) there) in
           omega (arith, e, a, b)
 
-      while_weight : (position : Pos) (condition body : ℕ) →
+      while_weight : (position : Position) (condition body : ℕ) →
           slice_get code.program.nodes id ≡ Some (While position condition body) →
           AllBelow id (condition ∷ body ∷ []) →
           op_weight code table (LOOP id) ≡ loop_weight (sub condition + sub body)
@@ -439,7 +439,7 @@ module _ (code : Code) (table : Table) where
           ap (λ (o : Option ℕ). loop_weight (number_or 0 o)) (part_at (turn_weight code table) (While position condition body) there) in
           e ∙ ap loop_weight (omega (arith, a, b))
 
-      for_weight : (position : Pos) (begins condition step body : ℕ) →
+      for_weight : (position : Position) (begins condition step body : ℕ) →
           slice_get code.program.nodes id ≡ Some (For position begins condition step body) →
           AllBelow id (begins ∷ condition ∷ step ∷ body ∷ []) →
           op_weight code table (LOOP id) ≡ loop_weight (sub condition + (sub step + sub body))

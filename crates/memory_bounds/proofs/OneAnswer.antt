@@ -6,7 +6,7 @@ use Rattle.std.specs.declared.cmp.Ordering.TheVariants.{Less, Equal}
 use Rattle.std.proofs.Common.{◌≡◌, ℕ, ◌<◌, ◌==◌, List, [], ◌++◌, Bool, true, false, refl, sym, ◌∙◌, ap, subst, arith}
 use Rattle.std.proofs.lemmas.Bool.Decides.{nat_tests}
 use Rattle.std.proofs.lemmas.List.Elements.{Contains-append_right}
-use Rattle.scj_base.specs.declared.places.Pos.{Pos}
+use Rattle.scj_base.specs.declared.positions.Position.{Position}
 use Rattle.scj_tree.specs.declared.nodes.Node.{Node}
 use Rattle.scj_tree.specs.Forest.{ChildrenFirst}
 use Rattle.scj_rules.specs.declared.views.Body.{Body}
@@ -47,14 +47,14 @@ rank m n = of (nat_lt m n) (nat_lt n m) refl refl
         let e : m ≡ n = grind (arith, nat_tests) in
         same e (subst (λ k. nat_cmp m k ≡ Equal) e (itself_equal m)) (subst (λ k. nat_cmp k m ≡ Equal) e (itself_equal m))
 
-abbrev pos_of : ℕ → ℕ → ℕ → Pos
+abbrev pos_of : ℕ → ℕ → ℕ → Position
 pos_of file line col = record { file = file; line = line; col = col }
 
-abbrev lines : Pos → Pos → Ordering
+abbrev lines : Position → Position → Ordering
 lines x y = ordering_then (nat_cmp x.line y.line) (nat_cmp x.col y.col)
 
 -- neither stands before the other one
-one_place : (a b : Pos) → (position_order a b ≡ Less → ⊥) → (position_order b a ≡ Less → ⊥) → a ≡ b
+one_place : (a b : Position) → (position_order a b ≡ Less → ⊥) → (position_order b a ≡ Less → ⊥) → a ≡ b
 one_place a b h k = by_file (rank a.file b.file)
   where
     by_col : a.file ≡ b.file → nat_cmp a.file b.file ≡ Equal → nat_cmp b.file a.file ≡ Equal → a.line ≡ b.line →
@@ -96,7 +96,7 @@ module _ (code : Code) (first : ChildrenFirst 0 code.program.nodes) (class : ℕ
             (Contains-append_right (targets_here code id node) (targets_entered code id node) target c);
       })
 
-  shows_too : (cause : NoBound) (at : Pos) → Shows code class t cause at → Shows code class u cause at
+  shows_too : (cause : NoBound) (at : Position) → Shows code class t cause at → Shows code class u cause at
   unfolding Shows
   shows_too Recursion at x = x
   shows_too NotLiteral at x = x
@@ -164,9 +164,9 @@ one_cause TooSmall OuterArea e = absurd (omega (arith, e))
 one_cause TooSmall NewInLoop e = absurd (omega (arith, e))
 
 module _ (code : Code) (class : ℕ) (t u : Table)
-    (there : (cause : NoBound) (at : Pos) → Shows code class t cause at → Shows code class u cause at)
-    (back : (cause : NoBound) (at : Pos) → Shows code class u cause at → Shows code class t cause at) where
-  one_first : (a b : NoBound) (x y : Pos) → IsFirstCause code class t a x → IsFirstCause code class u b y →
+    (there : (cause : NoBound) (at : Position) → Shows code class t cause at → Shows code class u cause at)
+    (back : (cause : NoBound) (at : Position) → Shows code class u cause at → Shows code class t cause at) where
+  one_first : (a b : NoBound) (x y : Position) → IsFirstCause code class t a x → IsFirstCause code class u b y →
       No a x ≡ No b y
   one_first a b x y f g = of (cause_order a b) (cause_order b a) refl refl
     where
@@ -202,11 +202,11 @@ module _ (code : Code) (class : ℕ) (t u : Table)
 
 -- an answer that tells a recursion, and any other one
 data Sorted (code : Code) (class : ℕ) (a : BoundAnswer) : Type 0 where
-  recurs : (at : Pos) → a ≡ No Recursion at → IsFirst (Recurs code class) at → Sorted code class a
+  recurs : (at : Position) → a ≡ No Recursion at → IsFirst (Recurs code class) at → Sorted code class a
   plain : IsNowhere (Recurs code class) → Sorted code class a
 
 module _ (code : Code) (class : ℕ) (t : Table) where
-  nowhere : (c : NoBound) (at : Pos) → order_of Recursion < order_of c → IsFirstCause code class t c at →
+  nowhere : (c : NoBound) (at : Position) → order_of Recursion < order_of c → IsFirstCause code class t c at →
       IsNowhere (Recurs code class)
   unfolding Shows
   nowhere c at l f other x = f.none_before Recursion l other x

@@ -15,7 +15,7 @@ use Rattle.scj_model.specs.Code.{Code}
 use Rattle.scj_model.specs.State.{Object, Frame, Activity, Release, ReleaseAt, ReleaseStatus, Waits, Started, Ended, Dropped, is_exec, is_init, object_at, State, activity_in, activity_of, changed, is_waiting}
 use Rattle.scj_model.specs.Memory.{used, with_slot}
 use Rattle.scj_model.specs.Steps.{Step, telling, silently, fault_in}
-use Rattle.scj_base.specs.declared.places.Pos.{Pos}
+use Rattle.scj_base.specs.declared.positions.Position.{Position}
 use Rattle.scj_base.specs.declared.faults.RunFault.TheVariants.{NotInitializing}
 use Rattle.scj_model.specs.Effects.{Effect, Goes, Prints, Makes, Stores, StoresStatic, SetsHidden, SetsCeiling, Calls, Opens, Leaves, AsksRegistration, AsksRelease, AsksTermination, Faults, Stuck}
 use Rattle.scj_model.specs.Registry.{handler_number}
@@ -193,7 +193,7 @@ pub record Situated (s : State) (e : Effect) : Type 0 where
   pub no_init : is_init s.phase ≡ false
 
 module _ (code : Code) (table : Table) (index : ℕ) (s : State) (activity : Activity)
-    (is : activity_of s (ReleaseAt index) ≡ Some activity) (pos : Pos) (before : Frame) (below : List Frame)
+    (is : activity_of s (ReleaseAt index) ≡ Some activity) (pos : Position) (before : Frame) (below : List Frame)
     (b : IsBounded code table s (before ∷ below)) where
   abbrev n : ℕ
   n = ops_weight code table before.rest

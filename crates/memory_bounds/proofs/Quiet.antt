@@ -1,7 +1,7 @@
 -- An operation of the sequencer begins no execution.
 use Rattle.std.specs.Prelude.{Option, Some, codes}
 use Rattle.std.proofs.Common.{◌≡◌, ℕ, List, [], ◌∷◌, false, refl, sym, ◌∙◌, ap, subst, ◌⊎◌, inl, inr}
-use Rattle.scj_base.specs.declared.places.Pos.{Pos}
+use Rattle.scj_base.specs.declared.positions.Position.{Position}
 use Rattle.scj_rules.specs.declared.views.Body.{Body}
 use Rattle.scj_rules.specs.ScopeRules.{immortal_scope, defined_by_chain}
 use Rattle.scj_rules.specs.Bodies.{body_named, constructor_body, size_of, safelet_class, class_position}
@@ -28,11 +28,11 @@ abbrev IsQuiet : State → Type 0
 IsQuiet t = is_exec t.phase ≡ false
 
 module _ (code : Code) (s : State) (quiet : is_exec s.phase ≡ false) where
-  opened_quiet : (position : Pos) (scope bytes : ℕ) → IsQuiet (area_opened s position scope bytes).state
+  opened_quiet : (position : Position) (scope bytes : ℕ) → IsQuiet (area_opened s position scope bytes).state
   unfolding area_opened opening fault_in is_exec
   opened_quiet position scope bytes = step_if IsQuiet (has_store_for s bytes) _ _ (λ e. quiet) (λ e. refl)
 
-  made_quiet : (position : Pos) (class area : ℕ) → IsQuiet (safelet_made code s position class area).state
+  made_quiet : (position : Position) (class area : ℕ) → IsQuiet (safelet_made code s position class area).state
   unfolding safelet_made allocating fault_in is_exec
   made_quiet position class area = step_if IsQuiet (has_room s area _) _ _ (λ e. quiet) (λ e. refl)
 

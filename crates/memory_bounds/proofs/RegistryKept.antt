@@ -2,7 +2,7 @@
 use Rattle.std.specs.Prelude.{Option, Some, None, nat_lt, is_some, not, unwrap_or, slice_set}
 use Rattle.std.proofs.Common.{◌≡◌, ◌⊎◌, ℕ, List, [], ◌∷◌, length, Bool, true, false, refl, inl, inr}
 use Rattle.scj_base.specs.declared.faults.RunFault.{RunFault}
-use Rattle.scj_base.specs.declared.places.Pos.{Pos}
+use Rattle.scj_base.specs.declared.positions.Position.{Position}
 use Rattle.scj_base.specs.declared.values.Value.{Value}
 use Rattle.scj_base.specs.declared.values.Value.TheVariants.{At}
 use Rattle.scj_model.specs.Code.{Code}
@@ -15,7 +15,7 @@ use Rattle.scj_model.specs.Apply.{is_full, ceiling_entered, called, opened_in, f
 use Rattle.scj_model.proofs.Reaching.{Gives as StepGives, gives_some}
 use Rattle.priority_laws.proofs.StepCases.{step_if, step_option, gives_nothing, gives_mapped}
 
-module _ (code : Code) (s : State) (activity : Activity) (below : List Frame) (position : Pos) where
+module _ (code : Code) (s : State) (activity : Activity) (below : List Frame) (position : Position) where
   -- the same rows as before, or handlers may be registered
   abbrev pub RowsStay : State → Type 0
   RowsStay t = (t.registry ≡ s.registry) ⊎ (is_init s.phase ≡ true)

@@ -3,7 +3,7 @@ use Rattle.std.specs.Prelude.{Option, Some, None, Contains, flat_map, nat_lt, op
 use Rattle.std.proofs.Common.{◌≡◌, ◌⊎◌, inl, inr, ℕ, zero, suc, ◌<◌, ◌==◌, ◌||◌, Bool, true, false, List, [], ◌∷◌, ◌++◌, refl, sym, ◌∙◌, ap, subst, arith}
 use Rattle.std.proofs.lemmas.Bool.Decides.{nat_tests}
 use Rattle.std.proofs.lemmas.List.Elements.{Contains-append_left, Contains-append_right}
-use Rattle.scj_base.specs.declared.places.Pos.{Pos}
+use Rattle.scj_base.specs.declared.positions.Position.{Position}
 use Rattle.scj_builtins.specs.Framework.{aperiodic_handler_register, aperiodic_handler_release, device_read, managed_memory_enter_private_memory, managed_memory_execute_in_area_of, managed_memory_alloc_in_same, mission_request_termination, periodic_handler_register, services_set_ceiling, trace_print}
 use Rattle.scj_tree.specs.declared.nodes.Node.{Node}
 use Rattle.scj_tree.specs.declared.nodes.Node.TheVariants.{Class, Method as MethodNode, Constructor, SuperCall, Block, Local as LocalNode, LocalWithValue, Assign, ExpressionStatement, If, While, For, Return, Binary, Unary, Cast, Parenthesized, SimpleName, FieldAccess, Call, Element, New, NewArray, Number, True, False, Null, This}
@@ -34,7 +34,7 @@ module _ (code : Code) (ops : ℕ → List Op) (id : ℕ) where
   abbrev All : List Op → Type 0
   All xs = AllRun code id xs
 
-  of_new : (position name_position : Pos) (name arguments : List ℕ)
+  of_new : (position name_position : Position) (name arguments : List ℕ)
       (is : slice_get code.program.nodes id ≡ Some (New position name_position name arguments)) →
       ((k : ℕ) → IsIn code.program.nodes id k → AllRun code id (ops k)) →
       (b : Binding) → binding code id ≡ b → AllRun code id (new_ops ops id arguments b)
@@ -47,7 +47,7 @@ module _ (code : Code) (ops : ℕ → List Op) (id : ℕ) where
   of_new position name_position name arguments is h _ e =
       all_of code ops id (New position name_position name arguments) is h arguments (λ k c. c)
 
-  module _ (position : Pos) (name : List ℕ) (object : Option ℕ) (arguments : List ℕ)
+  module _ (position : Position) (name : List ℕ) (object : Option ℕ) (arguments : List ℕ)
       (is : slice_get code.program.nodes id ≡ Some (Call position name object arguments))
       (h : (k : ℕ) → IsIn code.program.nodes id k → AllRun code id (ops k)) where
     abbrev call : Node

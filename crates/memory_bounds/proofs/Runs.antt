@@ -4,7 +4,7 @@ use Rattle.std.specs.Prelude.{Option, Some, None, codes, Contains}
 use Rattle.std.proofs.Common.{◌≡◌, ℕ, List, [], ◌∷◌, Bool, true, false, inl, inr, refl, sym, ◌∙◌, ap, subst}
 use Rattle.scj_base.specs.declared.faults.RunFault.{RunFault}
 use Rattle.scj_base.specs.declared.faults.RunFault.TheVariants.{MemoryFull}
-use Rattle.scj_base.specs.declared.places.Pos.{Pos}
+use Rattle.scj_base.specs.declared.positions.Position.{Position}
 use Rattle.scj_rules.specs.Bodies.{body_named}
 use Rattle.scj_rules.specs.ScopeRules.{defined_by_chain}
 use Rattle.scj_rules.specs.Words.{◌>>=◌}
@@ -183,6 +183,6 @@ module _ (code : Code) (facts : HasFacts code) (storage : Storage) (table : Tabl
         (sym (ap (λ (o : Option Release). o >>= release_op_of code plan.readings s index) of.is) ∙ e)
 
     pub never_full : (step : Step) → ref_op code plan.readings s (ReleaseAt index) ≡ Some step →
-        (unit : ℕ) (pos : Pos) → Contains step.events (Fault unit MemoryFull pos) → ⊥
+        (unit : ℕ) (pos : Position) → Contains step.events (Fault unit MemoryFull pos) → ⊥
     unfolding is_memory_full
     never_full step e = never_told is_memory_full only_memory_full step (tells_none step e) MemoryFull refl

@@ -6,7 +6,7 @@ use Rattle.std.proofs.lemmas.Bool.Decides.{nat_tests}
 use Rattle.std.proofs.lemmas.List.{length-append, length-drop}
 use Rattle.scj_base.specs.declared.faults.RunFault.{RunFault}
 use Rattle.scj_base.specs.declared.faults.RunFault.TheVariants.{MemoryFull, StoreFull, DepthFull, CeilingViolation, ScopedCycle, NotInitializing, TooManyHandlers}
-use Rattle.scj_base.specs.declared.places.Pos.{Pos}
+use Rattle.scj_base.specs.declared.positions.Position.{Position}
 use Rattle.scj_base.specs.declared.values.Value.{Value}
 use Rattle.scj_base.specs.declared.values.Value.TheVariants.{At}
 use Rattle.scj_rules.specs.Layout.{size_with_slots}
@@ -109,7 +109,7 @@ all_closed (f ∷ fs) s now =
     then_spares s (closed s f.opened) (closed_all (closed s f.opened) fs) now (one_closed s f.opened now)
     (all_closed fs (closed s f.opened) now)
 
-pub faulted : (s : State) (job : Job) (activity : Activity) (pos : Pos) (fault : RunFault) (now : ℕ) →
+pub faulted : (s : State) (job : Job) (activity : Activity) (pos : Position) (fault : RunFault) (now : ℕ) →
     Spares s (fault_in s job activity pos fault).state now
 unfolding fault_in
 faulted s TheSequencer activity pos fault now = still s (fault_in s TheSequencer activity pos fault).state now refl refl
@@ -132,7 +132,7 @@ pub record PutsInto (s : State) (now : ℕ) (e : Effect) : Type 0 where
   pub hidden : (h : Frame) (r : ℕ) (values : List Value) → e ≡ SetsHidden h r values → (o : Object) →
       slice_get s.objects r ≡ Some o → length values ≤ length o.slots
 
-module _ (code : Code) (table : Table) (s : State) (job : Job) (activity : Activity) (pos : Pos) (below : List Frame)
+module _ (code : Code) (table : Table) (s : State) (job : Job) (activity : Activity) (pos : Position) (below : List Frame)
     (now : ℕ) where
   abbrev Spared : Step → Type 0
   Spared step = Spares s step.state now

@@ -4,7 +4,7 @@ use Rattle.std.specs.Prelude.{Option, Some, None, slice_get, slice_set, nat_lt, 
 use Rattle.std.proofs.Common.{◌≡◌, ◌⊎◌, ℕ, List, [], ◌∷◌, length, refl, sym, ◌∙◌, ap, subst, inl, inr}
 use Rattle.std.proofs.lemmas.Bool.{cases_eq}
 use Rattle.scj_base.specs.declared.faults.RunFault.{RunFault}
-use Rattle.scj_base.specs.declared.places.Pos.{Pos}
+use Rattle.scj_base.specs.declared.positions.Position.{Position}
 use Rattle.scj_base.specs.declared.values.Value.{Value}
 use Rattle.scj_base.specs.declared.values.Value.TheVariants.{Int, At}
 use Rattle.scj_rules.specs.Layout.{storage_slot}
@@ -88,7 +88,7 @@ module _ (storage : Storage) (s : State) (e : Effect) where
       of r x h (inl one) = here r x h (slice_get s.objects index) refl one
       of r x h (inr n) = Was x (sym (changed_off f index s.objects r n) ∙ h) refl refl (λ k. k)
 
-  module _ (code : Code) (activity : Activity) (below : List Frame) (position : Pos) where
+  module _ (code : Code) (activity : Activity) (below : List Frame) (position : Position) where
     framed : (t : State) → AllLater storage s e t → (f : Frame) →
         AllLater storage s e (with_frame t TheSequencer activity f below)
     unfolding with_activity

@@ -3,7 +3,7 @@ use Rattle.std.specs.Prelude.{Option, Some, None, Result, Ok, Err, IfOk, Contain
 use Rattle.std.proofs.Common.{◌≡◌, ℕ, ◌≤◌, List, [], ◌∷◌, Bool, true, false, inl, inr, refl, sym, ◌∙◌, ap, subst}
 use Rattle.scj_base.specs.declared.faults.RunFault.{RunFault}
 use Rattle.scj_base.specs.declared.faults.RunFault.TheVariants.{StoreFull}
-use Rattle.scj_base.specs.declared.places.Pos.{Pos}
+use Rattle.scj_base.specs.declared.positions.Position.{Position}
 use Rattle.scj_tree.specs.Forest.{Forest}
 use Rattle.scj_rules.specs.Bodies.{body_named}
 use Rattle.scj_rules.specs.ScopeRules.{defined_by_chain}
@@ -165,7 +165,7 @@ module _ (forest : Forest) (a : IsAcceptedProgram forest) (rows : List BoundRow)
         (sym (ap (λ (o : Option Release). o >>= release_op_of (code_of forest) plan.readings s index) there) ∙ e)
 
     pub never_full : (step : Step) → ref_op (code_of forest) plan.readings s (ReleaseAt index) ≡ Some step →
-        (unit : ℕ) (pos : Pos) → Contains step.events (Fault unit StoreFull pos) → ⊥
+        (unit : ℕ) (pos : Position) → Contains step.events (Fault unit StoreFull pos) → ⊥
     unfolding is_store_full
     never_full step e = never_told is_store_full only_store_full step (tells_none step e) StoreFull refl
 

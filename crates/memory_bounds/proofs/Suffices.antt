@@ -4,7 +4,7 @@ use Rattle.std.specs.Prelude.{Option, Some, None, slice_get, min, nat_lt, not, �
 use Rattle.std.proofs.Common.{◌≡◌, ℕ, zero, suc, ◌+◌, ◌<◌, ◌≤◌, List, [], ◌∷◌, ◌++◌, length, Bool, true, false, ◌==◌, refl, sym, ◌∙◌, ap, subst, arith}
 use Rattle.std.proofs.lemmas.Bool.Decides.{nat_tests}
 use Rattle.std.proofs.lemmas.List.Elements.{Contains-append_left, Contains-append_right}
-use Rattle.scj_base.specs.declared.places.Pos.{Pos}
+use Rattle.scj_base.specs.declared.positions.Position.{Position}
 use Rattle.scj_builtins.specs.Framework.{managed_memory_enter_private_memory, managed_memory_execute_in_area_of}
 use Rattle.scj_tree.specs.declared.nodes.Node.{Node}
 use Rattle.scj_tree.specs.declared.nodes.Node.TheVariants.{Class, Method as MethodNode, Constructor, SuperCall, Local as LocalNode, LocalWithValue, If, Call, New, NewArray, While, For}
@@ -87,7 +87,7 @@ pub record IsHarmless (code : Code) (t u : Table) (id : ℕ) (node : Node) : Typ
   pub fits : (n : ℕ) → size_entered code id node ≡ Some n → (b : Body) → Contains (targets_entered code id node) b →
       t b ≤ n
   -- no private memory is entered without a size
-  pub sized : (position : Pos) (name : List ℕ) (object : Option ℕ) (x : Target) → node ≡ Call position name object [] →
+  pub sized : (position : Position) (name : List ℕ) (object : Option ℕ) (x : Target) → node ≡ Call position name object [] →
       binding code id ≡ Builtin x → (x.id == managed_memory_enter_private_memory) ≡ true → ⊥
   -- nothing is put into the area of another object
   pub none : executes_in_area (binding code id) ≡ true → (b : Body) → Contains (targets_entered code id node) b → t b ≡ 0
@@ -165,12 +165,12 @@ module _ (code : Code) (t u : Table) (id : ℕ) where
 
 -- ---- a call, by what it is bound to
 
-record HasSize (position : Pos) (name : List ℕ) (object : Option ℕ) (arguments : List ℕ) (x : Target) : Type 0 where
+record HasSize (position : Position) (name : List ℕ) (object : Option ℕ) (arguments : List ℕ) (x : Target) : Type 0 where
   size : ℕ
   is : size_node (Call position name object arguments) ≡ Some size
   asked : entered_with (Builtin x) (Call position name object arguments) ≡ Some size
 
-has_size : (position : Pos) (name : List ℕ) (object : Option ℕ) (arguments : List ℕ) (x : Target) →
+has_size : (position : Position) (name : List ℕ) (object : Option ℕ) (arguments : List ℕ) (x : Target) →
     (x.id == managed_memory_enter_private_memory) ≡ true → (arguments ≡ [] → ⊥) →
     HasSize position name object arguments x
 unfolding size_node entered_with
@@ -182,7 +182,7 @@ memory_is : (p : Declarations) (b : Binding) (x : Target) → b ≡ Builtin x �
 unfolding memory_targets
 memory_is p b x e q = rw (e, q) refl
 
-module _ (code : Code) (t u : Table) (id : ℕ) (position : Pos) (name : List ℕ) (object : Option ℕ) (arguments : List ℕ)
+module _ (code : Code) (t u : Table) (id : ℕ) (position : Position) (name : List ℕ) (object : Option ℕ) (arguments : List ℕ)
     (k : IsHarmless code t u id (Call position name object arguments)) where
   abbrev call : Node
   call = Call position name object arguments
@@ -334,7 +334,7 @@ pub record IsPlain (code : Code) : Type 0 where
   -- a number is smaller than what no memory has
   pub small : (id n : ℕ) → read code.program.nodes number_literal id ≡ Some n → n < too_much
   -- no private memory is entered without a size
-  pub sized : (id : ℕ) (position : Pos) (name : List ℕ) (object : Option ℕ) (x : Target) →
+  pub sized : (id : ℕ) (position : Position) (name : List ℕ) (object : Option ℕ) (x : Target) →
       slice_get code.program.nodes id ≡ Some (Call position name object []) → binding code id ≡ Builtin x →
       (x.id == managed_memory_enter_private_memory) ≡ true → ⊥
 

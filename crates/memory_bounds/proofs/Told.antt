@@ -5,7 +5,7 @@ use Rattle.std.proofs.Common.{◌≡◌, ◌⊎◌, inl, inr, ℕ, zero, suc, �
 use Rattle.std.proofs.lemmas.Bool.{true≢false}
 use Rattle.scj_base.specs.declared.faults.RunFault.{RunFault}
 use Rattle.scj_base.specs.declared.faults.RunFault.TheVariants.{MemoryFull, StoreFull, ScopedCycle, CeilingViolation, NotInitializing, TooManyHandlers, DepthFull}
-use Rattle.scj_base.specs.declared.places.Pos.{Pos}
+use Rattle.scj_base.specs.declared.positions.Position.{Position}
 use Rattle.scj_base.specs.declared.values.Value.{Value}
 use Rattle.scj_rules.specs.declared.views.Body.{Body}
 use Rattle.scj_rules.specs.Bodies.{class_position}
@@ -44,7 +44,7 @@ module _ (bad : RunFault → Bool) (only : (x : RunFault) → is_memory_fault x 
       later true h = refl
       later false h = h
 
-  pub never_told : (step : Step) → TellsNone step → (x : RunFault) → bad x ≡ true → (unit : ℕ) (pos : Pos) →
+  pub never_told : (step : Step) → TellsNone step → (x : RunFault) → bad x ≡ true → (unit : ℕ) (pos : Position) →
       Contains step.events (Fault unit x pos) → ⊥
   unfolding fills
   never_told step n x e unit pos c = true≢false (sym (told_one step.events (Fault unit x pos) c e) ∙ n.is)
@@ -75,7 +75,7 @@ module _ (bad : RunFault → Bool) (only : (x : RunFault) → is_memory_fault x 
   of_none None tell h = refl
   of_none (Some r) tell h = h r
 
-  faulted : (s : State) (index : ℕ) (activity : Activity) (pos : Pos) (fault : RunFault) → bad fault ≡ false →
+  faulted : (s : State) (index : ℕ) (activity : Activity) (pos : Position) (fault : RunFault) → bad fault ≡ false →
       TellsNone (fault_in s (ReleaseAt index) activity pos fault)
   unfolding fault_in fills
   faulted s index activity pos fault h = record {
@@ -100,12 +100,12 @@ module _ (bad : RunFault → Bool) (only : (x : RunFault) → is_memory_fault x 
   drops_none unit (r ∷ rs) = drops_none unit rs
 
   -- where a fault of this kind is none of those, or doesn't come
-  spared : (x : RunFault) (room : Bool) (s : State) (index : ℕ) (activity : Activity) (pos : Pos) →
+  spared : (x : RunFault) (room : Bool) (s : State) (index : ℕ) (activity : Activity) (pos : Position) →
       (bad x ≡ false) ⊎ (room ≡ true) → room ≡ false → TellsNone (fault_in s (ReleaseAt index) activity pos x)
   spared x room s index activity pos (inl none) e = faulted s index activity pos x none
   spared x room s index activity pos (inr there) e = absurd (true≢false (sym there ∙ e))
 
-  module _ (code : Code) (s : State) (index : ℕ) (activity : Activity) (below : List Frame) (pos : Pos) where
+  module _ (code : Code) (s : State) (index : ℕ) (activity : Activity) (below : List Frame) (pos : Position) where
     abbrev job : Job
     job = ReleaseAt index
 
@@ -205,7 +205,7 @@ module _ (bad : RunFault → Bool) (only : (x : RunFault) → is_memory_fault x 
 
   -- ---- each effect
 
-  module _ (code : Code) (s : State) (index : ℕ) (activity : Activity) (below : List Frame) (pos : Pos) where
+  module _ (code : Code) (s : State) (index : ℕ) (activity : Activity) (below : List Frame) (pos : Position) where
     -- that a new object finds room and a new area store, as far as that is asked, and that the effect is no such fault of
     -- its own accord
     pub record HasRoom (e : Effect) : Type 0 where

@@ -4,7 +4,7 @@ use Rattle.std.specs.Prelude.{Option, Some, None, slice_get, slice_set, nat_lt, 
 use Rattle.std.proofs.Common.{◌≡◌, ◌⊎◌, ℕ, zero, suc, List, [], ◌∷◌, ◌++◌, length, refl, sym, ◌∙◌, ap, subst, arith, inl, inr, ⊎_elim}
 use Rattle.std.proofs.lemmas.Bool.{cases_eq}
 use Rattle.scj_base.specs.declared.faults.RunFault.{RunFault}
-use Rattle.scj_base.specs.declared.places.Pos.{Pos}
+use Rattle.scj_base.specs.declared.positions.Position.{Position}
 use Rattle.scj_base.specs.declared.values.Value.{Value}
 use Rattle.scj_base.specs.declared.values.Value.TheVariants.{Null, At}
 use Rattle.accepted_laws.proofs.Lists.{get_left, get_either}
@@ -143,7 +143,7 @@ module _ (u : ℕ) (o : Object) where
     }
 
     module _ (code : Code) (s : State) (heap : Heap u o s) (held : Good s.activity.frames) (activity : Activity)
-        (position : Pos) where
+        (position : Position) where
       with_frames : (t : State) → Heap u o t → (a : Activity) → Good a.frames →
           Clean u o Good (with_activity t TheSequencer a)
       unfolding with_activity
@@ -390,7 +390,7 @@ module _ (u : ℕ) (top : Frame) (l : Lack u top) where
   -- an operation of a frame that doesn't name it, over frames that don't, over the tail
   module _ (Gives : Option Value → Type 0) (upper tail : List Frame) (others : AllBare u upper) (code : Code)
       (o : Object) (s : State) (heap : Heap u o s) (activity : Activity)
-      (now : Held u Gives (lowest_body top.body upper) tail s.activity.frames) (position : Pos) where
+      (now : Held u Gives (lowest_body top.body upper) tail s.activity.frames) (position : Position) where
     abbrev Next : List Frame → Type 0
     Next frames = Held u Gives (lowest_body top.body upper) tail frames
 
@@ -442,7 +442,7 @@ pub data Holds (u : ℕ) (under : List Value) (this : Option ℕ) (Stays : Frame
 
 module _ (u : ℕ) (under : List Value) (Stays : Frame → Type 0) (Waits : Frame → Body → Type 0) (code : Code)
     (o : Object) (s : State) (heap : Heap u o s) (activity : Activity) (top : Frame) (below : List Frame)
-    (now : Holds u under top.this Stays Waits below s.activity.frames) (position : Pos) where
+    (now : Holds u under top.this Stays Waits below s.activity.frames) (position : Position) where
   -- the operation doesn't look at `this` where that is the object; the frame doesn't leave
   pub holder_acts : (world : Environment) →
       ((r : ℕ) (x : Object) → world.object_at r ≡ Some x → AllLack u x.slots) → AllLack u world.statics → (op : Op) →

@@ -1,7 +1,7 @@
 -- In an accepted program no node in the arguments of a super call looks at the object that is being made (T13).
 use Rattle.std.specs.Prelude.{Option, Some, None, if◌then◌else◌, option_map, slice_get}
 use Rattle.std.proofs.Common.{◌≡◌, ℕ, List, Bool, true, false, not, ◌&&◌, ◌||◌, refl, sym, ◌∙◌, ap, true≢false}
-use Rattle.scj_base.specs.declared.places.Pos.{Pos}
+use Rattle.scj_base.specs.declared.positions.Position.{Position}
 use Rattle.scj_tree.specs.declared.nodes.Node.{Node}
 use Rattle.scj_tree.specs.declared.nodes.Node.TheVariants.{Call, SimpleName, SuperCall, This}
 use Rattle.scj_tree.specs.Forest.{Forest, IsForest}
@@ -132,7 +132,7 @@ module _ (forest : Forest) (accepted : IsAccepted forest) (whole : IsForest fore
         none : (id : ℕ) → InSuper id → not (has_object p id) ≡ false → ⊥
         none id h e = true≢false (sym (lacks_one id h) ∙ e)
 
-        of_field : (id k : ℕ) (position : Pos) (name : List ℕ) → slice_get forest.nodes id ≡ Some (SimpleName position name) →
+        of_field : (id k : ℕ) (position : Position) (name : List ℕ) → slice_get forest.nodes id ≡ Some (SimpleName position name) →
             binding_at_node p id ≡ InstanceField k → InSuper id → ⊥
         of_field id k position name there bound h =
             true≢false
@@ -142,7 +142,7 @@ module _ (forest : Forest) (accepted : IsAccepted forest) (whole : IsForest fore
             (right_name p types id position name
             (unbroken forest accepted whole sorted id (SimpleName position name) there)).has_object (lacks_one id h))
 
-        of_call : (b c id : ℕ) (position : Pos) (name arguments : List ℕ) (t : Target) →
+        of_call : (b c id : ℕ) (position : Position) (name arguments : List ℕ) (t : Target) →
             slice_get forest.nodes id ≡ Some (Call position name None arguments) → Inside p b c id →
             binding_at_node p id ≡ Method t → InSuper id → ⊥
         of_call b c id position name arguments t there inside bound h =

@@ -1,7 +1,7 @@
 -- What is claimed: no release of a handler class with Yes meets a full area, whichever release acts in each unit; and
 -- under the machine's own choice no release lacks store, where the plan's is as large as what is needed.
 use Rattle.std.specs.Prelude.{◌≡◌, ◌≤◌, ◌<◌, ℕ, true, List, Contains, slice_get, Option, Some, codes}
-use Rattle.scj_base.specs.declared.places.Pos.{Pos}
+use Rattle.scj_base.specs.declared.positions.Position.{Position}
 use Rattle.scj_base.specs.declared.faults.RunFault.TheVariants.{MemoryFull, StoreFull}
 use Rattle.scj_rules.specs.declared.views.Body.{Body}
 use Rattle.scj_rules.specs.Bodies.{body_named}
@@ -49,7 +49,7 @@ NeverFull code storage =
     Reached code plan (by_list choices) Arrived s → job_may_act s (ReleaseAt index) ≡ true →
     IsReleaseOf s index row → IsYes code storage table row.class →
     ref_op code plan.readings s (ReleaseAt index) ≡ Some step →
-    (unit : ℕ) (pos : Pos) → Contains step.events (Fault unit MemoryFull pos) → ⊥
+    (unit : ℕ) (pos : Position) → Contains step.events (Fault unit MemoryFull pos) → ⊥
 
 -- no release of this class finds its memory full
 abbrev pub NeverFillsMemory : Code → ℕ → Type 0
@@ -58,7 +58,7 @@ NeverFillsMemory code class =
     Reached code plan (by_list choices) Arrived s → job_may_act s (ReleaseAt index) ≡ true →
     IsReleaseOf s index row → row.class ≡ class →
     ref_op code plan.readings s (ReleaseAt index) ≡ Some step →
-    (unit : ℕ) (pos : Pos) → Contains step.events (Fault unit MemoryFull pos) → ⊥
+    (unit : ℕ) (pos : Position) → Contains step.events (Fault unit MemoryFull pos) → ⊥
 
 -- none of a class whose row is Yes does
 abbrev pub YesNeverFull : Code → List BoundRow → Type 0
@@ -71,7 +71,7 @@ NeverLacksStore code weight =
     (plan : Plan) (s : State) (index : ℕ) (step : Step) → weight ≤ plan.store →
     Reached code plan by_priority Arrived s → is_exec s.phase ≡ true → by_priority s ≡ Some (TurnOf index) →
     ref_op code plan.readings s (ReleaseAt index) ≡ Some step →
-    (unit : ℕ) (pos : Pos) → Contains step.events (Fault unit StoreFull pos) → ⊥
+    (unit : ℕ) (pos : Position) → Contains step.events (Fault unit StoreFull pos) → ⊥
 
 -- the store that is needed, where it is found, is one that no release finds too small
 abbrev pub NeedSuffices : Code → Option ℕ → Type 0

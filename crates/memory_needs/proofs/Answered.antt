@@ -4,7 +4,7 @@ use Rattle.std.proofs.Common.{◌≡◌, inl, inr, ℕ, ◌<◌, ◌≤◌, List
 use Rattle.std.proofs.lemmas.Bool.Decides.{nat_tests}
 use Rattle.std.proofs.lemmas.List.{length-replicate}
 use Rattle.directed_graphs.specs.Graphs.{Graph, IsReached, IsReachOf, AreInOrder}
-use Rattle.scj_base.specs.declared.places.Pos.{Pos}
+use Rattle.scj_base.specs.declared.positions.Position.{Position}
 use Rattle.scj_tree.specs.declared.nodes.Node.{Node}
 use Rattle.scj_tree.specs.Forest.{ChildrenFirst}
 use Rattle.scj_tree.specs.Recursion.{lookup}
@@ -32,7 +32,7 @@ use Rattle.memory_needs.proofs.Choosing.{earlier_position, earlier_cause}
 use Rattle.memory_needs.proofs.Leading.{there_is}
 use Rattle.memory_needs.proofs.Reached.{node_reached, reached_node, recurs_there, there_recurs, are_needs, node_need_is}
 
-abbrev shown_at : NoBound → Pos → Shown
+abbrev shown_at : NoBound → Position → Shown
 shown_at cause at = record { cause = cause; at = at }
 
 module _ (code : Code) (first : ChildrenFirst 0 code.program.nodes) (graph : Graph) (is : IsGraphOf code graph)
@@ -70,7 +70,7 @@ module _ (code : Code) (first : ChildrenFirst 0 code.program.nodes) (graph : Gra
       recursion : (body : ℕ) → body < count code → slice_index_or marks (body_vertex code body) false ≡ true →
           slice_index_or loops (body_vertex code body) false ≡ true →
           ClassShows (record { cause = Recursion; at = position_of_node code body })
-      by_node : (id : ℕ) (node : Node) (cause : NoBound) (at : Pos) → slice_get code.program.nodes id ≡ Some node →
+      by_node : (id : ℕ) (node : Node) (cause : NoBound) (at : Position) → slice_get code.program.nodes id ≡ Some node →
           slice_index_or marks id false ≡ true → IsShown code (told_by rows) (lookup 0 rows) id node cause at →
           ClassShows (record { cause = cause; at = at })
       by_form : (number : ℕ) → storage_node code.program class ≡ Some number →
@@ -101,7 +101,7 @@ module _ (code : Code) (first : ChildrenFirst 0 code.program.nodes) (graph : Gra
 
     -- ---- recursion
 
-    pub recurs_shown : (at : Pos) → Recurs code class at → ClassShows (record { cause = Recursion; at = at })
+    pub recurs_shown : (at : Position) → Recurs code class at → ClassShows (record { cause = Recursion; at = at })
     recurs_shown at r =
         let h = recurs_there code first graph is class handler handles there at r in
         let w = is.whole in
@@ -110,7 +110,7 @@ module _ (code : Code) (first : ChildrenFirst 0 code.program.nodes) (graph : Gra
         (recursion h.0 h.1 ((reach.exact (body_vertex code h.0) (omega (arith, l, w))).1 h.2)
         ((ordered.exact (body_vertex code h.0) (omega (arith, l, w))).1 h.3))
 
-    not_recursion : (id : ℕ) (node : Node) (cause : NoBound) (at : Pos) →
+    not_recursion : (id : ℕ) (node : Node) (cause : NoBound) (at : Position) →
         IsShown code (told_by rows) (lookup 0 rows) id node cause at → cause ≡ Recursion → ⊥
     not_recursion id node _ _ (no_number number a b) e = cc (e)
     not_recursion id node _ _ (fills target a b c) e = cc (e)
@@ -155,14 +155,14 @@ module _ (code : Code) (first : ChildrenFirst 0 code.program.nodes) (graph : Gra
 
       -- ---- the other causes
 
-      at_node : (id : ℕ) (node : Node) → ReachesNode code class id node → (cause : NoBound) (at : Pos) →
+      at_node : (id : ℕ) (node : Node) → ReachesNode code class id node → (cause : NoBound) (at : Position) →
           IsShown code (told_by rows) (lookup 0 rows) id node cause at → ClassShows (record { cause = cause; at = at })
       at_node id node r cause at s =
           by_node id node cause at r.is
           (mark_of_node id (there_is code first graph is code.program.nodes id node r.is)
           (node_reached code first graph is class handler handles there id node r)) s
 
-      pub shows_found : (cause : NoBound) (at : Pos) →
+      pub shows_found : (cause : NoBound) (at : Position) →
           Shows code class (told_by (solved code order (zero_rows code))) cause at →
           ClassShows (record { cause = cause; at = at })
       unfolding Shows storage
@@ -208,7 +208,7 @@ module _ (code : Code) (first : ChildrenFirst 0 code.program.nodes) (graph : Gra
               reached_node code first graph is class handler handles there id node e
               (node_of_mark id (there_is code first graph is code.program.nodes id node e) m)
 
-          by_cause : (cause : NoBound) (at : Pos) → IsShown code (told_by rows) (lookup 0 rows) id node cause at →
+          by_cause : (cause : NoBound) (at : Position) → IsShown code (told_by rows) (lookup 0 rows) id node cause at →
               Shows code class (told_by (solved code order (zero_rows code))) cause at
           by_cause _ _ (no_number number a b) =
               record { number = number; is_asked = of_node id node r a; is_none = b; is_position = refl }

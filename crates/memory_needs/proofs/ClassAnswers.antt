@@ -3,7 +3,7 @@ use Rattle.std.specs.Prelude.{◌⊎◌, Option, Some, None, slice_get, slice_in
 use Rattle.std.proofs.Common.{◌≡◌, inl, inr, ℕ, ◌<◌, List, Bool, true, false, refl, sym, ◌∙◌, ap, subst, arith}
 use Rattle.std.proofs.lemmas.Bool.Decides.{nat_tests}
 use Rattle.directed_graphs.specs.Graphs.{rows_of, IsReachOf}
-use Rattle.scj_base.specs.declared.places.Pos.{Pos}
+use Rattle.scj_base.specs.declared.positions.Position.{Position}
 use Rattle.scj_tree.specs.declared.nodes.Node.{Node}
 use Rattle.scj_tree.specs.Forest.{ChildrenFirst}
 use Rattle.scj_tree.specs.Recursion.{lookup}
@@ -176,7 +176,7 @@ module _ (code : Code) (first : ChildrenFirst 0 code.program.nodes) (tables : Ta
       told ∙ or_true (slice_index_or tables.order.loops.items (body_vertex code id) false)))
       (ap (λ x. if x then lookup None tables.shown.items id else None) m ∙ told)))
     where
-      node_of : (id : ℕ) (cause : NoBound) (at : Pos) → Contains tables.points.items id →
+      node_of : (id : ℕ) (cause : NoBound) (at : Position) → Contains tables.points.items id →
           reached_at marks tables.shown.items id ≡ Some (record { cause = cause; at = at }) →
           ShownAmong code marks tables.order.loops.items tables.shown.items tables.points.items (record { cause = cause; at = at })
       node_of id cause at c e = at_node id c e

@@ -4,7 +4,7 @@ use Rattle.std.proofs.Common.{◌≡◌, inl, inr, ℕ, ◌<◌, List, length, B
 use Rattle.std.proofs.lemmas.Bool.Decides.{nat_tests}
 use Rattle.directed_graphs.specs.Graphs.{Graph, successors, IsReached, start, along, LeadsToItself, AreInOrder}
 use Rattle.directed_graphs.proofs.Paths.{reached_then, first_edge}
-use Rattle.scj_base.specs.declared.places.Pos.{Pos}
+use Rattle.scj_base.specs.declared.positions.Position.{Position}
 use Rattle.scj_tree.specs.declared.nodes.Node.{Node}
 use Rattle.scj_tree.specs.Forest.{ChildrenFirst}
 use Rattle.scj_tree.specs.Recursion.{lookup}
@@ -127,7 +127,7 @@ module _ (code : Code) (first : ChildrenFirst 0 code.program.nodes) (graph : Gra
   leads_first whole target (at_once _ r) = (target, r)
   leads_first whole target (by_another between _ l r) = leads_first whole between l
 
-  pub recurs_there : (at : Pos) → Recurs code class at →
+  pub recurs_there : (at : Position) → Recurs code class at →
       (body : ℕ) × (body < count code) × IsReached graph (body_vertex code handler) (body_vertex code body)
       × LeadsToItself graph (body_vertex code body) × (position_of_node code body ≡ at)
   recurs_there at r =

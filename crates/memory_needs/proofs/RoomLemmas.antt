@@ -3,7 +3,7 @@ use Rattle.std.specs.Prelude.{Option, Some, None, slice_get, slice_set, slice_in
 use Rattle.std.specs.List.{list_any}
 use Rattle.std.proofs.Common.{◌≡◌, ℕ, ◌+◌, ◌<◌, ◌≤◌, ◌==◌, List, [], ◌∷◌, ◌++◌, length, Bool, true, false, refl, sym, ◌∙◌, ap, arith}
 use Rattle.std.proofs.lemmas.List.{drop_all, length-replicate, length-set}
-use Rattle.scj_base.specs.declared.places.Pos.{Pos}
+use Rattle.scj_base.specs.declared.positions.Position.{Position}
 use Rattle.scj_builtins.specs.Framework.{managed_memory_enter_private_memory}
 use Rattle.scj_tree.specs.declared.nodes.Node.{Node}
 use Rattle.scj_tree.specs.declared.nodes.Node.TheVariants.{Call}
@@ -40,7 +40,7 @@ none_entered t (Call position name object (size ∷ more)) e = sym (ap (λ b. if
 none_entered t (Call position name object []) e = refl
 none_entered t node e = refl
 
-pub first_entered : (t : Target) (position : Pos) (name : List ℕ) (object : Option ℕ) (arguments : List ℕ) →
+pub first_entered : (t : Target) (position : Position) (name : List ℕ) (object : Option ℕ) (arguments : List ℕ) →
     (t.id == managed_memory_enter_private_memory) ≡ true →
     slice_get arguments 0 ≡ entered_with (Builtin t) (Call position name object arguments)
 unfolding entered_with
@@ -49,7 +49,7 @@ first_entered t position name object (size ∷ more) e = sym (ap (λ b. if b the
 
 -- what enters a private memory is a call
 data Enters (b : Binding) : Node → Type 0 where
-  by_call : (t : Target) → b ≡ Builtin t → (position : Pos) (name : List ℕ) (object : Option ℕ) (arguments : List ℕ) →
+  by_call : (t : Target) → b ≡ Builtin t → (position : Position) (name : List ℕ) (object : Option ℕ) (arguments : List ℕ) →
       Enters b (Call position name object arguments)
 
 enters : (b : Binding) (node : Node) (size : ℕ) → entered_with b node ≡ Some size → Enters b node

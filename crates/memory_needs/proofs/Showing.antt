@@ -2,7 +2,7 @@
 use Rattle.std.specs.Prelude.{◌⊎◌, max, Option, Some, None, Contains, nat_lt, if◌then◌else◌}
 use Rattle.std.proofs.Common.{◌≡◌, inl, inr, ℕ, ◌<◌, ◌≤◌, ◌==◌, List, [], ◌∷◌, Bool, true, false, true≢false, refl, sym, ◌∙◌, ap, subst, arith}
 use Rattle.std.proofs.lemmas.Bool.Decides.{nat_tests}
-use Rattle.scj_base.specs.declared.places.Pos.{Pos}
+use Rattle.scj_base.specs.declared.positions.Position.{Position}
 use Rattle.scj_builtins.specs.Framework.{managed_memory_enter_private_memory, managed_memory_execute_in_area_of}
 use Rattle.scj_tree.specs.declared.nodes.Node.{Node}
 use Rattle.scj_tree.specs.declared.nodes.Node.TheVariants.{Call, NewArray, While, For}
@@ -55,7 +55,7 @@ sized_none : (code : Code) (id : ℕ) (node : Node) → entered_with (binding co
 sized_none code id node a = ap (λ (m : Option ℕ). m >>= read code.program.nodes number_literal) a
 
 module _ (code : Code) (table : Table) (needs : ℕ → ℕ) (id : ℕ) where
-  abbrev Shows : Node → NoBound → Pos → Type 0
+  abbrev Shows : Node → NoBound → Position → Type 0
   Shows node cause at = IsShown code table needs id node cause at
 
   one : (node : Node) (o : Option Shown) → Type 0
@@ -65,7 +65,7 @@ module _ (code : Code) (table : Table) (needs : ℕ → ℕ) (id : ℕ) where
       is_loop node ≡ false → ShowsOne code table needs id node None
   shows_none node a t l = record { nothing = λ cause at s. of cause at s; that = tt; alone = tt }
     where
-      of : (cause : NoBound) (at : Pos) → IsShown code table needs id node cause at → ⊥
+      of : (cause : NoBound) (at : Position) → IsShown code table needs id node cause at → ⊥
       of _ _ (no_number number e n) = cc (a, e)
       of _ _ (fills target e c n) = none_contained target (subst (λ bs. Contains bs target) t c)
       of _ _ (makes e n) = cc (l, e)
@@ -84,7 +84,7 @@ module _ (code : Code) (table : Table) (needs : ℕ → ℕ) (id : ℕ) where
           (elim o [ None ↦ Some (record { cause = NotLiteral; at = position_of_node code count }) | Some n ↦ None ])
       of None e = record { nothing = tt; that = no_number count a e; alone = alone }
         where
-          alone : (cause : NoBound) (at : Pos) → IsShown code table needs id node cause at →
+          alone : (cause : NoBound) (at : Position) → IsShown code table needs id node cause at →
               (cause ≡ NotLiteral) × (at ≡ position_of_node code count)
           alone _ _ (no_number number b n) =
               (let same : number ≡ count = cc (a, b) in (refl, ap (position_of_node code) same))
@@ -93,7 +93,7 @@ module _ (code : Code) (table : Table) (needs : ℕ → ℕ) (id : ℕ) where
           alone _ _ (small size target b c n) = absurd (none_contained target (subst (λ bs. Contains bs target) t c))
       of (Some n) e = record { nothing = nothing; that = tt; alone = tt }
         where
-          nothing : (cause : NoBound) (at : Pos) → IsShown code table needs id node cause at → ⊥
+          nothing : (cause : NoBound) (at : Position) → IsShown code table needs id node cause at → ⊥
           nothing _ _ (no_number number b m) =
               (let same : number ≡ count = cc (a, b) in
               let f = ap (read code.program.nodes number_literal) same in cc (f, m, e))
@@ -113,7 +113,7 @@ module _ (code : Code) (table : Table) (needs : ℕ → ℕ) (id : ℕ) where
           (if b then Some (record { cause = NewInLoop; at = position_of_node code id }) else None)
       of true e = record { nothing = tt; that = makes l (grind (arith, nat_tests)); alone = alone }
         where
-          alone : (cause : NoBound) (at : Pos) → IsShown code table needs id node cause at →
+          alone : (cause : NoBound) (at : Position) → IsShown code table needs id node cause at →
               (cause ≡ NewInLoop) × (at ≡ position_of_node code id)
           alone _ _ (no_number number b n) = absurd (cc (a, b))
           alone _ _ (fills target b c n) = absurd (none_contained target (subst (λ bs. Contains bs target) t c))
@@ -121,7 +121,7 @@ module _ (code : Code) (table : Table) (needs : ℕ → ℕ) (id : ℕ) where
           alone _ _ (small size target b c n) = absurd (none_contained target (subst (λ bs. Contains bs target) t c))
       of false e = record { nothing = nothing; that = tt; alone = tt }
         where
-          nothing : (cause : NoBound) (at : Pos) → IsShown code table needs id node cause at → ⊥
+          nothing : (cause : NoBound) (at : Position) → IsShown code table needs id node cause at → ⊥
           nothing _ _ (no_number number b n) = cc (a, b)
           nothing _ _ (fills target b c n) = none_contained target (subst (λ bs. Contains bs target) t c)
           nothing _ _ (makes b n) = grind (arith, nat_tests, e, n)
@@ -135,7 +135,7 @@ module _ (code : Code) (table : Table) (needs : ℕ → ℕ) (id : ℕ) where
         executes_in_area (binding code id) ≡ false → ShowsOne code table needs id node None
     by_none a w x = record { nothing = λ cause at s. of cause at s; that = tt; alone = tt }
       where
-        of : (cause : NoBound) (at : Pos) → IsShown code table needs id node cause at → ⊥
+        of : (cause : NoBound) (at : Position) → IsShown code table needs id node cause at → ⊥
         of _ _ (no_number number e n) = cc (a, e)
         of _ _ (fills target e c n) = true≢false (sym e ∙ x)
         of _ _ (makes e n) = cc (loop, e)
@@ -159,7 +159,7 @@ module _ (code : Code) (table : Table) (needs : ℕ → ℕ) (id : ℕ) where
             let h = greatest_there table (targets_entered code id node) 0 (grind (arith, nat_tests)) in
             record { nothing = tt; that = fills h.0 x h.1 h.2; alone = alone }
           where
-            alone : (cause : NoBound) (at : Pos) → IsShown code table needs id node cause at →
+            alone : (cause : NoBound) (at : Position) → IsShown code table needs id node cause at →
                 (cause ≡ OuterArea) × (at ≡ position_of_node code id)
             alone _ _ (no_number number b n) = absurd (cc (a, b))
             alone _ _ (fills target b c n) = (refl, refl)
@@ -167,7 +167,7 @@ module _ (code : Code) (table : Table) (needs : ℕ → ℕ) (id : ℕ) where
             alone _ _ (small size target b c n) = absurd (cc (unsized, b))
         of false e = record { nothing = nothing; that = tt; alone = tt }
           where
-            nothing : (cause : NoBound) (at : Pos) → IsShown code table needs id node cause at → ⊥
+            nothing : (cause : NoBound) (at : Position) → IsShown code table needs id node cause at → ⊥
             nothing _ _ (no_number number b n) = cc (a, b)
             nothing _ _ (fills target b c n) =
                 (let l = greatest_upper table (targets_entered code id node) target c in
@@ -195,7 +195,7 @@ module _ (code : Code) (table : Table) (needs : ℕ → ℕ) (id : ℕ) where
             ])
         of None e = record { nothing = tt; that = no_number size a e; alone = alone }
           where
-            alone : (cause : NoBound) (at : Pos) → IsShown code table needs id node cause at →
+            alone : (cause : NoBound) (at : Position) → IsShown code table needs id node cause at →
                 (cause ≡ NotLiteral) × (at ≡ position_of_node code size)
             alone _ _ (no_number number b n) =
                 (let same : number ≡ size = cc (a, b) in (refl, ap (position_of_node code) same))
@@ -211,7 +211,7 @@ module _ (code : Code) (table : Table) (needs : ℕ → ℕ) (id : ℕ) where
                 let h = greatest_there table (targets_entered code id node) bytes (grind (arith, nat_tests)) in
                 record { nothing = tt; that = small bytes h.0 (sized (Some bytes) e) h.1 h.2; alone = alone }
               where
-                alone : (cause : NoBound) (at : Pos) → IsShown code table needs id node cause at →
+                alone : (cause : NoBound) (at : Position) → IsShown code table needs id node cause at →
                     (cause ≡ TooSmall) × (at ≡ position_of_node code id)
                 alone _ _ (no_number number b n) =
                     absurd (let same : number ≡ size = cc (a, b) in
@@ -221,7 +221,7 @@ module _ (code : Code) (table : Table) (needs : ℕ → ℕ) (id : ℕ) where
                 alone _ _ (small other target b c n) = (refl, refl)
             by_test false q = record { nothing = nothing; that = tt; alone = tt }
               where
-                nothing : (cause : NoBound) (at : Pos) → IsShown code table needs id node cause at → ⊥
+                nothing : (cause : NoBound) (at : Position) → IsShown code table needs id node cause at → ⊥
                 nothing _ _ (no_number number b n) =
                     (let same : number ≡ size = cc (a, b) in
                     let f = ap (read code.program.nodes number_literal) same in cc (f, n, e))
@@ -255,7 +255,7 @@ module _ (code : Code) (table : Table) (needs : ℕ → ℕ) (id : ℕ) where
   asked_in enters [] = None
   asked_in enters (size ∷ more) = if enters then Some size else None
 
-  module _ (position : Pos) (name : List ℕ) (object : Option ℕ) (arguments : List ℕ) where
+  module _ (position : Position) (name : List ℕ) (object : Option ℕ) (arguments : List ℕ) where
     abbrev call : Node
     call = Call position name object arguments
 

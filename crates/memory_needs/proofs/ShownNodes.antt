@@ -1,7 +1,7 @@
 -- What a node is found to show, by the rows of all nodes, is what it shows.
 use Rattle.std.specs.Prelude.{Option, Some, None, slice_get}
 use Rattle.std.proofs.Common.{◌≡◌, ℕ, List, [], sym, ◌∙◌, ap, subst}
-use Rattle.scj_base.specs.declared.places.Pos.{Pos}
+use Rattle.scj_base.specs.declared.positions.Position.{Position}
 use Rattle.scj_tree.specs.declared.nodes.Node.{Node}
 use Rattle.scj_tree.specs.Heights.{highest}
 use Rattle.scj_tree.specs.Recursion.{lookup}
@@ -71,7 +71,7 @@ shown_is code rows id node there s e =
         subst (λ (u : Shown). IsShown code (told_by rows) (lookup 0 rows) id node u.cause u.at) same h.that
 
 pub is_shown : (code : Code) (rows : List ℕ) (id : ℕ) (node : Node) → slice_get code.program.nodes id ≡ Some node →
-    (cause : NoBound) (at : Pos) → IsShown code (told_by rows) (lookup 0 rows) id node cause at →
+    (cause : NoBound) (at : Position) → IsShown code (told_by rows) (lookup 0 rows) id node cause at →
     shown_at code rows id ≡ Some (record { cause = cause; at = at })
 is_shown code rows id node there cause at k = of (shown_at code rows id) (shown_one code rows id node there)
   where

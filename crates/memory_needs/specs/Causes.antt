@@ -1,7 +1,7 @@
 -- Why a bound can't be told of a handler class: the causes in their order, each with the places that show it.
 use Rattle.std.specs.Prelude.{◌≡◌, ℕ, ◌<◌, ◌==◌, Bool, true, false, [], ◌∷◌, find, slice_get, Option, Some, None, Contains}
 use Rattle.std.specs.declared.cmp.Ordering.TheVariants.{Less}
-use Rattle.scj_base.specs.declared.places.Pos.{Pos}
+use Rattle.scj_base.specs.declared.positions.Position.{Position}
 use Rattle.scj_builtins.specs.Framework.{managed_memory_execute_in_area_of}
 use Rattle.scj_tree.specs.declared.nodes.Node.{Node}
 use Rattle.scj_tree.specs.declared.nodes.Node.TheVariants.{New, NewArray, While, For}
@@ -47,7 +47,7 @@ storage p class = storage_node p class >>= read p.nodes number_literal
 -- ---- the causes
 
 -- a body that is reached leads to itself
-pub record Recurs (code : Code) (class : ℕ) (at : Pos) : Type 0 where
+pub record Recurs (code : Code) (class : ℕ) (at : Position) : Type 0 where
   pub node : ℕ
   pub reached : Reaches code class (Written node)
   pub again : Leads code (Written node) (Written node)
@@ -64,7 +64,7 @@ pub data AsksNumber (code : Code) (class : ℕ) (number : ℕ) : Type 0 where
       AsksNumber code class number
 
 -- what is asked to be a number is none
-pub record LacksNumber (code : Code) (class : ℕ) (at : Pos) : Type 0 where
+pub record LacksNumber (code : Code) (class : ℕ) (at : Position) : Type 0 where
   pub number : ℕ
   pub is_asked : AsksNumber code class number
   pub is_none : read code.program.nodes number_literal number ≡ None
@@ -75,7 +75,7 @@ unfoldable pub executes_in_area : Binding → Bool
 executes_in_area (Builtin t) = t.id == managed_memory_execute_in_area_of
 executes_in_area _ = false
 
-pub record FillsOuterArea (code : Code) (class : ℕ) (table : Table) (at : Pos) : Type 0 where
+pub record FillsOuterArea (code : Code) (class : ℕ) (table : Table) (at : Position) : Type 0 where
   pub id : ℕ
   pub node : Node
   pub reached : ReachesNode code class id node
@@ -90,7 +90,7 @@ is_loop (While position condition body) = true
 is_loop (For position first condition step body) = true
 is_loop _ = false
 
-pub record MakesInLoop (code : Code) (class : ℕ) (table : Table) (at : Pos) : Type 0 where
+pub record MakesInLoop (code : Code) (class : ℕ) (table : Table) (at : Position) : Type 0 where
   pub id : ℕ
   pub node : Node
   pub reached : ReachesNode code class id node
@@ -99,7 +99,7 @@ pub record MakesInLoop (code : Code) (class : ℕ) (table : Table) (at : Pos) : 
   pub is_position : position_of_node code id ≡ at
 
 -- a size is below what is put there, or the storage is
-pub data IsTooSmall (code : Code) (class : ℕ) (table : Table) (at : Pos) : Type 0 where
+pub data IsTooSmall (code : Code) (class : ℕ) (table : Table) (at : Position) : Type 0 where
   entered : (id : ℕ) (node : Node) (size : ℕ) (target : Body) → ReachesNode code class id node →
       size_entered code id node ≡ Some size → Contains (targets_entered code id node) target → size < table target →
       position_of_node code id ≡ at → IsTooSmall code class table at
@@ -107,7 +107,7 @@ pub data IsTooSmall (code : Code) (class : ℕ) (table : Table) (at : Pos) : Typ
       bytes < table body → class_position code.program class ≡ at → IsTooSmall code class table at
 
 -- a place that shows a cause, by a table of Needs
-unfoldable pub Shows : Code → ℕ → Table → NoBound → Pos → Type 0
+unfoldable pub Shows : Code → ℕ → Table → NoBound → Position → Type 0
 Shows code class table Recursion at = Recurs code class at
 Shows code class table NotLiteral at = LacksNumber code class at
 Shows code class table OuterArea at = FillsOuterArea code class table at
@@ -124,13 +124,13 @@ order_of NewInLoop = 3
 order_of TooSmall = 4
 
 -- none is shown anywhere
-abbrev pub IsNowhere : (Pos → Type 0) → Type 0
-IsNowhere Is = (at : Pos) → Is at → ⊥
+abbrev pub IsNowhere : (Position → Type 0) → Type 0
+IsNowhere Is = (at : Position) → Is at → ⊥
 
-pub record IsFirst (Is : Pos → Type 0) (at : Pos) : Type 0 where
+pub record IsFirst (Is : Position → Type 0) (at : Position) : Type 0 where
   pub here : Is at
-  pub none_before : (other : Pos) → Is other → position_order other at ≡ Less → ⊥
+  pub none_before : (other : Position) → Is other → position_order other at ≡ Less → ⊥
 
-pub record IsFirstCause (code : Code) (class : ℕ) (table : Table) (cause : NoBound) (at : Pos) : Type 0 where
+pub record IsFirstCause (code : Code) (class : ℕ) (table : Table) (cause : NoBound) (at : Position) : Type 0 where
   pub none_before : (other : NoBound) → order_of other < order_of cause → IsNowhere (Shows code class table other)
   pub first : IsFirst (Shows code class table cause) at

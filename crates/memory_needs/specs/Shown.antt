@@ -1,6 +1,6 @@
 -- What a node that is reached shows by itself, by a table of Needs: a cause with its place.
 use Rattle.std.specs.Prelude.{◌≡◌, ℕ, ◌<◌, ◌==◌, nat_lt, true, List, [], ◌∷◌, slice_get, Option, Some, None, Contains, IfSome, IfNone, if◌then◌else◌}
-use Rattle.scj_base.specs.declared.places.Pos.{Pos}
+use Rattle.scj_base.specs.declared.positions.Position.{Position}
 use Rattle.scj_builtins.specs.Framework.{managed_memory_enter_private_memory, managed_memory_execute_in_area_of}
 use Rattle.scj_tree.specs.declared.nodes.Node.{Node}
 use Rattle.scj_tree.specs.declared.nodes.Node.TheVariants.{Call, NewArray, While, For}
@@ -22,7 +22,7 @@ use Rattle.memory_needs.specs.Causes.{number_asked, executes_in_area, is_loop}
 use Rattle.memory_needs.specs.Edges.{runs_entered}
 
 -- `needs` is what is told of nodes
-pub data IsShown (code : Code) (table : Table) (needs : ℕ → ℕ) (id : ℕ) (node : Node) : NoBound → Pos → Type 0 where
+pub data IsShown (code : Code) (table : Table) (needs : ℕ → ℕ) (id : ℕ) (node : Node) : NoBound → Position → Type 0 where
   no_number : (number : ℕ) → number_asked code id node ≡ Some number →
       read code.program.nodes number_literal number ≡ None →
       IsShown code table needs id node NotLiteral (position_of_node code number)
@@ -36,9 +36,9 @@ pub data IsShown (code : Code) (table : Table) (needs : ℕ → ℕ) (id : ℕ) 
 
 -- a node shows nothing, or one cause at one place
 pub record ShowsOne (code : Code) (table : Table) (needs : ℕ → ℕ) (id : ℕ) (node : Node) (o : Option Shown) : Type 0 where
-  pub nothing : IfNone o ((cause : NoBound) (at : Pos) → IsShown code table needs id node cause at → ⊥)
+  pub nothing : IfNone o ((cause : NoBound) (at : Position) → IsShown code table needs id node cause at → ⊥)
   pub that : IfSome o (λ s. IsShown code table needs id node s.cause s.at)
-  pub alone : IfSome o (λ s. (cause : NoBound) (at : Pos) → IsShown code table needs id node cause at →
+  pub alone : IfSome o (λ s. (cause : NoBound) (at : Position) → IsShown code table needs id node cause at →
       (cause ≡ s.cause) × (at ≡ s.at))
 
 -- ---- as it is found

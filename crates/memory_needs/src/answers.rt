@@ -1,6 +1,6 @@
 //! What is told of each handler class.
 
-use scj_base::{ClassId, Pos};
+use scj_base::{ClassId, Position};
 use std::marker::Model;
 
 /// Why it can't be told that a release of a handler class never fills its private memory, in the order in which it is
@@ -32,7 +32,7 @@ pub enum BoundAnswer {
         /// Why.
         cause: NoBound,
         /// The first place that shows it.
-        at: Pos,
+        at: Position,
     },
 }
 

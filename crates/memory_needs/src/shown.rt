@@ -12,7 +12,7 @@ use crate::answers::NoBound;
 use crate::code::Code;
 use crate::needs::{highest, number_literal};
 use scj_base::ids::{MANAGED_MEMORY_ENTER_PRIVATE_MEMORY, MANAGED_MEMORY_EXECUTE_IN_AREA_OF};
-use scj_base::{Memory, NodeId, Pos};
+use scj_base::{Memory, NodeId, Position};
 use scj_rules::Binding;
 use scj_tree::{Node, told};
 use std::alloc::Global;
@@ -23,12 +23,12 @@ pub struct Shown {
     /// The cause.
     pub cause: NoBound,
     /// The place.
-    pub at: Pos,
+    pub at: Position,
 }
 
 /// The place of a node.
 #[tactic(auto, using(op_list::proofs::CodeLemmas::nodes_are))]
-pub fn position_of(code: &Code<'_>, id: NodeId) -> Pos
+pub fn position_of(code: &Code<'_>, id: NodeId) -> Position
     ensures { result ≡ position_of_node (code_of code.now) id }
 {
     node_views::position_at(code.program(), id)

@@ -5,7 +5,7 @@ ghost use Rattle.scj_builtins.specs.Framework.{parameter_list};
 ghost use Rattle.scj_rules.specs.Classes.{of_framework, parameter_written, result_written};
 ghost use Rattle.method_rows.specs.Methods.{framework_method_on, framework_numbered, no_method};
 
-use scj_base::{ClassId, MethodId, Name, NodeId, Pos};
+use scj_base::{ClassId, MethodId, Name, NodeId, Position};
 use scj_builtins::{
     GivesKind, ParameterKind, Parameters, framework_method as framework_row, method_named,
 };
@@ -17,7 +17,7 @@ pub fn made(name: Name, is_static: bool, is_abstract: bool, declared_type: Writt
 {
     Declared {
         node: NodeId::at(0),
-        position: Pos {
+        position: Position {
             file: 0,
             line: 0,
             col: 0,

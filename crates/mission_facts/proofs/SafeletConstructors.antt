@@ -1,7 +1,7 @@
 -- The constructor of a safelet in an accepted program takes nothing (T6): the machine calls it without arguments.
 use Rattle.std.proofs.Common.{◌≡◌, ℕ, List, [], ◌∷◌, map, sym, ap, ◌∙◌, refl, Option, true, Bool, false, not, ◌&&◌, true≢false}
 use Rattle.scj_base.specs.declared.findings.Rule.TheVariants.{T6, T14}
-use Rattle.scj_base.specs.declared.places.Pos.{Pos}
+use Rattle.scj_base.specs.declared.positions.Position.{Position}
 use Rattle.scj_tree.specs.declared.nodes.Node.{Node}
 use Rattle.scj_tree.specs.declared.nodes.Node.TheVariants.{Class}
 use Rattle.scj_tree.specs.Forest.{Forest, IsForest}
@@ -41,7 +41,7 @@ module _ (forest : Forest) (accepted : IsAccepted forest) (whole : IsForest fore
     abbrev p : Declarations
     p = declarations_of forest
 
-    class_breaks : (id : ℕ) (position : Pos) (name : List ℕ) (flags header : Option ℕ) (members : List ℕ) →
+    class_breaks : (id : ℕ) (position : Position) (name : List ℕ) (flags header : Option ℕ) (members : List ℕ) →
         type_breaks p (type_at_node p) id (Class position name flags header members) ≡ [] →
         holds (class_number p.names name) (misfits_class p) ≡ false
     unfolding type_breaks t1 t2 t3 t4 t5 t6 t7 t8 t9 t10 t11 t12 t13 t14

@@ -1,7 +1,7 @@
 -- The bytes that safelets and missions declare: a size method returns a constant (T14).
 use Rattle.std.proofs.Common.{◌≡◌, ℕ, List, [], ◌∷◌, sym, ap, ◌∙◌, refl, Option, Some, None, Bool, true, false, not, ◌&&◌, true≢false, option_and_then, slice_get, if◌then◌else◌}
 use Rattle.scj_base.specs.declared.findings.Rule.TheVariants.{T10, T14}
-use Rattle.scj_base.specs.declared.places.Pos.{Pos}
+use Rattle.scj_base.specs.declared.positions.Position.{Position}
 use Rattle.scj_builtins.specs.declared.methods.FrameworkMethod.{FrameworkMethod}
 use Rattle.scj_tree.specs.declared.nodes.Node.{Node}
 use Rattle.scj_tree.specs.declared.nodes.Node.TheVariants.{Block, Return, Number, Method as MethodNode}
@@ -66,7 +66,7 @@ module _ (forest : Forest) (accepted : IsAccepted forest) (whole : IsForest fore
     abbrev p : Declarations
     p = declarations_of forest
 
-    method_form : (id result_type body : ℕ) (position : Pos) (name : List ℕ) (flags parameters : Option ℕ) →
+    method_form : (id result_type body : ℕ) (position : Position) (name : List ℕ) (flags parameters : Option ℕ) →
         type_breaks p (type_at_node p) id (MethodNode position name flags result_type parameters (Some body)) ≡ [] →
         misfits_long p id name result_type (Some body) ≡ false
     unfolding type_breaks t1 t2 t3 t4 t5 t6 t7 t8 t9 t10 t11 t12 t13 t14

@@ -1,7 +1,7 @@
 -- The literals of static fields in an accepted program: each fits its field (T7).
 use Rattle.std.proofs.Common.{◌≡◌, ℕ, List, [], sym, ap, ◌∙◌, Option, Some, None, true, false, not, true≢false, option_and_then, slice_get}
 use Rattle.scj_base.specs.declared.findings.Rule.TheVariants.{T7}
-use Rattle.scj_base.specs.declared.places.Pos.{Pos}
+use Rattle.scj_base.specs.declared.positions.Position.{Position}
 use Rattle.scj_tree.specs.declared.nodes.Node.{Node}
 use Rattle.scj_tree.specs.declared.nodes.Node.TheVariants.{Field}
 use Rattle.scj_tree.specs.Forest.{Forest, IsForest}
@@ -42,8 +42,8 @@ use Rattle.mission_sound.specs.SequencerFacts.{StaticLiteralFact}
 use Rattle.accepted_laws.proofs.MethodNodes.{not_false}
 
 -- of a field that is declared with a value T7 alone is asked
-t7_alone : (p : Declarations) (types : Types) (id : ℕ) (position : Pos) (name : List ℕ) (flags : Option ℕ)
-    (declared_type value : ℕ) (equals : Pos) →
+t7_alone : (p : Declarations) (types : Types) (id : ℕ) (position : Position) (name : List ℕ) (flags : Option ℕ)
+    (declared_type value : ℕ) (equals : Position) →
     type_breaks p types id (Field position name flags declared_type (Some equals) (Some value)) ≡ [] →
     misfits_initial_value p types declared_type value ≡ false
 unfolding type_breaks t1 t2 t3 t4 t5 t6 t7 t8 t9 t10 t11 t12 t13 t14
@@ -80,11 +80,11 @@ module _ (forest : Forest) (accepted : IsAccepted forest) (whole : IsForest fore
   -- ---- the field at its node
 
   record FieldWithLiteral (f : Declared) (value : ℕ) : Type 0 where
-    position : Pos
+    position : Position
     name : List ℕ
     flags : Option ℕ
     declared_type : ℕ
-    equals : Pos
+    equals : Position
     is_there : slice_get nodes f.node ≡ Some (Field position name flags declared_type (Some equals) (Some value))
     typed : declared_type_of p f ≡ written_type p declared_type
 

@@ -4,7 +4,7 @@ use Rattle.std.specs.Prelude.{Some, None, slice_get, ◌++◌, if◌then◌else�
 use Rattle.std.proofs.Common.{◌≡◌, ℕ, List, [], ◌∷◌, length, Bool, true, false, refl, sym, ◌∙◌, ap, subst}
 use Rattle.scj_base.specs.declared.faults.RunFault.{RunFault}
 use Rattle.scj_base.specs.declared.faults.RunFault.TheVariants.{StoreFull}
-use Rattle.scj_base.specs.declared.places.Pos.{Pos}
+use Rattle.scj_base.specs.declared.positions.Position.{Position}
 use Rattle.scj_base.specs.declared.values.Value.{Value}
 use Rattle.scj_base.specs.declared.values.Value.TheVariants.{Null}
 use Rattle.scj_builtins.specs.Framework.{safelet as safelet_interface, mission as mission_class, mission_sequencer as sequencer_class}
@@ -116,7 +116,7 @@ module _ (code : Code) (s : State) (f : Free code s) where
         q = f.invariant.sequencer
 
   -- a fault in its place
-  pub fails : (position : Pos) (fault : RunFault) →
+  pub fails : (position : Position) (fault : RunFault) →
       AfterOperation code (fault_in s TheSequencer s.activity position fault).state
   fails position fault = faults code s s.activity position fault f.invariant f.outside
 
@@ -129,7 +129,7 @@ module _ (code : Code) (s : State) (f : Free code s) where
 
   -- ---- an area is opened
 
-  module _ (position : Pos) (scope bytes : ℕ) (list : List ℕ) (is : s.activity.areas ≡ list) where
+  module _ (position : Position) (scope bytes : ℕ) (list : List ℕ) (is : s.activity.areas ≡ list) where
     abbrev pub new_area : MemoryArea
     new_area = record { scope = scope; parent = innermost list; bytes = bytes; is_open = true }
 

@@ -3,7 +3,7 @@ use Rattle.std.specs.Prelude.{Option, Some, None, slice_get, length, ◌++◌, n
 use Rattle.std.proofs.Common.{◌≡◌, ℕ, List, [], ◌∷◌, Bool, true, false, refl, sym, ◌∙◌, ap, true≢false}
 use Rattle.scj_base.specs.declared.faults.RunFault.{RunFault}
 use Rattle.scj_base.specs.declared.faults.RunFault.TheVariants.{NotInitializing, TooManyHandlers}
-use Rattle.scj_base.specs.declared.places.Pos.{Pos}
+use Rattle.scj_base.specs.declared.positions.Position.{Position}
 use Rattle.scj_base.specs.declared.values.Value.{Value}
 use Rattle.scj_rules.specs.Words.{◌>>=◌}
 use Rattle.scj_model.specs.declared.events.Event.{Event}
@@ -84,7 +84,7 @@ module _ (code : Code) (base : Base) where
   Outside TheSequencer s = is_exec s.phase ≡ false
   Outside (ReleaseAt n) s = Unit {0}
 
-  pub fault_handled : (s : State) (job : Job) (activity : Activity) (position : Pos) (fault : RunFault) → Outside job s →
+  pub fault_handled : (s : State) (job : Job) (activity : Activity) (position : Position) (fault : RunFault) → Outside job s →
       Handlers s → Handlers (fault_in s job activity position fault).state
   unfolding fault_in
   fault_handled s TheSequencer activity position fault e h =
@@ -149,7 +149,7 @@ module _ (code : Code) (base : Base) where
   same_objects s TheSequencer a = refl
   same_objects s (ReleaseAt n) a = refl
 
-  pub registration_asked : (s : State) (job : Job) (activity : Activity) (position : Pos) (r : ℕ) (o : Object)
+  pub registration_asked : (s : State) (job : Job) (activity : Activity) (position : Position) (r : ℕ) (o : Object)
       (after : State) → Outside job s → Handlers s → Handlers after →
       (is_init s.phase ≡ true → RowFine code.program (world_of after) base (new_row code.program r o)) →
       Handlers (registered code s job activity position r o after).state

@@ -3,7 +3,7 @@ use Rattle.std.specs.Prelude.{Option, Some, None, slice_set, length, nat_lt, is_
 use Rattle.std.proofs.Common.{◌≡◌, ℕ, List, [], ◌∷◌, Bool, true, false, refl, ◌∙◌, subst}
 use Rattle.scj_base.specs.declared.faults.RunFault.{RunFault}
 use Rattle.scj_base.specs.declared.faults.RunFault.TheVariants.{ScopedCycle, CeilingViolation, NotInitializing, DepthFull, MemoryFull, StoreFull}
-use Rattle.scj_base.specs.declared.places.Pos.{Pos}
+use Rattle.scj_base.specs.declared.positions.Position.{Position}
 use Rattle.scj_base.specs.declared.values.Value.{Value}
 use Rattle.scj_base.specs.declared.values.Value.TheVariants.{At}
 use Rattle.accepted_laws.proofs.Tools.{some_inj}
@@ -29,7 +29,7 @@ pub record HandlersIf (code : Code) (base : Base) (o : Option Step) : Type 0 whe
 
 module _ (code : Code) (base : Base) (s : State) (job : Job) (activity : Activity)
     (acts : activity_of s job ≡ Some activity) (outside : Outside code base job s) (h : HandlersFine code s base)
-    (below : List Frame) (position : Pos) where
+    (below : List Frame) (position : Position) where
   abbrev Handlers : State → Type 0
   Handlers t = HandlersFine code t base
 

@@ -2,7 +2,7 @@
 use Rattle.std.specs.Prelude.{Option, Some, None, slice_get, length, if◌then◌else◌, codes}
 use Rattle.std.proofs.Common.{◌≡◌, ℕ, List, [], ◌∷◌, Bool, true, false, refl, sym, ◌∙◌, ap, subst, true≢false}
 use Rattle.scj_base.specs.declared.faults.RunFault.TheVariants.{StoreFull}
-use Rattle.scj_base.specs.declared.places.Pos.{Pos}
+use Rattle.scj_base.specs.declared.positions.Position.{Position}
 use Rattle.scj_rules.specs.declared.views.Body.{Body}
 use Rattle.scj_rules.specs.Words.{◌>>=◌}
 use Rattle.scj_rules.specs.ScopeRules.{defined_by_chain}
@@ -81,7 +81,7 @@ module _ (code : Code) (base : Base) (s : State) (index : ℕ) (r : Release) (th
   unfolding started_with opening
   started_if row scope body = go (has_store_for s row.bytes)
     where
-      at : Pos
+      at : Position
       at = class_position code.program row.class
 
       opened : State

@@ -3,7 +3,7 @@
 use Rattle.std.specs.Prelude.{Some, None, slice_get, ◌||◌, ◌&&◌, not}
 use Rattle.std.proofs.Common.{◌≡◌, ℕ, List, [], Bool, true, false, refl, sym, ◌∙◌, ap, true≢false}
 use Rattle.scj_base.specs.declared.faults.RunFault.{RunFault}
-use Rattle.scj_base.specs.declared.places.Pos.{Pos}
+use Rattle.scj_base.specs.declared.positions.Position.{Position}
 use Rattle.scj_builtins.specs.Framework.{safelet as safelet_interface, mission as mission_class, mission_sequencer as sequencer_class}
 use Rattle.scj_model.specs.declared.handlers.HandlerRow.{HandlerRow}
 use Rattle.scj_model.specs.declared.operations.SeqOp.TheVariants.{Finished}
@@ -118,7 +118,7 @@ halts code s i e =
       };
     }
 
-pub faults : (code : Code) (s : State) (activity : Activity) (position : Pos) (fault : RunFault) → Invariant code s →
+pub faults : (code : Code) (s : State) (activity : Activity) (position : Position) (fault : RunFault) → Invariant code s →
     is_exec s.phase ≡ false → AfterOperation code (fault_in s TheSequencer activity position fault).state
 unfolding fault_in
 faults code s activity position fault i e =

@@ -2,7 +2,7 @@
 use Rattle.std.specs.Prelude.{Option, Some, None, ◌++◌, if◌then◌else◌}
 use Rattle.std.proofs.Common.{◌≡◌, ℕ, List, [], ◌∷◌, length, Bool, true, false, refl, sym, ◌∙◌, ap, subst, true≢false, inl}
 use Rattle.scj_base.specs.declared.faults.RunFault.TheVariants.{MemoryFull}
-use Rattle.scj_base.specs.declared.places.Pos.{Pos}
+use Rattle.scj_base.specs.declared.positions.Position.{Position}
 use Rattle.scj_base.specs.declared.values.Value.TheVariants.{At}
 use Rattle.scj_rules.specs.declared.typing.Scope.TheVariants.{In}
 use Rattle.scj_rules.specs.declared.views.Body.TheVariants.{Empty}
@@ -137,7 +137,7 @@ module _ (code : Code) (basics : Facts code) (facts : SequencerFacts code) (s : 
       Some (safelet_made code s (class_position code.program there.class) there.class area)))) (sym the_list)
       (go (has_room s 0 (length (new_slots code.program there.class)))))
     where
-      place : Pos
+      place : Position
       place = class_position code.program there.class
 
       go : (b : Bool) → Operates code (Some (if b then silently made

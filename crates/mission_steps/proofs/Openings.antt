@@ -2,7 +2,7 @@
 use Rattle.std.specs.Prelude.{Bool, true, false, Option, Some, None}
 use Rattle.std.proofs.Common.{◌≡◌, ◌∙◌, ℕ, List, [], ◌∷◌, length, refl, ap, sym, subst}
 use Rattle.scj_base.specs.declared.faults.RunFault.TheVariants.{MemoryFull, StoreFull}
-use Rattle.scj_base.specs.declared.places.Pos.{Pos}
+use Rattle.scj_base.specs.declared.positions.Position.{Position}
 use Rattle.scj_base.specs.declared.values.Value.{Value}
 use Rattle.scj_base.specs.declared.values.Value.TheVariants.{At, Null}
 use Rattle.scj_rules.specs.declared.views.Body.{Body}
@@ -28,7 +28,7 @@ use Rattle.mission_steps.proofs.Going.{quietly}
 
 -- ---- the state in which an area is open
 
-module _ (s : State) (job : Job) (activity : Activity) (position : Pos) (scope : ℕ) (parent : Option ℕ) (bytes : ℕ) where
+module _ (s : State) (job : Job) (activity : Activity) (position : Position) (scope : ℕ) (parent : Option ℕ) (bytes : ℕ) where
   opened_there : (next : State → ℕ → Step) → has_store_for s bytes ≡ true →
       opening s job activity position scope parent bytes next ≡ next (with_area s scope parent bytes) (length s.areas)
   unfolding opening
@@ -67,7 +67,7 @@ module _ (s : State) (job : Job) (activity : Activity) (position : Pos) (scope :
 
 -- ---- the sequencer's own areas
 
-module _ (code : Listing) (was : RunState) (position : Pos) (scope bytes : ℕ) where
+module _ (code : Listing) (was : RunState) (position : Position) (scope bytes : ℕ) where
   abbrev s : State
   s = state_of code was
 
@@ -118,7 +118,7 @@ module _ (code : Listing) (was : RunState) (position : Pos) (scope bytes : ℕ) 
 
 -- ---- the safelet
 
-module _ (code : Listing) (was : RunState) (position : Pos) (class area : ℕ) (slots : List Value) where
+module _ (code : Listing) (was : RunState) (position : Position) (class area : ℕ) (slots : List Value) where
   abbrev t : State
   t = state_of code was
 
@@ -167,7 +167,7 @@ module _ (code : Listing) (was : RunState) (n : ℕ) (row : HandlerRow) (scope :
   abbrev u : State
   u = state_of code was
 
-  abbrev at : Pos
+  abbrev at : Position
   at = class_position (code_of code.program).program row.class
 
   abbrev pub IsPrivate : Option ℕ → State → Type 0

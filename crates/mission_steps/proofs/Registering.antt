@@ -2,7 +2,7 @@
 use Rattle.std.specs.Prelude.{true, false, Option, Some, None, is_some, nat_lt, option_map}
 use Rattle.std.proofs.Common.{◌≡◌, ◌∙◌, ℕ, ◌+◌, List, [], ◌∷◌, ◌++◌, length, refl, ap}
 use Rattle.scj_base.specs.declared.faults.RunFault.TheVariants.{NotInitializing, TooManyHandlers}
-use Rattle.scj_base.specs.declared.places.Pos.{Pos}
+use Rattle.scj_base.specs.declared.positions.Position.{Position}
 use Rattle.scj_model.specs.declared.events.Event.{Event}
 use Rattle.scj_model.specs.declared.events.Event.TheVariants.{Register}
 use Rattle.scj_model.specs.declared.handlers.HandlerRow.{HandlerRow}
@@ -18,7 +18,7 @@ use Rattle.run_state.specs.Seen.{state_of}
 use Rattle.run_state.specs.Steps.{IsStep}
 use Rattle.mission_steps.specs.Asked.{newly_registered}
 
-module _ (code : Listing) (s : State) (job : Job) (activity : Activity) (position : Pos) (r : ℕ) (o : Object)
+module _ (code : Listing) (s : State) (job : Job) (activity : Activity) (position : Position) (r : ℕ) (o : Object)
     (after : State) where
   pub registered_too_late : is_init s.phase ≡ false →
       registered (code_of code.program) s job activity position r o after ≡ fault_in s job activity position NotInitializing

@@ -17,17 +17,17 @@ use op_list::OpList;
 use run_state::RunState;
 use run_state::ends::{close_opened, halted};
 use run_state::told::{tell, tell_two};
-use scj_base::{Memory, Name, Pos, Ref, RunFault};
+use scj_base::{Memory, Name, Position, Ref, RunFault};
 use scj_model::Event;
 
 /// Where the class of an object is named; nowhere, if there is no such object.
-fn position_of_object(code: &OpList<'_>, state: &RunState, r: Ref) -> Pos
+fn position_of_object(code: &OpList<'_>, state: &RunState, r: Ref) -> Position
     requires { IsLive state.now.memory r }
     ensures { result ≡ position_of_object (code_of code.now.program) (state_of code.now state.now) r }
 {
     match class_of(&state.memory, r) {
         Some(class) => class_position(code, class),
-        None => Pos {
+        None => Position {
             file: 0,
             line: 0,
             col: 0,

@@ -16,14 +16,14 @@ use op_list::OpList;
 use run_state::ends::halted;
 use run_state::memory::{make_object, open_area};
 use run_state::{NewArea, RunState};
-use scj_base::{AreaId, ClassId, Memory, Pos, RunFault, ScopeId, Value};
+use scj_base::{AreaId, ClassId, Memory, Position, RunFault, ScopeId, Value};
 use scj_model::Event;
 use std::alloc::Global;
 
 /// An area is opened inside the innermost one of the sequencer's. The sequencer has it from now on.
 pub(crate) fn open_inside(
     state: &mut RunState,
-    position: Pos,
+    position: Position,
     scope: ScopeId,
     bytes: u32,
     told: &mut Vec<Event>,

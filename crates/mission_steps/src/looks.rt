@@ -10,7 +10,7 @@ ghost use Rattle.run_state.specs.Standing.{IsLive};
 
 use op_list::OpList;
 use region_heap::RegionHeap;
-use scj_base::{ClassId, Name, Pos, Ref, ScopeId};
+use scj_base::{ClassId, Name, Position, Ref, ScopeId};
 use scj_rules::Body;
 
 /// The concrete class that implements `Safelet` (JSR 302: Safelet).
@@ -31,7 +31,7 @@ pub(crate) fn size_of(code: &OpList<'_>, class: ClassId) -> Option<u32>
 
 /// Where a class is named.
 #[tactic(auto, unfolding(scj_model::specs::Code::code_of))]
-pub(crate) fn class_position(code: &OpList<'_>, class: ClassId) -> Pos
+pub(crate) fn class_position(code: &OpList<'_>, class: ClassId) -> Position
     ensures { result ≡ class_position (code_of code.now.program).program class }
 {
     code.code().layout().class_position(class)

@@ -1,10 +1,10 @@
 -- The nodes of E2.java. Printed by expected/print_nodes.py.
 use Rattle.std.specs.Prelude.{[], ◌∷◌, Some, None, codes, true, false, ℕ}
-use Rattle.scj_base.specs.declared.places.Pos.{Pos}
+use Rattle.scj_base.specs.declared.positions.Position.{Position}
 use Rattle.scj_tree.specs.declared.nodes.Node.TheVariants.{Assign, Block, Call, Class, ClassType, Constructor, DefineScope, ExpressionStatement, Field, FieldAccess, Flags, LongType, Method, New, Number, Return, ScopeName, SimpleName, SuperCall, SuperType, Supers, VoidType}
 use Rattle.scj_tree.specs.Forest.{Forest}
 
-abbrev at : ℕ → ℕ → ℕ → Pos
+abbrev at : ℕ → ℕ → ℕ → Position
 at file line col = record { file = file; line = line; col = col }
 
 abbrev pub e2_call : Forest

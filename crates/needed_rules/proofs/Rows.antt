@@ -1,6 +1,6 @@
 -- Each row is a program that breaks one rule alone, and what its run comes to.
 use Rattle.std.proofs.Common.{ℕ, refl}
-use Rattle.scj_base.specs.declared.places.Pos.{Pos}
+use Rattle.scj_base.specs.declared.positions.Position.{Position}
 use Rattle.scj_base.specs.declared.findings.Rule.TheVariants.{E1, E2, E3, E4, E5, E6, E7, E8, E10}
 use Rattle.scj_rules.proofs.Computing.{computing}
 use Rattle.scj_model.proofs.Computing.{computing_machine}
@@ -19,7 +19,7 @@ use Rattle.needed_rules.proofs.ProgramE7Enter.{e7_enter}
 use Rattle.needed_rules.proofs.ProgramE8Execute.{e8_execute}
 use Rattle.needed_rules.proofs.ProgramE10Array.{e10_array}
 
-abbrev at : ℕ → ℕ → Pos
+abbrev at : ℕ → ℕ → Position
 at line col = record { file = 0; line = line; col = col }
 
 e1_new_breaks : BreaksOnly e1_new E1 (at 12 42)

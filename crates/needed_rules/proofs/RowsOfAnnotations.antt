@@ -1,6 +1,6 @@
 -- Each row is a program that breaks one rule on annotations alone, and what its run comes to.
 use Rattle.std.proofs.Common.{ℕ, refl}
-use Rattle.scj_base.specs.declared.places.Pos.{Pos}
+use Rattle.scj_base.specs.declared.positions.Position.{Position}
 use Rattle.scj_base.specs.declared.findings.Rule.TheVariants.{A2, A3, A4, A5, A6}
 use Rattle.scj_rules.proofs.Computing.{computing}
 use Rattle.scj_model.proofs.Computing.{computing_machine}
@@ -15,7 +15,7 @@ use Rattle.needed_rules.proofs.ProgramA6Override.{a6_override}
 use Rattle.needed_rules.proofs.Texts.{a2_class_text, a3_field_text, a4_field_text, a5_static_text, a6_override_text}
 use Rattle.needed_rules.proofs.TextsRead.{a2_class_reads, a3_field_reads, a4_field_reads, a5_static_reads, a6_override_reads}
 
-abbrev at : ℕ → ℕ → Pos
+abbrev at : ℕ → ℕ → Position
 at line col = record { file = 0; line = line; col = col }
 
 a2_class_breaks : BreaksOnly a2_class A2 (at 15 8)

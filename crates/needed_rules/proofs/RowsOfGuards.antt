@@ -1,6 +1,6 @@
 -- A program without a guard, and one whose guard is undone: what their runs come to.
 use Rattle.std.proofs.Common.{ℕ, refl}
-use Rattle.scj_base.specs.declared.places.Pos.{Pos}
+use Rattle.scj_base.specs.declared.positions.Position.{Position}
 use Rattle.scj_base.specs.declared.findings.Rule.TheVariants.{E5}
 use Rattle.scj_rules.specs.declared.typing.Subject.TheVariants.{Variable}
 use Rattle.scj_rules.proofs.Computing.{computing}
@@ -13,7 +13,7 @@ use Rattle.needed_rules.proofs.Texts.{e5_undone_text, e5_unguarded_text}
 use Rattle.needed_rules.proofs.TextsRead.{e5_undone_reads, e5_unguarded_reads}
 use Rattle.needed_rules.proofs.Unsafe.{Dangles, dangles}
 
-abbrev at : ℕ → ℕ → Pos
+abbrev at : ℕ → ℕ → Position
 at line col = record { file = 0; line = line; col = col }
 
 e5_unguarded_breaks : BreaksOnly e5_unguarded E5 (at 16 76)

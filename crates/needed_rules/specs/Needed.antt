@@ -2,7 +2,7 @@
 use Rattle.std.specs.Prelude.{◌≡◌, ℕ, true, List, [], ◌∷◌, slice_get, Option, Some, None}
 use Rattle.scj_base.specs.declared.findings.Rule.{Rule}
 use Rattle.scj_base.specs.declared.findings.Rule.TheVariants.{E5}
-use Rattle.scj_base.specs.declared.places.Pos.{Pos}
+use Rattle.scj_base.specs.declared.positions.Position.{Position}
 use Rattle.scj_tree.specs.declared.nodes.Node.TheVariants.{Assign}
 use Rattle.scj_tree.specs.Forest.{Forest}
 use Rattle.scj_tree.specs.Recursion.{lookup}
@@ -21,7 +21,7 @@ use Rattle.scj_model.specs.Code.{code_of}
 use Rattle.scj_model.specs.Safety.{IsSafeInAnyOrder}
 
 -- this is all that is broken: one rule, at one place
-pub record BreaksOnly (program : Forest) (rule : Rule) (position : Pos) : Type 0 where
+pub record BreaksOnly (program : Forest) (rule : Rule) (position : Position) : Type 0 where
   pub classes : class_phase (declarations_of program) ≡ []
   pub types : type_phase (declarations_of program) ≡ []
   pub scopes : scope_phase (declarations_of program) ≡ []
@@ -32,7 +32,7 @@ pub record IsNeeded (rule : Rule) : Type 0 where
   pub text : List ℕ
   pub program : Forest
   pub reads : Reads (text ∷ []) program
-  pub position : Pos
+  pub position : Position
   pub breaks : BreaksOnly program rule position
   pub is_unsafe : IsSafeInAnyOrder (code_of program) → ⊥
 

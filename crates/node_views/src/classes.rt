@@ -5,7 +5,7 @@ ghost use Rattle.scj_rules.specs.Definitions.{read};
 ghost use Rattle.scj_rules.specs.Views.{class_at, named_super, named_supers, WrittenClass};
 
 use crate::words::modifiers_at;
-use scj_base::{Name, NodeId, Pos};
+use scj_base::{Name, NodeId, Position};
 use scj_rules::{Modifiers, Written};
 use scj_tree::{Node, Program};
 
@@ -22,7 +22,7 @@ pub fn class_name(program: &Program, id: NodeId) -> Option<Name>
 
 /// Where the class at a node is named.
 #[tactic(auto, unfolding(scj_rules::specs::Views::class_of))]
-pub fn class_position(program: &Program, id: NodeId) -> Option<Pos>
+pub fn class_position(program: &Program, id: NodeId) -> Option<Position>
     ensures { result ≡ option_map (λ (c : WrittenClass). c.position) (class_at program.now.nodes id) }
 {
     match program.get(id)? {

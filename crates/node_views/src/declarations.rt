@@ -4,7 +4,7 @@ ghost use Rattle.std.specs.Prelude.{◌≡◌};
 ghost use Rattle.scj_rules.specs.Views.{declared, variable_at, field_at};
 
 use crate::words::{modifiers_at, type_at};
-use scj_base::{Name, NodeId, Pos};
+use scj_base::{Name, NodeId, Position};
 use scj_rules::Declared;
 use scj_tree::{Node, Program};
 
@@ -12,7 +12,7 @@ use scj_tree::{Node, Program};
 pub fn declared(
     program: &Program,
     node: NodeId,
-    position: Pos,
+    position: Position,
     name: Name,
     flags: Option<NodeId>,
     declared_type: NodeId,

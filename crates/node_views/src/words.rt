@@ -4,17 +4,17 @@ ghost use Rattle.std.specs.Prelude.{◌≡◌};
 ghost use Rattle.scj_rules.specs.Definitions.{read, written_of};
 ghost use Rattle.scj_rules.specs.Views.{position_at, modifiers_at, modifiers_of, type_at, type_of_node};
 
-use scj_base::{NodeId, Pos};
+use scj_base::{NodeId, Position};
 use scj_rules::{Modifiers, Written, WrittenType};
 use scj_tree::{Node, Program};
 
 /// Where reports name a node.
-pub fn position_at(program: &Program, id: NodeId) -> Pos
+pub fn position_at(program: &Program, id: NodeId) -> Position
     ensures { result ≡ position_at program.now.nodes id }
 {
     match program.get(id) {
         Some(node) => node.position(),
-        None => Pos {
+        None => Position {
             file: 0,
             line: 0,
             col: 0,

@@ -9,7 +9,7 @@ ghost use Rattle.scj_rules.specs.Bodies.{class_node, class_position, constructor
 
 use class_rows::ClassTable;
 use scj_base::ids::OBJECT;
-use scj_base::{ClassId, NodeId, Pos};
+use scj_base::{ClassId, NodeId, Position};
 use scj_rules::Body;
 
 /// The number of the nodes of the program.
@@ -32,7 +32,7 @@ pub fn class_node(classes: &ClassTable, class: ClassId) -> Option<NodeId>
 
 /// Where a user class is named, and the first place of all for one of the framework.
 #[tactic(auto, unfolding(scj_rules::specs::Bodies::class_position))]
-pub fn class_position(classes: &ClassTable, class: ClassId) -> Pos
+pub fn class_position(classes: &ClassTable, class: ClassId) -> Position
     ensures { result ≡ class_position (declarations_of classes.now) class }
 {
     let position = match class_node(classes, class) {
@@ -41,7 +41,7 @@ pub fn class_position(classes: &ClassTable, class: ClassId) -> Pos
     };
     match position {
         Some(position) => position,
-        None => Pos {
+        None => Position {
             file: 0,
             line: 0,
             col: 0,

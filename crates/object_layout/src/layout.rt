@@ -20,7 +20,7 @@ use crate::slots::{index_of, slot_at};
 use crate::tables::{Tables, scope_numbered, tables_of};
 use crate::{arrays, bodies, classes, parts, sizes};
 use class_rows::ClassTable;
-use scj_base::{ClassId, FieldId, Memory, MethodId, Name, NodeId, Pos, ScopeId};
+use scj_base::{ClassId, FieldId, Memory, MethodId, Name, NodeId, Position, ScopeId};
 use scj_rules::{Body, SlotKind};
 use scj_tree::{Program, told};
 use std::alloc::Global;
@@ -75,7 +75,7 @@ impl<'a> Layout<'a> {
     }
 
     /// Where a user class is named. A fault that no node has is told there.
-    pub fn class_position(&self, class: ClassId) -> Pos
+    pub fn class_position(&self, class: ClassId) -> Position
         ensures { result ≡ class_position (declarations_of self.now) class }
     {
         classes::class_position(self.classes, class)

@@ -9,7 +9,7 @@ use Rattle.parser_machine.specs.declared.modes.ElementType.TheVariants.{Boolean,
 use Rattle.parser_machine.specs.declared.modes.Mode.{Mode}
 use Rattle.parser_machine.specs.declared.modes.Mode.TheVariants.{ForOpen, IfOpen, InStatements, NameBracket, NameFirst, Opened, Operand, ReturnStart, StatementEnd, TypeArgumentName, TypeDone, TypeEnd, WhileOpen}
 use Rattle.scj_base.specs.Vocabulary.{sign_assign, sign_at, sign_left_brace, sign_left_bracket, sign_left_parenthesis, sign_less, sign_right_brace, sign_right_bracket, sign_semicolon, word_boolean, word_final, word_for, word_if, word_int, word_return, word_while}
-use Rattle.scj_base.specs.declared.places.Pos.{Pos}
+use Rattle.scj_base.specs.declared.positions.Position.{Position}
 use Rattle.scj_tree.specs.Nodes.{put}
 use Rattle.scj_tree.specs.Lexemes.{Lexeme, a_name, a_sign, a_word}
 use Rattle.scj_tree.specs.Terminals.{no_flags, has_type_argument}
@@ -32,7 +32,7 @@ first_start N s (a_word n p) =
     target_start N s (a_word n p)
 first_start N s t = target_start N s t
 
-unfoldable pub name_first_step : Pos → List ℕ → List Node → List Entry → Lexeme → Option State
+unfoldable pub name_first_step : Position → List ℕ → List Node → List Entry → Lexeme → Option State
 name_first_step p w N s (a_name v q) = typed (length N) (put N (ClassType p w None false)) (LocalOpen None ∷ s)
     (a_name v q)
 name_first_step p w N s (a_sign n q) =
@@ -42,7 +42,7 @@ name_first_step p w N s (a_sign n q) =
     name_step p w N (Target ∷ s) (a_sign n q)
 name_first_step p w N s t = None
 
-unfoldable pub name_bracket_step : Pos → List ℕ → Pos → List Node → List Entry → Lexeme → Option State
+unfoldable pub name_bracket_step : Position → List ℕ → Position → List Node → List Entry → Lexeme → Option State
 name_bracket_step p w b N s (a_sign n q) =
     if n == sign_right_bracket then Some
     (at (TypeDone (length N)) (LocalOpen None ∷ s) (put N (ClassType p w None true))) else
@@ -50,11 +50,11 @@ name_bracket_step p w b N s (a_sign n q) =
 name_bracket_step p w b N s t = operand_start (put N (SimpleName p w)) (IndexOpen b (length N) ∷ Target ∷ s) t
 
 -- a local without a value is a statement
-unfoldable pub local_ended : Option ℕ → ℕ → Pos → List ℕ → List Node → List Entry → Option State
+unfoldable pub local_ended : Option ℕ → ℕ → Position → List ℕ → List Node → List Entry → Option State
 local_ended flags t p w N (Simple ∷ s) = Some (at (StatementEnd (length N)) s (put N (Local p w flags t)))
 local_ended flags t p w N _ = None
 
-unfoldable pub local_named_step : Option ℕ → ℕ → Pos → List ℕ → List Node → List Entry → Lexeme → Option State
+unfoldable pub local_named_step : Option ℕ → ℕ → Position → List ℕ → List Node → List Entry → Lexeme → Option State
 local_named_step flags t p w N s (a_sign n q) =
     if n == sign_assign then Some (at Operand (LocalValue q p w flags t ∷ s) N) else
     if n == sign_semicolon then local_ended flags t p w N s else
@@ -68,13 +68,13 @@ unfoldable pub test_open_step : Mode → Entry → List Node → List Entry → 
 test_open_step mode e N s (a_sign n q) = if n == sign_left_parenthesis then Some (at mode (e ∷ s) N) else None
 test_open_step mode e N s _ = None
 
-unfoldable pub return_step : Pos → List Node → List Entry → Lexeme → Option State
+unfoldable pub return_step : Position → List Node → List Entry → Lexeme → Option State
 return_step p N s (a_sign n q) =
     if n == sign_semicolon then Some (at (StatementEnd (length N)) s (put N (Return p None))) else
     operand_start N (ReturnValue p ∷ s) (a_sign n q)
 return_step p N s t = operand_start N (ReturnValue p ∷ s) t
 
-unfoldable pub statement_word : ℕ → Pos → List Node → List Entry → Option State
+unfoldable pub statement_word : ℕ → Position → List Node → List Entry → Option State
 statement_word n p N s =
     if n == word_if then Some (at (IfOpen p) s N) else
     if n == word_while then Some (at (WhileOpen p) s N) else
@@ -83,7 +83,7 @@ statement_word n p N s =
     if n == word_final then flags_step true no_flags N (Simple ∷ s) (a_word n p) else
     first_start N (Simple ∷ s) (a_word n p)
 
-unfoldable pub statement_sign : ℕ → Pos → List Node → List Entry → Option State
+unfoldable pub statement_sign : ℕ → Position → List Node → List Entry → Option State
 statement_sign n p N s =
     if n == sign_left_brace then Some (at InStatements (BlockOpen p [] ∷ s) N) else
     if n == sign_semicolon then Some (at (StatementEnd (length N)) s (put N (Empty p))) else

@@ -5,7 +5,7 @@ use Rattle.parser_machine.specs.declared.entries.Entry.{Entry}
 use Rattle.parser_machine.specs.declared.entries.Entry.TheVariants.{ArgumentsOpen, AssignValue, BinaryLeft, CallOpen, CastOpen, CompoundValue, ConstructorBody, ForBody, ForHead, ForStep, ForTest, GroupOpen, IfTest, IfThen, IndexOpen, LengthOpen, LocalValue, NewOpen, ReturnValue, Simple, SuperCallOpen, Target, UnaryOpen, WhileBody, WhileTest}
 use Rattle.parser_machine.specs.declared.modes.Mode.TheVariants.{ArgumentNext, ForStepStart, Operand, PostDone, StatementEnd, StatementStart, SuperEnd}
 use Rattle.scj_base.specs.Vocabulary.{sign_assign, sign_comma, sign_right_bracket, sign_right_parenthesis, sign_semicolon}
-use Rattle.scj_base.specs.declared.places.Pos.{Pos}
+use Rattle.scj_base.specs.declared.positions.Position.{Position}
 use Rattle.scj_tree.specs.Nodes.{put}
 use Rattle.scj_tree.specs.Lexemes.{Lexeme, a_sign}
 use Rattle.scj_tree.specs.Statements.{operated}
@@ -44,15 +44,15 @@ argument_ended id ids N s (a_sign n p) =
 argument_ended id ids N s _ = None
 
 -- behind a target: `=`, or `;` where it is a statement by itself
-unfoldable pub target_assigned : PostKind → ℕ → Pos → List Node → List Entry → Option State
+unfoldable pub target_assigned : PostKind → ℕ → Position → List Node → List Entry → Option State
 target_assigned Variable id q N s = Some (at Operand (AssignValue q id ∷ s) N)
 target_assigned _ id q N s = None
 
-unfoldable pub target_alone : PostKind → Pos → ℕ → List Node → List Entry → Option State
+unfoldable pub target_alone : PostKind → Position → ℕ → List Node → List Entry → Option State
 target_alone Invocation p id N (Simple ∷ s) = Some (at (StatementEnd (length N)) s (put N (ExpressionStatement p id)))
 target_alone _ p id N _ = None
 
-unfoldable pub target_ended : PostKind → Pos → ℕ → List Node → List Entry → Lexeme → Option State
+unfoldable pub target_ended : PostKind → Position → ℕ → List Node → List Entry → Lexeme → Option State
 target_ended kind p id N s (a_sign n q) =
     if n == sign_assign then target_assigned kind id q N s else
     if n == sign_semicolon then target_alone kind p id N s else
@@ -62,10 +62,10 @@ target_ended kind p id N s _ = None
 -- ---- where an expression ends
 
 -- the nodes from an operand in parentheses to the assignment
-abbrev pub compounded : List Node → Pos → ℕ → ℕ → ℕ → ℕ → List Node
+abbrev pub compounded : List Node → Position → ℕ → ℕ → ℕ → ℕ → List Node
 compounded N p op target left e = operated (put N (Parenthesized p e)) p op target left (length N)
 
-abbrev pub compounded_number : List Node → Pos → ℕ → ℕ → ℕ → ℕ
+abbrev pub compounded_number : List Node → Position → ℕ → ℕ → ℕ → ℕ
 compounded_number N p op left e = length (put (put N (Parenthesized p e)) (Binary p op left (length N)))
 
 -- behind an expression that is a part of no other expression's operators

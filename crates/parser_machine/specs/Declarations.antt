@@ -7,7 +7,7 @@ use Rattle.parser_machine.specs.declared.modes.ElementType.{ElementType}
 use Rattle.parser_machine.specs.declared.modes.ElementType.TheVariants.{Boolean, Int, Reference}
 use Rattle.parser_machine.specs.declared.modes.Mode.TheVariants.{At, ClassName, DefineAssign, DefineName, DefineOpen, DefineOther, DefineOtherAssign, FlagsRead, LocalNamed, MemberNamed, ParameterDone, ParametersFirst, PlainAssigned, PlainDot, PlainEnd, PlainFirst, PlainName, PlainNext, PlainOpen, PlainPath, ResultDone, TypeArgumentEnd, TypeArgumentName, TypeBracket, TypeDone, TypeEnd, TypeName, ValueDot, ValueOpen, ValueRead, ValueScope, ValueStart}
 use Rattle.scj_base.specs.Vocabulary.{sign_assign, sign_at, sign_comma, sign_dot, sign_greater, sign_left_bracket, sign_left_parenthesis, sign_less, sign_right_bracket, sign_right_parenthesis, word_boolean, word_class, word_false, word_int, word_long, word_true, word_void}
-use Rattle.scj_base.specs.declared.places.Pos.{Pos}
+use Rattle.scj_base.specs.declared.positions.Position.{Position}
 use Rattle.scj_tree.specs.Nodes.{put}
 use Rattle.scj_tree.specs.Lexemes.{Lexeme, a_name, a_sign, a_text, a_word}
 use Rattle.scj_base.specs.Lexeme.{is_name}
@@ -19,7 +19,7 @@ use Rattle.scj_tree.specs.declared.readings.FlagSet.{FlagSet}
 
 -- ---- types
 
-unfoldable pub element_node : Pos → ElementType → Bool → Node
+unfoldable pub element_node : Position → ElementType → Bool → Node
 element_node p Int is_array = IntType p is_array
 element_node p Boolean is_array = BooleanType p is_array
 element_node p (Reference w argument) is_array = ClassType p w argument is_array
@@ -32,22 +32,22 @@ typed t N (ParameterOpen flags ∷ s) (a_name w p) =
 typed t N (LocalOpen flags ∷ s) (a_name w p) = Some (at (LocalNamed flags t p w) s N)
 typed t N _ _ = None
 
-unfoldable pub type_end_step : Pos → ElementType → List Node → List Entry → Lexeme → Option State
+unfoldable pub type_end_step : Position → ElementType → List Node → List Entry → Lexeme → Option State
 type_end_step p element N s (a_sign n q) =
     if n == sign_left_bracket then Some (at (TypeBracket p element) s N) else None
 type_end_step p element N s t = typed (length N) (put N (element_node p element false)) s t
 
-unfoldable pub type_bracket_step : Pos → ElementType → List Node → List Entry → Lexeme → Option State
+unfoldable pub type_bracket_step : Position → ElementType → List Node → List Entry → Lexeme → Option State
 type_bracket_step p element N s (a_sign n q) =
     if n == sign_right_bracket then Some (at (TypeDone (length N)) s (put N (element_node p element true))) else None
 type_bracket_step p element N s _ = None
 
 -- a member that begins with a name and `(` is a constructor
-unfoldable pub constructor_step : Pos → List ℕ → Pos → List Node → List Entry → Option State
+unfoldable pub constructor_step : Position → List ℕ → Position → List Node → List Entry → Option State
 constructor_step p w q N (MemberOpen flags ∷ s) = Some (at (ParametersFirst q) (ConstructorOpen flags p w ∷ s) N)
 constructor_step p w q N _ = None
 
-unfoldable pub type_name_step : Pos → List ℕ → List Node → List Entry → Lexeme → Option State
+unfoldable pub type_name_step : Position → List ℕ → List Node → List Entry → Lexeme → Option State
 type_name_step p w N s (a_sign n q) =
     if n == sign_less then (if has_type_argument w then Some (at (TypeArgumentName p w) s N) else None) else
     if n == sign_left_bracket then Some (at (TypeBracket p (Reference w None)) s N) else
@@ -55,11 +55,11 @@ type_name_step p w N s (a_sign n q) =
     None
 type_name_step p w N s t = typed (length N) (put N (ClassType p w None false)) s t
 
-unfoldable pub type_argument_name_step : Pos → List ℕ → List Node → List Entry → Lexeme → Option State
+unfoldable pub type_argument_name_step : Position → List ℕ → List Node → List Entry → Lexeme → Option State
 type_argument_name_step p w N s (a_name v q) = Some (at (TypeArgumentEnd p w (length N)) s (put N (TypeArgument q v)))
 type_argument_name_step p w N s _ = None
 
-unfoldable pub type_argument_end_step : Pos → List ℕ → ℕ → List Node → List Entry → Lexeme → Option State
+unfoldable pub type_argument_end_step : Position → List ℕ → ℕ → List Node → List Entry → Lexeme → Option State
 type_argument_end_step p w argument N s (a_sign n q) =
     if n == sign_greater then Some (at (TypeEnd p (Reference w (Some argument))) s N) else None
 type_argument_end_step p w argument N s _ = None
@@ -74,7 +74,7 @@ type_start N s _ = None
 
 -- ---- what stands behind annotations and modifiers
 
-unfoldable pub member_word : Option ℕ → ℕ → Pos → List Node → List Entry → Option State
+unfoldable pub member_word : Option ℕ → ℕ → Position → List Node → List Entry → Option State
 member_word flags n p N s =
     if n == word_void then Some (at (ResultDone flags (length N)) s (put N (VoidType p))) else
     if n == word_long then Some (at (ResultDone flags (length N)) s (put N (LongType p))) else
@@ -124,11 +124,11 @@ runs_in_named is_local flags N s =
       | Some id ↦ None
     ]
 
-unfoldable pub define_scope_named : Pos → Bool → FlagSet → List Node → List Entry → Option State
+unfoldable pub define_scope_named : Position → Bool → FlagSet → List Node → List Entry → Option State
 define_scope_named p is_local flags N s =
     elim flags.define_scope [ None ↦ Some (at (DefineOpen p) (AnnotationOpen is_local flags ∷ s) N) | Some id ↦ None ]
 
-unfoldable pub annotation_named : Pos → List ℕ → Bool → FlagSet → List Node → List Entry → Option State
+unfoldable pub annotation_named : Position → List ℕ → Bool → FlagSet → List Node → List Entry → Option State
 annotation_named p w is_local flags N s =
     if is_effectless w then Some (at PlainOpen (AnnotationOpen is_local flags ∷ s) N) else
     if is_same w (codes "Scope") then scope_named is_local flags N s else
@@ -136,7 +136,7 @@ annotation_named p w is_local flags N s =
     if is_same w (codes "DefineScope") then define_scope_named p is_local flags N s else
     None
 
-unfoldable pub at_step : Pos → List Node → List Entry → Lexeme → Option State
+unfoldable pub at_step : Position → List Node → List Entry → Lexeme → Option State
 at_step p N (AnnotationOpen is_local flags ∷ s) (a_name w q) = annotation_named p w is_local flags N s
 at_step p N _ _ = None
 
@@ -227,28 +227,28 @@ value_start_step N s (a_name w p) = if is_same w (codes "Scope") then Some (at (
     (at (ValueRead (length N)) s (put N (ScopeName p w)))
 value_start_step N s _ = None
 
-unfoldable pub value_scope_step : Pos → List Node → List Entry → Lexeme → Option State
+unfoldable pub value_scope_step : Position → List Node → List Entry → Lexeme → Option State
 value_scope_step p N s (a_sign n q) =
     if n == sign_dot then Some (at (ValueDot p) s N) else
     valued (length N) (put N (ScopeName p (codes "Scope"))) s n
 value_scope_step p N s _ = None
 
-unfoldable pub value_dot_step : Pos → List Node → List Entry → Lexeme → Option State
+unfoldable pub value_dot_step : Position → List Node → List Entry → Lexeme → Option State
 value_dot_step p N s (a_name w q) = Some (at (ValueRead (length N)) s (put N (ScopeName p w)))
 value_dot_step p N s _ = None
 
-unfoldable pub define_open_step : Pos → List Node → List Entry → Lexeme → Option State
+unfoldable pub define_open_step : Position → List Node → List Entry → Lexeme → Option State
 define_open_step p N s (a_sign n q) = if n == sign_left_parenthesis then Some (at (DefineName p) s N) else None
 define_open_step p N s _ = None
 
-unfoldable pub define_name_step : Pos → List Node → List Entry → Lexeme → Option State
+unfoldable pub define_name_step : Position → List Node → List Entry → Lexeme → Option State
 define_name_step p N s (a_name w q) =
     if is_same w (codes "name") then Some (at (DefineAssign p false) s N) else
     if is_same w (codes "parent") then Some (at (DefineAssign p true) s N) else
     None
 define_name_step p N s _ = None
 
-unfoldable pub define_assign_step : Pos → Bool → List Node → List Entry → Lexeme → Option State
+unfoldable pub define_assign_step : Position → Bool → List Node → List Entry → Lexeme → Option State
 define_assign_step p parent_first N s (a_sign n q) =
     if n == sign_assign then Some (at ValueStart (DefineFirst p parent_first ∷ s) N) else None
 define_assign_step p parent_first N s _ = None
@@ -258,12 +258,12 @@ unfoldable pub other_word : Bool → List ℕ
 other_word true = codes "name"
 other_word false = codes "parent"
 
-unfoldable pub define_other_step : Pos → Bool → ℕ → List Node → List Entry → Lexeme → Option State
+unfoldable pub define_other_step : Position → Bool → ℕ → List Node → List Entry → Lexeme → Option State
 define_other_step p parent_first first N s (a_name w q) =
     if is_same w (other_word parent_first) then Some (at (DefineOtherAssign p parent_first first) s N) else None
 define_other_step p parent_first first N s _ = None
 
-unfoldable pub define_other_assign_step : Pos → Bool → ℕ → List Node → List Entry → Lexeme → Option State
+unfoldable pub define_other_assign_step : Position → Bool → ℕ → List Node → List Entry → Lexeme → Option State
 define_other_assign_step p parent_first first N s (a_sign n q) =
     if n == sign_assign then Some (at ValueStart (DefineSecond p parent_first first ∷ s) N) else None
 define_other_assign_step p parent_first first N s _ = None

@@ -6,7 +6,7 @@ use Rattle.parser_machine.specs.declared.entries.Entry.{Entry}
 use Rattle.parser_machine.specs.declared.entries.Entry.TheVariants.{ClassBody, ClassOpen, SupersOpen}
 use Rattle.parser_machine.specs.declared.modes.Mode.TheVariants.{ClassNamed, Finished, ImportDot, ImportEnd, ImportName, ImportStar, ImportStart, InImports, InMembers, PackageEnd, PackageName, SuperArgumentEnd, SuperArgumentName, SuperDone, SuperName, SuperNamed}
 use Rattle.scj_base.specs.Vocabulary.{sign_comma, sign_dot, sign_greater, sign_left_brace, sign_less, sign_semicolon, sign_star, word_extends, word_implements, word_import, word_package, word_static}
-use Rattle.scj_base.specs.declared.places.Pos.{Pos}
+use Rattle.scj_base.specs.declared.positions.Position.{Position}
 use Rattle.scj_tree.specs.Nodes.{put}
 use Rattle.scj_tree.specs.Lexemes.{Lexeme, a_name, a_sign, a_word, the_end}
 use Rattle.scj_tree.specs.Terminals.{no_flags, has_type_argument}
@@ -84,11 +84,11 @@ super_name_step N s (a_name w p) = Some (at (SuperNamed p w) s N)
 super_name_step N s _ = None
 
 -- behind a class named after `extends`, and behind one named after `implements`
-unfoldable pub superclass_sign : ℕ → Pos → List Node → List Entry → ℕ → Option State
+unfoldable pub superclass_sign : ℕ → Position → List Node → List Entry → ℕ → Option State
 superclass_sign id p N s n =
     if n == sign_left_brace then class_opened (Some (length N)) (put N (Supers p (Some id) [])) s else None
 
-unfoldable pub interface_sign : ℕ → Pos → Option ℕ → List ℕ → List Node → List Entry → ℕ → Option State
+unfoldable pub interface_sign : ℕ → Position → Option ℕ → List ℕ → List Node → List Entry → ℕ → Option State
 interface_sign id p superclass ids N s n =
     if n == sign_comma then Some (at SuperName (SupersOpen p false superclass (ids ++ id ∷ []) ∷ s) N) else
     if n == sign_left_brace then class_opened (Some (length N)) (put N (Supers p superclass (ids ++ id ∷ []))) s else
@@ -101,17 +101,17 @@ super_ended id N (SupersOpen p true superclass ids ∷ s) (a_sign n q) = supercl
 super_ended id N (SupersOpen p false superclass ids ∷ s) (a_sign n q) = interface_sign id p superclass ids N s n
 super_ended id N _ _ = None
 
-unfoldable pub super_named_step : Pos → List ℕ → List Node → List Entry → Lexeme → Option State
+unfoldable pub super_named_step : Position → List ℕ → List Node → List Entry → Lexeme → Option State
 super_named_step p w N s (a_sign n q) =
     if n == sign_less then (if has_type_argument w then Some (at (SuperArgumentName p w) s N) else None) else
     super_ended (length N) (put N (SuperType p w None)) s (a_sign n q)
 super_named_step p w N s t = super_ended (length N) (put N (SuperType p w None)) s t
 
-unfoldable pub super_argument_name_step : Pos → List ℕ → List Node → List Entry → Lexeme → Option State
+unfoldable pub super_argument_name_step : Position → List ℕ → List Node → List Entry → Lexeme → Option State
 super_argument_name_step p w N s (a_name v q) = Some (at (SuperArgumentEnd p w (length N)) s (put N (TypeArgument q v)))
 super_argument_name_step p w N s _ = None
 
-unfoldable pub super_argument_end_step : Pos → List ℕ → ℕ → List Node → List Entry → Lexeme → Option State
+unfoldable pub super_argument_end_step : Position → List ℕ → ℕ → List Node → List Entry → Lexeme → Option State
 super_argument_end_step p w argument N s (a_sign n q) =
     if n == sign_greater then Some (at (SuperDone (length N)) s (put N (SuperType p w (Some argument)))) else None
 super_argument_end_step p w argument N s _ = None

@@ -7,7 +7,7 @@ use Rattle.parser_machine.specs.declared.entries.Entry.{Entry}
 use Rattle.parser_machine.specs.declared.entries.Entry.TheVariants.{ArgumentsOpen, BlockOpen, ClassBody, ConstructorBody, ConstructorOpen, FieldOpen, FileOpen, ForBody, IfElse, IfThen, MethodBody, MethodOpen, ParametersOpen, SuperCallOpen, WhileBody}
 use Rattle.parser_machine.specs.declared.modes.Mode.TheVariants.{ArgumentFirst, ConstructorStart, FlagsRead, InClasses, InMembers, InStatements, LiteralDone, LiteralMinus, LiteralStart, MethodNamed, ParametersDone, ParametersFirst, StatementStart, SuperOpen}
 use Rattle.scj_base.specs.Vocabulary.{sign_assign, sign_comma, sign_left_brace, sign_left_parenthesis, sign_minus, sign_right_brace, sign_right_parenthesis, sign_semicolon, word_else, word_false, word_null, word_super, word_true}
-use Rattle.scj_base.specs.declared.places.Pos.{Pos}
+use Rattle.scj_base.specs.declared.positions.Position.{Position}
 use Rattle.scj_tree.specs.Nodes.{put}
 use Rattle.scj_tree.specs.Lexemes.{Lexeme, a_name, a_number, a_sign, a_word}
 use Rattle.scj_tree.specs.Terminals.{is_minimum, no_flags}
@@ -22,7 +22,7 @@ member_read id N _ = None
 
 -- ---- fields
 
-unfoldable pub member_named_step : Option ℕ → ℕ → Pos → List ℕ → List Node → List Entry → Lexeme → Option State
+unfoldable pub member_named_step : Option ℕ → ℕ → Position → List ℕ → List Node → List Entry → Lexeme → Option State
 member_named_step flags t p w N s (a_sign n q) =
     if n == sign_semicolon then member_read (length N) (put N (Field p w flags t None None)) s else
     if n == sign_assign then Some (at LiteralStart (FieldOpen flags t p w q ∷ s) N) else
@@ -30,7 +30,7 @@ member_named_step flags t p w N s (a_sign n q) =
     None
 member_named_step flags t p w N s _ = None
 
-unfoldable pub literal_word : ℕ → Pos → List Node → List Entry → Option State
+unfoldable pub literal_word : ℕ → Position → List Node → List Entry → Option State
 literal_word n p N s =
     if n == word_true then Some (at (LiteralDone (length N)) s (put N (True p))) else
     if n == word_false then Some (at (LiteralDone (length N)) s (put N (False p))) else
@@ -44,7 +44,7 @@ literal_step N s (a_number n p) =
 literal_step N s (a_sign n p) = if n == sign_minus then Some (at (LiteralMinus p) s N) else None
 literal_step N s _ = None
 
-unfoldable pub literal_minus_step : Pos → List Node → List Entry → Lexeme → Option State
+unfoldable pub literal_minus_step : Position → List Node → List Entry → Lexeme → Option State
 literal_minus_step p N s (a_number n q) = Some (at (LiteralDone (length N)) s (put N (Number p n true)))
 literal_minus_step p N s _ = None
 
@@ -62,12 +62,12 @@ unfoldable pub result_step : Option ℕ → ℕ → List Node → List Entry →
 result_step flags t N s (a_name w p) = Some (at (MethodNamed flags t p w) s N)
 result_step flags t N s _ = None
 
-unfoldable pub method_named_step : Option ℕ → ℕ → Pos → List ℕ → List Node → List Entry → Lexeme → Option State
+unfoldable pub method_named_step : Option ℕ → ℕ → Position → List ℕ → List Node → List Entry → Lexeme → Option State
 method_named_step flags t p w N s (a_sign n q) =
     if n == sign_left_parenthesis then Some (at (ParametersFirst q) (MethodOpen flags t p w ∷ s) N) else None
 method_named_step flags t p w N s _ = None
 
-unfoldable pub parameters_first_step : Pos → List Node → List Entry → Lexeme → Option State
+unfoldable pub parameters_first_step : Position → List Node → List Entry → Lexeme → Option State
 parameters_first_step p N s (a_sign n q) =
     if n == sign_right_parenthesis then Some (at (ParametersDone None) s N) else
     flags_step false no_flags N (ParametersOpen p [] ∷ s) (a_sign n q)
@@ -85,7 +85,7 @@ unfoldable pub parameter_end_step : ℕ → List Node → List Entry → Lexeme 
 parameter_end_step id N s (a_sign n q) = parameter_ended id N s n
 parameter_end_step id N s _ = None
 
-unfoldable pub body_step : Option ℕ → List Node → List Entry → ℕ → Pos → Option State
+unfoldable pub body_step : Option ℕ → List Node → List Entry → ℕ → Position → Option State
 body_step parameters N (MethodOpen flags t p w ∷ s) n q =
     if n == sign_left_brace then Some (at InStatements (BlockOpen q [] ∷ MethodBody flags t p w parameters ∷ s) N) else
     if n == sign_semicolon then member_read (length N) (put N (Method p w flags t parameters None)) s else
@@ -99,18 +99,18 @@ unfoldable pub parameters_end_step : Option ℕ → List Node → List Entry →
 parameters_end_step parameters N s (a_sign n q) = body_step parameters N s n q
 parameters_end_step parameters N s _ = None
 
-unfoldable pub constructor_start_step : Pos → List Node → List Entry → Lexeme → Option State
+unfoldable pub constructor_start_step : Position → List Node → List Entry → Lexeme → Option State
 constructor_start_step b N s (a_word n p) =
     if n == word_super then Some (at (SuperOpen b p) s N) else
     statements_step N (BlockOpen b [] ∷ s) (a_word n p)
 constructor_start_step b N s t = statements_step N (BlockOpen b [] ∷ s) t
 
-unfoldable pub super_open_step : Pos → Pos → List Node → List Entry → Lexeme → Option State
+unfoldable pub super_open_step : Position → Position → List Node → List Entry → Lexeme → Option State
 super_open_step b p N s (a_sign n q) =
     if n == sign_left_parenthesis then Some (at ArgumentFirst (ArgumentsOpen [] ∷ SuperCallOpen b p ∷ s) N) else None
 super_open_step b p N s _ = None
 
-unfoldable pub super_end_step : Pos → List Node → List Entry → Lexeme → Option State
+unfoldable pub super_end_step : Position → List Node → List Entry → Lexeme → Option State
 super_end_step b N s (a_sign n q) = if n == sign_semicolon then Some (at InStatements (BlockOpen b [] ∷ s) N) else None
 super_end_step b N s _ = None
 

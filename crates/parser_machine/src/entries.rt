@@ -1,6 +1,6 @@
 //! What the parser has put aside.
 
-use scj_base::{NodeId, Pos, SharedName};
+use scj_base::{NodeId, Position, SharedName};
 use scj_tree::{FlagSet, NodeList};
 
 /// A production that was begun, with the parts of it that were read.
@@ -21,24 +21,24 @@ pub enum Entry {
     RunsInOpen,
     /// `@DefineScope(name=`, or `parent=` where `parent_first` holds.
     DefineFirst {
-        position: Pos,
+        position: Position,
         parent_first: bool,
     },
     /// The same up to the second `=`.
     DefineSecond {
-        position: Pos,
+        position: Position,
         parent_first: bool,
         first: NodeId,
     },
     /// A class up to its name.
     ClassOpen {
         flags: Option<NodeId>,
-        position: Pos,
+        position: Position,
         name: SharedName,
     },
     /// `extends` or `implements`, where `is_extends` does not hold, and what was read behind it.
     SupersOpen {
-        position: Pos,
+        position: Position,
         is_extends: bool,
         superclass: Option<NodeId>,
         interfaces: NodeList,
@@ -46,7 +46,7 @@ pub enum Entry {
     /// A class with the members so far.
     ClassBody {
         flags: Option<NodeId>,
-        position: Pos,
+        position: Position,
         name: SharedName,
         header: Option<NodeId>,
         members: NodeList,
@@ -67,152 +67,152 @@ pub enum Entry {
     FieldOpen {
         flags: Option<NodeId>,
         declared_type: NodeId,
-        position: Pos,
+        position: Position,
         name: SharedName,
-        equals: Pos,
+        equals: Position,
     },
     /// A method up to its name.
     MethodOpen {
         flags: Option<NodeId>,
         result_type: NodeId,
-        position: Pos,
+        position: Position,
         name: SharedName,
     },
     /// A constructor up to its name.
     ConstructorOpen {
         flags: Option<NodeId>,
-        position: Pos,
+        position: Position,
         name: SharedName,
     },
     /// The `(` at `place` and the parameters so far.
     ParametersOpen {
-        position: Pos,
+        position: Position,
         list: NodeList,
     },
     /// A method up to its body.
     MethodBody {
         flags: Option<NodeId>,
         result_type: NodeId,
-        position: Pos,
+        position: Position,
         name: SharedName,
         parameters: Option<NodeId>,
     },
     /// A constructor up to its body, with the super call if there is one.
     ConstructorBody {
         flags: Option<NodeId>,
-        position: Pos,
+        position: Position,
         name: SharedName,
         parameters: Option<NodeId>,
         super_call: Option<NodeId>,
     },
     /// The `{` at `place` and the statements so far.
     BlockOpen {
-        position: Pos,
+        position: Position,
         statements: NodeList,
     },
     /// A local, an assignment or a call as a statement, up to its `;`.
     Simple,
     /// `for (`.
     ForHead {
-        position: Pos,
+        position: Position,
     },
     /// `for (first;`.
     ForTest {
-        position: Pos,
+        position: Position,
         first: NodeId,
     },
     /// `for (first; condition;`.
     ForStep {
-        position: Pos,
+        position: Position,
         first: NodeId,
         condition: NodeId,
     },
     /// `for (first; condition; step)`.
     ForBody {
-        position: Pos,
+        position: Position,
         first: NodeId,
         condition: NodeId,
         step: NodeId,
     },
     /// `if (`.
     IfTest {
-        position: Pos,
+        position: Position,
     },
     /// `if (condition)`.
     IfThen {
-        position: Pos,
+        position: Position,
         condition: NodeId,
     },
     /// `if (condition) then_part else`.
     IfElse {
-        position: Pos,
+        position: Position,
         condition: NodeId,
         then_part: NodeId,
     },
     /// `while (`.
     WhileTest {
-        position: Pos,
+        position: Position,
     },
     /// `while (condition)`.
     WhileBody {
-        position: Pos,
+        position: Position,
         condition: NodeId,
     },
     /// `return`.
     ReturnValue {
-        position: Pos,
+        position: Position,
     },
     /// Where the target of an assignment or a call as a statement is due: no operator stands behind it.
     Target,
     /// `target =`; the `=` stands at `place`.
     AssignValue {
-        position: Pos,
+        position: Position,
         target: NodeId,
     },
     /// `target op=`, with the name once more as the left operand.
     CompoundValue {
-        position: Pos,
+        position: Position,
         operator: u8,
         target: NodeId,
         left: NodeId,
     },
     /// A local up to its `=`, at `place`.
     LocalValue {
-        position: Pos,
-        name_position: Pos,
+        position: Position,
+        name_position: Position,
         name: SharedName,
         flags: Option<NodeId>,
         declared_type: NodeId,
     },
     /// A left operand and its operator.
     BinaryLeft {
-        position: Pos,
+        position: Position,
         operator: u8,
         left: NodeId,
     },
     /// A unary operator.
     UnaryOpen {
-        position: Pos,
+        position: Position,
         operator: u8,
     },
     /// `( Name )` of a cast.
     CastOpen {
-        position: Pos,
-        name_position: Pos,
+        position: Position,
+        name_position: Position,
         name: SharedName,
     },
     /// `(` around an expression.
     GroupOpen {
-        position: Pos,
+        position: Position,
     },
     /// `array[`; the `[` stands at `place`.
     IndexOpen {
-        position: Pos,
+        position: Position,
         array: NodeId,
     },
     /// `new element[`.
     LengthOpen {
-        position: Pos,
+        position: Position,
         element: NodeId,
     },
     /// The arguments so far; below is what they are arguments of.
@@ -221,19 +221,19 @@ pub enum Entry {
     },
     /// The name of a call.
     CallOpen {
-        position: Pos,
+        position: Position,
         name: SharedName,
         object: Option<NodeId>,
     },
     /// `new Name`.
     NewOpen {
-        position: Pos,
-        name_position: Pos,
+        position: Position,
+        name_position: Position,
         name: SharedName,
     },
     /// `super`, in a constructor whose body begins at `block_position`.
     SuperCallOpen {
-        block_position: Pos,
-        position: Pos,
+        block_position: Position,
+        position: Position,
     },
 }

@@ -1,6 +1,6 @@
 //! What the parser has in hand between two lexemes.
 
-use scj_base::{NodeId, Pos, SharedName};
+use scj_base::{NodeId, Position, SharedName};
 use scj_tree::{FlagSet, PostKind};
 
 /// A type without brackets.
@@ -49,7 +49,7 @@ pub enum Mode {
     },
     /// `@`: the annotation's name.
     At {
-        position: Pos,
+        position: Position,
     },
     /// The name of an annotation without effect: `(`, or what stands behind the annotation.
     PlainOpen,
@@ -73,11 +73,11 @@ pub enum Mode {
     ValueStart,
     /// The name `Scope` where a scope's name is due: a dot, or what stands behind the scope's name.
     ValueScope {
-        position: Pos,
+        position: Position,
     },
     /// `Scope.`: a name.
     ValueDot {
-        position: Pos,
+        position: Position,
     },
     /// A scope's name.
     ValueRead {
@@ -85,26 +85,26 @@ pub enum Mode {
     },
     /// `@DefineScope`: `(`.
     DefineOpen {
-        position: Pos,
+        position: Position,
     },
     /// `@DefineScope(`: `name` or `parent`.
     DefineName {
-        position: Pos,
+        position: Position,
     },
     /// `name` or `parent`: `=`.
     DefineAssign {
-        position: Pos,
+        position: Position,
         parent_first: bool,
     },
     /// The comma behind the first value: `parent` or `name`.
     DefineOther {
-        position: Pos,
+        position: Position,
         parent_first: bool,
         first: NodeId,
     },
     /// The other word: `=`.
     DefineOtherAssign {
-        position: Pos,
+        position: Position,
         parent_first: bool,
         first: NodeId,
     },
@@ -118,17 +118,17 @@ pub enum Mode {
     SuperName,
     /// The name of a super type: `<`, or what stands behind the super type.
     SuperNamed {
-        position: Pos,
+        position: Position,
         name: SharedName,
     },
     /// `<` behind such a name: a name.
     SuperArgumentName {
-        position: Pos,
+        position: Position,
         name: SharedName,
     },
     /// The argument: `>`.
     SuperArgumentEnd {
-        position: Pos,
+        position: Position,
         name: SharedName,
         argument: NodeId,
     },
@@ -140,28 +140,28 @@ pub enum Mode {
     InMembers,
     /// A name where a type is due: `<`, `[`, or what stands behind the type; of a member also `(`.
     TypeName {
-        position: Pos,
+        position: Position,
         name: SharedName,
     },
     /// `<` behind such a name: a name.
     TypeArgumentName {
-        position: Pos,
+        position: Position,
         name: SharedName,
     },
     /// The argument: `>`.
     TypeArgumentEnd {
-        position: Pos,
+        position: Position,
         name: SharedName,
         argument: NodeId,
     },
     /// A type: `[`, or what stands behind the type.
     TypeEnd {
-        position: Pos,
+        position: Position,
         element: ElementType,
     },
     /// The `[` of a type: `]`.
     TypeBracket {
-        position: Pos,
+        position: Position,
         element: ElementType,
     },
     /// A type with brackets.
@@ -172,7 +172,7 @@ pub enum Mode {
     MemberNamed {
         flags: Option<NodeId>,
         declared_type: NodeId,
-        position: Pos,
+        position: Position,
         name: SharedName,
     },
     /// `void` or `long`: the method's name.
@@ -184,14 +184,14 @@ pub enum Mode {
     MethodNamed {
         flags: Option<NodeId>,
         result_type: NodeId,
-        position: Pos,
+        position: Position,
         name: SharedName,
     },
     /// The `=` of a field: a literal.
     LiteralStart,
     /// `-`: a number.
     LiteralMinus {
-        position: Pos,
+        position: Position,
     },
     /// The literal: `;`.
     LiteralDone {
@@ -199,7 +199,7 @@ pub enum Mode {
     },
     /// The `(` of a method or constructor: a parameter or `)`.
     ParametersFirst {
-        position: Pos,
+        position: Position,
     },
     /// A parameter: a comma or `)`.
     ParameterDone {
@@ -211,16 +211,16 @@ pub enum Mode {
     },
     /// The `{` of a constructor: `super`, a statement or `}`.
     ConstructorStart {
-        position: Pos,
+        position: Position,
     },
     /// `super`: `(`.
     SuperOpen {
-        block_position: Pos,
-        position: Pos,
+        block_position: Position,
+        position: Position,
     },
     /// `super(..)`: `;`.
     SuperEnd {
-        block_position: Pos,
+        block_position: Position,
     },
     /// Statements: a statement or `}`.
     InStatements,
@@ -232,15 +232,15 @@ pub enum Mode {
     },
     /// `if`: `(`.
     IfOpen {
-        position: Pos,
+        position: Position,
     },
     /// `while`: `(`.
     WhileOpen {
-        position: Pos,
+        position: Position,
     },
     /// `for`: `(`.
     ForOpen {
-        position: Pos,
+        position: Position,
     },
     /// `for (`: a local with a value or an assignment.
     ForFirst,
@@ -248,24 +248,24 @@ pub enum Mode {
     ForStepStart,
     /// `return`: an expression or `;`.
     ReturnStart {
-        position: Pos,
+        position: Position,
     },
     /// A name where a statement or the begin of a `for` is due: a type or a target.
     NameFirst {
-        position: Pos,
+        position: Position,
         name: SharedName,
     },
     /// `[` behind it: `]`, or an index.
     NameBracket {
-        position: Pos,
+        position: Position,
         name: SharedName,
-        bracket: Pos,
+        bracket: Position,
     },
     /// The type and the name of a local: `;` or `=`.
     LocalNamed {
         flags: Option<NodeId>,
         declared_type: NodeId,
-        position: Pos,
+        position: Position,
         name: SharedName,
     },
     /// An assignment: what stands behind it.
@@ -276,48 +276,48 @@ pub enum Mode {
     Operand,
     /// A name as an operand: `(`, an assignment's sign where it is a target, or what may stand behind an operand.
     NameRead {
-        position: Pos,
+        position: Position,
         name: SharedName,
     },
     /// `(` where an operand is due.
     Opened {
-        position: Pos,
+        position: Position,
     },
     /// `( Name`.
     OpenedName {
-        position: Pos,
-        name_position: Pos,
+        position: Position,
+        name_position: Position,
         name: SharedName,
     },
     /// `( Name )`: a cast or a name between parentheses.
     ClosedName {
-        position: Pos,
-        name_position: Pos,
+        position: Position,
+        name_position: Position,
         name: SharedName,
     },
     /// `-` where an operand is due.
     Minus {
-        position: Pos,
+        position: Position,
     },
     /// `new`: a class, `int` or `boolean`.
     NewStart {
-        position: Pos,
+        position: Position,
     },
     /// `new Name`: `(` or `[`.
     NewName {
-        position: Pos,
-        name_position: Pos,
+        position: Position,
+        name_position: Position,
         name: SharedName,
     },
     /// `new int` or `new boolean`, whose type is a node: `[`.
     NewElement {
-        position: Pos,
+        position: Position,
         element: NodeId,
     },
     /// An expression of names, calls and brackets, which stands at `place`: what may stand behind it.
     PostDone {
         kind: PostKind,
-        position: Pos,
+        position: Position,
         id: NodeId,
     },
     /// A dot behind it: a name.
@@ -327,7 +327,7 @@ pub enum Mode {
     /// The name: `(`, or what may stand behind a field.
     DotName {
         object: NodeId,
-        position: Pos,
+        position: Position,
         name: SharedName,
     },
     /// The `(` of a call: an argument or `)`.

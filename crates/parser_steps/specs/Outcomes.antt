@@ -6,7 +6,7 @@ use Rattle.parser_machine.specs.declared.entries.Entry.{Entry}
 use Rattle.scj_base.specs.declared.errors.Memory.{Memory}
 use Rattle.scj_base.specs.declared.lexemes.Token.{Token}
 use Rattle.scj_base.specs.declared.lexemes.TokenKind.TheVariants.{Name, Word, Number, Text, Sign, End}
-use Rattle.scj_base.specs.declared.places.Pos.{Pos}
+use Rattle.scj_base.specs.declared.positions.Position.{Position}
 use Rattle.scj_tree.specs.Lexemes.{Lexeme, part_of, position_of_lexeme}
 use Rattle.scj_tree.specs.declared.nodes.Node.{Node}
 use Rattle.parser_steps.specs.declared.runs.Outcome.{Outcome}
@@ -15,7 +15,7 @@ use Rattle.parser_steps.specs.declared.runs.Outcome.TheVariants.{Ended, Stopped}
 -- the state behind all lexemes, or the place of the first that may not stand where it does
 pub data Way : Type 0 where
   to : State → Way
-  up_to : Pos → Way
+  up_to : Position → Way
 
 unfoldable pub way : State → List Lexeme → Way
 way st [] = to st

@@ -5,7 +5,7 @@ ghost use Rattle.parser_machine.specs.Machine.{finished, parsed, start};
 ghost use Rattle.parser_machine.specs.States.{State, at};
 ghost use Rattle.parser_steps.specs.Outcomes.{AllFit, Way, leads, to, up_to, way};
 ghost use Rattle.parser_steps.specs.declared.file_reads.FileRead.TheVariants.{Whole, Stopped, Unfinished};
-ghost use Rattle.scj_base.specs.declared.places.Pos.{Pos as Place};
+ghost use Rattle.scj_base.specs.declared.positions.Position.{Position};
 ghost use Rattle.scj_tree.specs.Lexemes.{lexemes_of};
 ghost use Rattle.scj_tree.specs.declared.nodes.Node.{Node};
 
@@ -13,7 +13,7 @@ use crate::runs::{Outcome, read};
 use parser_machine::{Entry, Mode};
 use parser_nodes::growing_nodes::Nodes;
 use parser_nodes::stacks::Stack;
-use scj_base::{Memory, Pos, Token};
+use scj_base::{Memory, Position, Token};
 use scj_tree::NodeList;
 use std::alloc::Global;
 
@@ -23,7 +23,7 @@ pub enum FileRead {
     /// A file with these classes.
     Whole(NodeList),
     /// No file: the first token that may not stand where it does stands at the place.
-    Stopped(Pos),
+    Stopped(Position),
     /// The begin of a file, without its end.
     Unfinished,
 }
@@ -50,7 +50,7 @@ fn end_of(stack: &mut Stack, mode: Mode) -> FileRead
     ensures whole { (nodes : List Node) (ids : List ℕ) → result ≡ Whole ids →
         finished (at mode stack.old nodes) ≡ Some (parsed nodes ids) }
     ensures unfinished { (nodes : List Node) → result ≡ Unfinished → finished (at mode stack.old nodes) ≡ None }
-    ensures stopped { (p : Place) → result ≡ Stopped p → ⊥ }
+    ensures stopped { (p : Position) → result ≡ Stopped p → ⊥ }
 {
     match classes_of(stack, mode) {
         Some(classes) => FileRead::Whole(classes),
@@ -63,7 +63,7 @@ fn told_by(stack: &mut Stack, outcome: Result<Outcome, Memory>) -> Result<FileRe
     ensures whole { (nodes : List Node) (awaited : Way) (ids : List ℕ) →
         leads outcome nodes stack.old awaited ≡ awaited → result ≡ Ok (Whole ids) →
         (st : State) × (awaited ≡ to st) × (finished st ≡ Some (parsed nodes ids)) }
-    ensures stopped { (nodes : List Node) (awaited : Way) (p : Place) →
+    ensures stopped { (nodes : List Node) (awaited : Way) (p : Position) →
         leads outcome nodes stack.old awaited ≡ awaited → result ≡ Ok (Stopped p) → awaited ≡ up_to p }
     ensures unfinished { (nodes : List Node) (awaited : Way) → leads outcome nodes stack.old awaited ≡ awaited →
         result ≡ Ok Unfinished → (st : State) × (awaited ≡ to st) × (finished st ≡ None) }
@@ -86,7 +86,7 @@ pub fn read_file(
     ensures whole { (ids : List ℕ) → result ≡ Ok (Whole ids) →
         (st : State) × (way (start nodes.old.all) (lexemes_of bytes.now tokens.now) ≡ to st) ×
         (finished st ≡ Some (parsed nodes.new.all ids)) }
-    ensures stopped { (p : Place) → result ≡ Ok (Stopped p) →
+    ensures stopped { (p : Position) → result ≡ Ok (Stopped p) →
         way (start nodes.old.all) (lexemes_of bytes.now tokens.now) ≡ up_to p }
     ensures unfinished { result ≡ Ok Unfinished →
         (st : State) × (way (start nodes.old.all) (lexemes_of bytes.now tokens.now) ≡ to st) × (finished st ≡ None) }

@@ -12,7 +12,7 @@ use parser_machine::Mode;
 use parser_nodes::growing_nodes::Nodes;
 use parser_nodes::stacks::Stack;
 use parser_nodes::views::View;
-use scj_base::{Memory, Pos, SharedName, Token, TokenKind};
+use scj_base::{Memory, Position, SharedName, Token, TokenKind};
 
 /// How far a run comes.
 #[derive(Drop)]
@@ -20,7 +20,7 @@ pub enum Outcome {
     /// Behind all tokens.
     Ended(Mode),
     /// To the first token that may not stand where it does, which stands at the place.
-    Stopped(Pos),
+    Stopped(Position),
 }
 
 /// The name that a token is, if it is one.

@@ -1,7 +1,7 @@
 -- Each effect of a release's operation in execution leaves the others alone.
 use Rattle.std.proofs.Common.{◌≡◌, ℕ, true, not, List, ◌∷◌, length, Some, refl, ap}
 use Rattle.std.specs.Prelude.{slice_get, slice_set}
-use Rattle.scj_base.specs.declared.places.Pos.{Pos}
+use Rattle.scj_base.specs.declared.positions.Position.{Position}
 use Rattle.scj_base.specs.declared.values.Value.{Value}
 use Rattle.scj_model.specs.Code.{Code}
 use Rattle.scj_model.specs.State.{Object, Frame, Activity, Release, ReleaseAt, State, object_at, changed, is_exec, is_init}
@@ -29,7 +29,7 @@ module _ (code : Code) (s : State) (p : ℕ) (r : Release) (there : slice_get s.
       (with_frame s (ReleaseAt p) a h below)
   goes h k = goes_in s (near_same s) refl h k
 
-  made : (h : Frame) (class : ℕ) (slots : List Value) → StandsAs f h → (position : Pos) (next : State → ℕ → Step)
+  made : (h : Frame) (class : ℕ) (slots : List Value) → StandsAs f h → (position : Position) (next : State → ℕ → Step)
       → ((u : State) (q : ℕ) → IsNear s u → s.areas ≡ u.areas → ReleaseMoves code (Unit {0}) s p r.handler a.priority
       (f ∷ below) (next u q).state)
       → ReleaseMoves code (Unit {0}) s p r.handler a.priority (f ∷ below)
@@ -49,7 +49,7 @@ module _ (code : Code) (s : State) (p : ℕ) (r : Release) (there : slice_get s.
       }) refl)
       (λ e. fault_moves code s p r there a f below frames (Unit {0}) position _)
 
-  asked : (h : Frame) (q : ℕ) (o : Object) → StandsAs f h → (position : Pos) →
+  asked : (h : Frame) (q : ℕ) (o : Object) → StandsAs f h → (position : Position) →
       ReleaseMoves code (Unit {0}) s p r.handler a.priority (f ∷ below)
       (registered code s (ReleaseAt p) a position q o (with_frame s (ReleaseAt p) a h below)).state
   unfolding registered
@@ -58,7 +58,7 @@ module _ (code : Code) (s : State) (p : ℕ) (r : Release) (there : slice_get s.
       (λ e. fault_moves code s p r there a f below frames (Unit {0}) position _)
       (λ e. absurd (cc (ap not (not_init s.phase exec), e)))
 
-  pub applied_moves : (position : Pos) (e : Effect) → Shaped f e →
+  pub applied_moves : (position : Position) (e : Effect) → Shaped f e →
       Gives (ReleaseMoves code (Enters code s e) s p r.handler a.priority (f ∷ below))
       (applied code s (ReleaseAt p) a below position e)
   unfolding applied

@@ -3,7 +3,7 @@
 use Rattle.std.proofs.Common.{◌≡◌, ℕ, ◌≤◌, true, List, ◌∷◌, ◌++◌, length, Option, Some, None, refl, sym, ap, ◌∙◌, subst, arith}
 use Rattle.std.specs.Prelude.{slice_get, unwrap_or, is_some, nat_lt, option_to_list}
 use Rattle.std.proofs.lemmas.Bool.Decides.{nat_tests}
-use Rattle.scj_base.specs.declared.places.Pos.{Pos}
+use Rattle.scj_base.specs.declared.positions.Position.{Position}
 use Rattle.scj_rules.specs.Words.{◌>>=◌}
 use Rattle.accepted_laws.proofs.Tools.{some_inj}
 use Rattle.scj_model.specs.Code.{Code}
@@ -115,7 +115,7 @@ module _ (code : Code) (s : State) (p : ℕ) (r : Release) (there : slice_get s.
           absurd (look q (slice_get s.objects q) refl (enters q m)
           (ap (λ (o : Option ℕ). o >>= object_at s >>= (λ (x : Object). Some x.ceiling)) (sym m) ∙ none))
 
-  pub called_moves : (h g : Frame) → StandsAs f h → IsNew g → (position : Pos) →
+  pub called_moves : (h g : Frame) → StandsAs f h → IsNew g → (position : Position) →
       ReleaseMoves code (Enters code s (Calls h g)) s p r.handler a.priority (f ∷ below)
       (called code s (ReleaseAt p) a (h ∷ below) position g).state
   unfolding called
@@ -132,7 +132,7 @@ module _ (code : Code) (s : State) (p : ℕ) (r : Release) (there : slice_get s.
       (λ e. calls_into (Enters code s (Calls h g)) h g ceiling k n (grind (arith, nat_tests)) entered)))
 
   -- a call in an area that is opened
-  pub opened_moves : (h g : Frame) (scope bytes : ℕ) → StandsAs f h → IsNew g → (position : Pos) →
+  pub opened_moves : (h g : Frame) (scope bytes : ℕ) → StandsAs f h → IsNew g → (position : Position) →
       ReleaseMoves code (Enters code s (Opens h g scope bytes)) s p r.handler a.priority (f ∷ below)
       (opened_in s (ReleaseAt p) a (h ∷ below) position g scope bytes).state
   unfolding opened_in opening monitor_of

@@ -1,7 +1,7 @@
 -- What each effect of a release's operation does to the order.
 use Rattle.std.proofs.Common.{◌≡◌, ℕ, true, false, List, [], ◌∷◌, Option, Some, None, refl, sym, ◌∙◌, subst, arith}
 use Rattle.std.specs.Prelude.{slice_get, unwrap_or}
-use Rattle.scj_base.specs.declared.places.Pos.{Pos}
+use Rattle.scj_base.specs.declared.positions.Position.{Position}
 use Rattle.scj_base.specs.declared.faults.RunFault.{RunFault}
 use Rattle.scj_base.specs.declared.values.Value.{Value}
 use Rattle.scj_model.specs.declared.phases.Phase.{Phase}
@@ -82,7 +82,7 @@ not_init Over h = refl
 
 pub moves_fault : (code : Code) (condition : Type 0) (s : State) (p : ℕ) (r : Release) →
     slice_get s.releases p ≡ Some r → (priority : ℕ) (old : List Frame) (a : Activity) → a.frames ≡ old →
-    (position : Pos) (fault : RunFault) → ReleaseMoves code condition s p r.handler priority old
+    (position : Position) (fault : RunFault) → ReleaseMoves code condition s p r.handler priority old
     (fault_in s (ReleaseAt p) a position fault).state
 unfolding fault_in
 moves_fault code condition s p r there priority old a same position fault =
@@ -94,7 +94,7 @@ moves_fault code condition s p r there priority old a same position fault =
 module _ (code : Code) (s : State) (p : ℕ) (r : Release) (there : slice_get s.releases p ≡ Some r)
     (a : Activity) (f : Frame) (below : List Frame)
     (frames : a.frames ≡ f ∷ below) where
-  pub fault_moves : (condition : Type 0) (position : Pos) (fault : RunFault) →
+  pub fault_moves : (condition : Type 0) (position : Position) (fault : RunFault) →
       ReleaseMoves code condition s p r.handler a.priority (f ∷ below) (fault_in s (ReleaseAt p) a position fault).state
   fault_moves condition position fault = moves_fault code condition s p r there a.priority (f ∷ below) a frames position fault
 

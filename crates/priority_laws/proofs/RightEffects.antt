@@ -1,7 +1,7 @@
 -- Priorities stay right under each effect of an operation, whichever job does it.
 use Rattle.std.proofs.Common.{◌≡◌, ℕ, not, List, [], ◌∷◌, length, Option, Some, None, refl, ap, ◌∙◌}
 use Rattle.std.specs.Prelude.{slice_get, slice_set, is_some, nat_lt, unwrap_or}
-use Rattle.scj_base.specs.declared.places.Pos.{Pos}
+use Rattle.scj_base.specs.declared.positions.Position.{Position}
 use Rattle.scj_base.specs.declared.faults.RunFault.{RunFault}
 use Rattle.scj_base.specs.declared.values.Value.{Value}
 use Rattle.scj_model.specs.Code.{Code}
@@ -59,7 +59,7 @@ unfolding closed_all
 right_closed_all code s [] h = h
 right_closed_all code s (f ∷ fs) h = right_closed_all code (closed s f.opened) fs (right_closed code s f.opened h)
 
-pub right_fault : (code : Code) (s : State) (job : Job) (a : Activity) (position : Pos) (fault : RunFault) →
+pub right_fault : (code : Code) (s : State) (job : Job) (a : Activity) (position : Position) (fault : RunFault) →
     PrioritiesAreRight code s → PrioritiesAreRight code (fault_in s job a position fault).state
 unfolding fault_in
 right_fault code s TheSequencer a position fault h = right_same code s h _ refl refl
@@ -75,7 +75,7 @@ right_ended code s (ReleaseAt p) a value h = right_same code s h _ refl refl
 -- ---- the effects
 
 module _ (code : Code) (s : State) (h : PrioritiesAreRight code s) (job : Job) (a : Activity) (below : List Frame)
-    (position : Pos) where
+    (position : Position) where
   goes : (u : State) → PrioritiesAreRight code u → (f : Frame) → PrioritiesAreRight code (with_frame u job a f below)
   goes u k f = right_activity code u job (record a { frames = f ∷ below }) k
 

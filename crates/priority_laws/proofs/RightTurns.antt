@@ -2,7 +2,7 @@
 -- handler.
 use Rattle.std.proofs.Common.{◌≡◌, ℕ, true, List, [], ◌∷◌, ◌⊎◌, inl, inr, Option, Some, None, refl, sym, subst}
 use Rattle.std.specs.Prelude.{slice_get, is_some, codes}
-use Rattle.scj_base.specs.declared.places.Pos.{Pos}
+use Rattle.scj_base.specs.declared.positions.Position.{Position}
 use Rattle.scj_base.specs.declared.values.Value.{Value}
 use Rattle.scj_rules.specs.declared.views.Body.{Body}
 use Rattle.scj_rules.specs.Words.{◌>>=◌}
@@ -159,13 +159,13 @@ module _ (code : Code) (rows : List ReadingRow) (s : State) (h : PrioritiesAreRi
 
   -- ---- the sequencer
 
-  right_area : (position : Pos) (scope bytes : ℕ) → PrioritiesAreRight code (area_opened s position scope bytes).state
+  right_area : (position : Position) (scope bytes : ℕ) → PrioritiesAreRight code (area_opened s position scope bytes).state
   unfolding area_opened
   right_area position scope bytes =
       right_opening code s h TheSequencer s.activity [] position scope (innermost s.activity.areas) bytes _
       (λ u q k. right_same code u k _ refl refl)
 
-  right_safelet : (position : Pos) (class area : ℕ) → PrioritiesAreRight code (safelet_made code s position class area).state
+  right_safelet : (position : Position) (class area : ℕ) → PrioritiesAreRight code (safelet_made code s position class area).state
   unfolding safelet_made
   right_safelet position class area =
       right_made code s h TheSequencer s.activity [] position class area (new_slots code.program class)

@@ -1,7 +1,7 @@
 -- Each effect of an operation of a sequencer's frame outside execution.
 use Rattle.std.proofs.Common.{◌≡◌, ℕ, false, not, List, [], ◌∷◌, ◌++◌, length, Option, Some, None, refl, sym, ap, ◌∙◌, subst}
 use Rattle.std.specs.Prelude.{is_some, nat_lt, slice_set, unwrap_or, option_to_list}
-use Rattle.scj_base.specs.declared.places.Pos.{Pos}
+use Rattle.scj_base.specs.declared.positions.Position.{Position}
 use Rattle.scj_base.specs.declared.faults.RunFault.{RunFault}
 use Rattle.scj_base.specs.declared.values.Value.{Value}
 use Rattle.scj_model.specs.Code.{Code}
@@ -46,7 +46,7 @@ returned_none (Some value) = refl
 module _ (code : Code) (s : State) (none : (q : ℕ) → started_at s.releases q ≡ None) (quiet : is_exec s.phase ≡ false)
     (idle : s.outcome ≡ None) (n : NestsForSequencer s) where
   -- a fault halts the run
-  pub halts : (a : Activity) (position : Pos) (fault : RunFault) →
+  pub halts : (a : Activity) (position : Position) (fault : RunFault) →
       SequencerMoves s (fault_in s TheSequencer a position fault).state
   unfolding fault_in is_exec
   halts a position fault =
@@ -83,7 +83,7 @@ module _ (code : Code) (s : State) (none : (q : ℕ) → started_at s.releases q
         ∙ ap (λ xs. xs ++ n.base)
         (stands_first h k ∙ sym (ap (λ (o : Option ℕ). option_to_list o ++ opened_by (h ∷ below)) opened)))
 
-    called_moves : (h g : Frame) → StandsAs f h → IsNew g → (position : Pos) →
+    called_moves : (h g : Frame) → StandsAs f h → IsNew g → (position : Position) →
         SequencerMoves s (called code s TheSequencer s.activity (h ∷ below) position g).state
     unfolding called
     called_moves h g k new position =
@@ -94,7 +94,7 @@ module _ (code : Code) (s : State) (none : (q : ℕ) → started_at s.releases q
         (λ e. halts s.activity position _)
         (λ e. calls h (record g { saved = Some s.activity.priority }) ceiling k new.opened)))
 
-    opened_moves : (h g : Frame) (scope bytes : ℕ) → StandsAs f h → (position : Pos) →
+    opened_moves : (h g : Frame) (scope bytes : ℕ) → StandsAs f h → (position : Position) →
         SequencerMoves s (opened_in s TheSequencer s.activity (h ∷ below) position g scope bytes).state
     unfolding opened_in opening
     opened_moves h g scope bytes k position =
@@ -112,7 +112,7 @@ module _ (code : Code) (s : State) (none : (q : ℕ) → started_at s.releases q
         (ap (λ xs. length s.areas ∷ xs) (n.is_list ∙ ap (λ xs. xs ++ n.base) (stands_first h k))))
         (λ e. halts s.activity position _)))
 
-    made_moves : (h : Frame) (class : ℕ) (slots : List Value) (position : Pos) (next : State → ℕ → Step)
+    made_moves : (h : Frame) (class : ℕ) (slots : List Value) (position : Position) (next : State → ℕ → Step)
         → ((u : State) (q : ℕ) → u.releases ≡ s.releases → u.phase ≡ s.phase → u.outcome ≡ s.outcome →
         u.areas ≡ s.areas → SequencerMoves s (next u q).state)
         → SequencerMoves s (allocating s TheSequencer s.activity position class h.area slots next).state
@@ -153,7 +153,7 @@ module _ (code : Code) (s : State) (none : (q : ℕ) → started_at s.releases q
             (front_closed s n h below (stands_first h k)) n.base
             (rest_left s n h below (stands_first h k) ∙ ap (λ xs. xs ++ n.base) (sym (opened_returned value below)))
 
-    registered_moves : (h : Frame) (q : ℕ) (o : Object) → StandsAs f h → (position : Pos) →
+    registered_moves : (h : Frame) (q : ℕ) (o : Object) → StandsAs f h → (position : Position) →
         SequencerMoves s
         (registered code s TheSequencer s.activity position q o (with_frame s TheSequencer s.activity h below)).state
     unfolding registered
@@ -166,7 +166,7 @@ module _ (code : Code) (s : State) (none : (q : ℕ) → started_at s.releases q
         (λ e. record
         { none = m.none; inside = m.inside; done = m.done; areas = m.areas; base = m.base; is_list = m.is_list })))
 
-    pub applied_moves : (position : Pos) (e : Effect) → Shaped f e →
+    pub applied_moves : (position : Position) (e : Effect) → Shaped f e →
         Gives (SequencerMoves s) (applied code s TheSequencer s.activity below position e)
     unfolding applied
     applied_moves position (Goes h) x = gives_some _ _ (stays s refl refl refl refl h x.is)

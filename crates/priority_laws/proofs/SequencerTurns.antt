@@ -1,6 +1,6 @@
 -- An operation of the sequencer outside execution, be it its own or one of its frames.
 use Rattle.std.proofs.Common.{◌≡◌, ℕ, false, List, [], ◌∷◌, length, Some, None, refl}
-use Rattle.scj_base.specs.declared.places.Pos.{Pos}
+use Rattle.scj_base.specs.declared.positions.Position.{Position}
 use Rattle.scj_rules.specs.declared.views.Body.{Body}
 use Rattle.scj_rules.specs.ScopeRules.{immortal_scope, defined_by_chain}
 use Rattle.scj_rules.specs.Bodies.{body_named, constructor_body, size_of, safelet_class}
@@ -27,7 +27,7 @@ use Rattle.priority_laws.proofs.SequencerEffects.{halts, applied_moves}
 
 module _ (code : Code) (s : State) (none : (q : ℕ) → started_at s.releases q ≡ None) (quiet : is_exec s.phase ≡ false)
     (idle : s.outcome ≡ None) (n : NestsForSequencer s) where
-  area_moves : (position : Pos) (scope bytes : ℕ) → s.activity.frames ≡ [] →
+  area_moves : (position : Position) (scope bytes : ℕ) → s.activity.frames ≡ [] →
       SequencerMoves s (area_opened s position scope bytes).state
   unfolding area_opened opening
   area_moves position scope bytes frames =
@@ -37,7 +37,7 @@ module _ (code : Code) (s : State) (none : (q : ℕ) → started_at s.releases q
       (area_added s.areas _ s.activity.areas))
       (λ e. halts code s none quiet idle n s.activity position _)
 
-  safelet_moves : (position : Pos) (class area : ℕ) → s.activity.frames ≡ [] →
+  safelet_moves : (position : Position) (class area : ℕ) → s.activity.frames ≡ [] →
       SequencerMoves s (safelet_made code s position class area).state
   unfolding safelet_made allocating
   safelet_moves position class area frames =

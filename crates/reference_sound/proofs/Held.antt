@@ -3,7 +3,7 @@
 use Rattle.std.specs.Prelude.{Option, Some, None, slice_get}
 use Rattle.std.proofs.Common.{◌≡◌, ℕ, List, refl, sym, ◌∙◌, ap, subst, ◌⊎◌, inl, inr}
 use Rattle.scj_base.specs.declared.faults.RunFault.{RunFault}
-use Rattle.scj_base.specs.declared.places.Pos.{Pos}
+use Rattle.scj_base.specs.declared.positions.Position.{Position}
 use Rattle.scj_base.specs.declared.values.Value.{Value}
 use Rattle.scj_rules.specs.Words.{◌>>=◌}
 use Rattle.accepted_laws.proofs.Tools.{some_inj}
@@ -165,7 +165,7 @@ module _ (s : State) (base : List ℕ) (held : ReferencesHold s base) where
           job_holds (world_of s) (world_of m) objects base left.frames
           (held.jobs j left (sym (same_activity s m j e g) ∙ was))
 
-  pub faults_hold : (job : Job) (activity : Activity) (position : Pos) (fault : RunFault) →
+  pub faults_hold : (job : Job) (activity : Activity) (position : Position) (fault : RunFault) →
       ReferencesHold (fault_in s job activity position fault).state base
   unfolding fault_in
   faults_hold TheSequencer activity position fault =

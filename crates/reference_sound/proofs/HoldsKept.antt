@@ -2,7 +2,7 @@
 -- the frames of each job.
 use Rattle.std.specs.Prelude.{Option, Some, None}
 use Rattle.std.proofs.Common.{◌≡◌, ℕ, List, [], ◌∷◌, refl, sym, ◌∙◌, ap, subst}
-use Rattle.scj_base.specs.declared.places.Pos.{Pos}
+use Rattle.scj_base.specs.declared.positions.Position.{Position}
 use Rattle.scj_model.specs.declared.operations.Op.{Op}
 use Rattle.scj_model.specs.declared.plans.ReadingRow.{ReadingRow}
 use Rattle.scj_model.specs.Code.{Code}
@@ -40,7 +40,7 @@ around_new code w list c sig f h g scope x =
 
 module _ (code : Code) (s : State) (job : Job) (activity : Activity) (is : activity_of s job ≡ Some activity)
     (base : List ℕ) (held : ReferencesHold s base) (f : Frame) (below : List Frame)
-    (frames : activity.frames ≡ f ∷ below) (position : Pos) (rest : List Op) (c : ℕ) (sig : Signature) where
+    (frames : activity.frames ≡ f ∷ below) (position : Position) (rest : List Op) (c : ℕ) (sig : Signature) where
   effect_kept : (e : Effect) → Fine code (world_of s) (list_of base (f ∷ below)) c sig (record f { rest = rest }) e →
       Holding (world_of s) (IsOnList (world_of s) (list_of base (f ∷ below))) e →
       AllLead base (applied code s job activity below position e)

@@ -2,7 +2,7 @@
 use Rattle.std.specs.Prelude.{Option, Some, None, slice_get, if◌then◌else◌, ◌++◌, nat_lt, is_some, unwrap_or, option_to_list}
 use Rattle.std.proofs.Common.{◌≡◌, ℕ, ◌<◌, List, [], ◌∷◌, length, Bool, true, false, refl, sym, ◌∙◌, ap, subst, ◌⊎◌, inl, inr}
 use Rattle.scj_base.specs.declared.faults.RunFault.TheVariants.{ScopedCycle, CeilingViolation, DepthFull, StoreFull}
-use Rattle.scj_base.specs.declared.places.Pos.{Pos}
+use Rattle.scj_base.specs.declared.positions.Position.{Position}
 use Rattle.scj_base.specs.declared.values.Value.{Value}
 use Rattle.accepted_laws.proofs.Lists.{get_left, get_within}
 use Rattle.accepted_laws.proofs.Tools.{some_inj}
@@ -76,7 +76,7 @@ returned_holds w base (Some v) (f ∷ fs) h = h
 
 module _ (code : Code) (s : State) (job : Job) (activity : Activity) (is : activity_of s job ≡ Some activity)
     (base : List ℕ) (held : ReferencesHold s base) (f : Frame) (below : List Frame)
-    (frames : activity.frames ≡ f ∷ below) (position : Pos) where
+    (frames : activity.frames ≡ f ∷ below) (position : Position) where
   -- what the section before has of this frame
   abbrev Here : Frame → Type 0
   Here h = HoldsHere code s job activity is base held f below frames position h

@@ -2,7 +2,7 @@
 use Rattle.std.specs.Prelude.{Option, Some, slice_set, if◌then◌else◌, ◌++◌, ℤ, option_to_list}
 use Rattle.std.proofs.Common.{◌≡◌, ℕ, List, ◌∷◌, length, Bool, true, false, refl, sym, ◌∙◌, ap, subst}
 use Rattle.scj_base.specs.declared.faults.RunFault.TheVariants.{MemoryFull, NotInitializing}
-use Rattle.scj_base.specs.declared.places.Pos.{Pos}
+use Rattle.scj_base.specs.declared.positions.Position.{Position}
 use Rattle.scj_base.specs.declared.values.Value.{Value}
 use Rattle.scj_base.specs.declared.values.Value.TheVariants.{At}
 use Rattle.scj_model.specs.Code.{Code}
@@ -26,7 +26,7 @@ use Rattle.reference_sound.proofs.Objects.{objects_same, objects_made, objects_c
 
 module _ (code : Code) (s : State) (job : Job) (activity : Activity) (is : activity_of s job ≡ Some activity)
     (base : List ℕ) (held : ReferencesHold s base) (f : Frame) (below : List Frame)
-    (frames : activity.frames ≡ f ∷ below) (position : Pos) where
+    (frames : activity.frames ≡ f ∷ below) (position : Position) where
   abbrev list : List ℕ
   list = list_of base (f ∷ below)
 

@@ -3,7 +3,7 @@
 use Rattle.std.specs.Prelude.{Option, Some, None, if◌then◌else◌, ◌++◌, ◌+◌, not, nat_lt, is_some, length, map, option_map}
 use Rattle.std.proofs.Common.{◌≡◌, ℕ, List, [], ◌∷◌, Bool, true, false, refl, sym, ◌∙◌}
 use Rattle.scj_base.specs.declared.faults.RunFault.TheVariants.{NotInitializing, TooManyHandlers}
-use Rattle.scj_base.specs.declared.places.Pos.{Pos}
+use Rattle.scj_base.specs.declared.positions.Position.{Position}
 use Rattle.scj_model.specs.declared.events.Event.{Event}
 use Rattle.scj_model.specs.declared.handlers.HandlerRow.{HandlerRow}
 use Rattle.scj_model.specs.Code.{Code}
@@ -92,7 +92,7 @@ module _ (t : State) (base : List ℕ) (h : ReferencesHold t base) where
 
 module _ (code : Code) (s : State) (job : Job) (activity : Activity) (is : activity_of s job ≡ Some activity)
     (base : List ℕ) (held : ReferencesHold s base) (f : Frame) (below : List Frame)
-    (frames : activity.frames ≡ f ∷ below) (position : Pos) where
+    (frames : activity.frames ≡ f ∷ below) (position : Position) where
   abbrev Asked : Effect → Type 0
   Asked e = Asks code s job activity is base held f below frames position e
 

@@ -3,7 +3,7 @@
 use Rattle.std.specs.Prelude.{Some, None, if◌then◌else◌, length, codes}
 use Rattle.std.proofs.Common.{ℕ, List, [], ◌∷◌, Bool, true, false, refl}
 use Rattle.scj_base.specs.declared.faults.RunFault.TheVariants.{MemoryFull, StoreFull}
-use Rattle.scj_base.specs.declared.places.Pos.{Pos}
+use Rattle.scj_base.specs.declared.positions.Position.{Position}
 use Rattle.scj_base.specs.declared.values.Value.TheVariants.{Null, At}
 use Rattle.scj_rules.specs.declared.views.Body.{Body}
 use Rattle.scj_rules.specs.ScopeRules.{immortal_scope, defined_by_chain}
@@ -28,7 +28,7 @@ use Rattle.reference_sound.proofs.Objects.{objects_opened, objects_made}
 
 module _ (code : Code) (s : State) (base : List ℕ) (held : ReferencesHold s base) where
   module _ (inside : InnermostIsThere s) where
-    opened_holds : (position : Pos) (scope bytes : ℕ) → ReferencesHold (area_opened s position scope bytes).state base
+    opened_holds : (position : Position) (scope bytes : ℕ) → ReferencesHold (area_opened s position scope bytes).state base
     unfolding area_opened opening
     opened_holds position scope bytes = go (has_store_for s bytes)
       where
@@ -57,7 +57,7 @@ module _ (code : Code) (s : State) (base : List ℕ) (held : ReferencesHold s ba
             base held refl (sequencer_holds s s base held))
         go false = faults_hold s base held TheSequencer s.activity position StoreFull
 
-    made_holds : (position : Pos) (class area : ℕ) → ReferencesHold (safelet_made code s position class area).state base
+    made_holds : (position : Position) (class area : ℕ) → ReferencesHold (safelet_made code s position class area).state base
     unfolding safelet_made allocating
     made_holds position class area = go (has_room s area (length (new_slots code.program class)))
       where

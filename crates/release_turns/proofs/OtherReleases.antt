@@ -1,7 +1,7 @@
 -- What an operation of a release does to the releases: of the others those that wait may be dropped, and new ones wait.
 use Rattle.std.proofs.Common.{◌≡◌, ℕ, zero, suc, nat_lt, Bool, true, false, not, List, [], ◌∷◌, ◌++◌, length, map, ◌⊎◌, inl, inr, Option, Some, None, if◌then◌else◌, refl, sym, ap, ◌∙◌, subst}
 use Rattle.std.specs.Prelude.{option_map, slice_get, slice_set, unwrap_or, is_some, codes}
-use Rattle.scj_base.specs.declared.places.Pos.{Pos}
+use Rattle.scj_base.specs.declared.positions.Position.{Position}
 use Rattle.scj_base.specs.declared.faults.RunFault.{RunFault}
 use Rattle.scj_base.specs.declared.values.Value.{Value}
 use Rattle.scj_rules.specs.Words.{◌>>=◌}
@@ -275,30 +275,30 @@ acts_option : {A : Type 0} (n : ℕ) (s : State) (o : Option A) (x : Step) (f : 
 acts_option n s None x f h k = h
 acts_option n s (Some a) x f h k = k a
 
-acts_fault : (s : State) (n : ℕ) (activity : Activity) (position : Pos) (fault : RunFault) → Acts n s (fault_in s (ReleaseAt n) activity position fault)
+acts_fault : (s : State) (n : ℕ) (activity : Activity) (position : Position) (fault : RunFault) → Acts n s (fault_in s (ReleaseAt n) activity position fault)
 unfolding fault_in
 acts_fault s n activity position fault = gets n s (closed_all s activity.frames) Ended (beside_closed_all s activity.frames)
 
-acts_called : (code : Code) (s : State) (n : ℕ) (activity : Activity) (frames : List Frame) (position : Pos) (g : Frame) → Acts n s (called code s (ReleaseAt n) activity frames position g)
+acts_called : (code : Code) (s : State) (n : ℕ) (activity : Activity) (frames : List Frame) (position : Position) (g : Frame) → Acts n s (called code s (ReleaseAt n) activity frames position g)
 unfolding called with_activity
 acts_called code s n activity frames position g =
     acts_if n s (is_full frames) _ _ (acts_fault s n activity position _)
     (acts_option n s (ceiling_entered code s g) _ _ (gets n s s _ (beside_same s))
     (λ ceiling. acts_if n s (nat_lt ceiling activity.priority) _ _ (acts_fault s n activity position _) (gets n s s _ (beside_same s))))
 
-acts_opening : (s : State) (n : ℕ) (activity : Activity) (position : Pos) (scope : ℕ) (parent : Option ℕ) (bytes : ℕ) (next : State → ℕ → Step) → ((t : State) (a : ℕ) → IsBeside s t → Acts n s (next t a)) → Acts n s (opening s (ReleaseAt n) activity position scope parent bytes next)
+acts_opening : (s : State) (n : ℕ) (activity : Activity) (position : Position) (scope : ℕ) (parent : Option ℕ) (bytes : ℕ) (next : State → ℕ → Step) → ((t : State) (a : ℕ) → IsBeside s t → Acts n s (next t a)) → Acts n s (opening s (ReleaseAt n) activity position scope parent bytes next)
 unfolding opening
 acts_opening s n activity position scope parent bytes next h =
     acts_if n s (has_store_for s bytes) _ _ (h (with_area s scope parent bytes) (length s.areas) (record { releases = refl; earlier = refl }))
     (acts_fault s n activity position _)
 
-acts_allocating : (s : State) (n : ℕ) (activity : Activity) (position : Pos) (class area : ℕ) (slots : List Value) (next : State → ℕ → Step) → ((t : State) (r : ℕ) → IsBeside s t → Acts n s (next t r)) → Acts n s (allocating s (ReleaseAt n) activity position class area slots next)
+acts_allocating : (s : State) (n : ℕ) (activity : Activity) (position : Position) (class area : ℕ) (slots : List Value) (next : State → ℕ → Step) → ((t : State) (r : ℕ) → IsBeside s t → Acts n s (next t r)) → Acts n s (allocating s (ReleaseAt n) activity position class area slots next)
 unfolding allocating
 acts_allocating s n activity position class area slots next h =
     acts_if n s (has_room s area (length slots)) _ _ (h (with_object s class area slots) (length s.objects) (record { releases = refl; earlier = refl }))
     (acts_fault s n activity position _)
 
-acts_opened : (s : State) (n : ℕ) (activity : Activity) (frames : List Frame) (position : Pos) (g : Frame) (scope bytes : ℕ) → Acts n s (opened_in s (ReleaseAt n) activity frames position g scope bytes)
+acts_opened : (s : State) (n : ℕ) (activity : Activity) (frames : List Frame) (position : Position) (g : Frame) (scope bytes : ℕ) → Acts n s (opened_in s (ReleaseAt n) activity frames position g scope bytes)
 unfolding opened_in with_activity
 acts_opened s n activity frames position g scope bytes =
     acts_if n s (is_some (area_with_scope s scope activity.areas)) _ _ (acts_fault s n activity position _)
@@ -364,7 +364,7 @@ then_acts n s t status k =
       earlier = k.earlier;
     }
 
-acts_registered : (code : Code) (s : State) (n : ℕ) (activity : Activity) (position : Pos) (r : ℕ) (o : Object) (after : State) → OneActs n s after → Acts n s (registered code s (ReleaseAt n) activity position r o after)
+acts_registered : (code : Code) (s : State) (n : ℕ) (activity : Activity) (position : Position) (r : ℕ) (o : Object) (after : State) → OneActs n s after → Acts n s (registered code s (ReleaseAt n) activity position r o after)
 unfolding registered
 acts_registered code s n activity position r o after a =
     acts_if n s (not (is_init s.phase)) _ _ (acts_fault s n activity position _)
@@ -392,7 +392,7 @@ acts_mapped : {A : Type 0} (n : ℕ) (s : State) (o : Option A) (f : A → Step)
 acts_mapped n s None f h = acts_none n s
 acts_mapped n s (Some a) f h = acts_some n s (f a) (h a)
 
-acts_applied : (code : Code) (s : State) (n : ℕ) (activity : Activity) (below : List Frame) (position : Pos) (effect : Effect) → ActsIf n s (applied code s (ReleaseAt n) activity below position effect)
+acts_applied : (code : Code) (s : State) (n : ℕ) (activity : Activity) (below : List Frame) (position : Position) (effect : Effect) → ActsIf n s (applied code s (ReleaseAt n) activity below position effect)
 unfolding applied with_activity
 acts_applied code s n activity below position (Goes f) = acts_some n s _ (gets n s s _ (beside_same s))
 acts_applied code s n activity below position (Prints f label value) = acts_some n s _ (gets n s s _ (beside_same s))

@@ -1,7 +1,7 @@
 -- Outside execution an operation of the sequencer leaves the releases as they are.
 use Rattle.std.proofs.Common.{◌≡◌, ℕ, nat_lt, Bool, true, false, not, ◌&&◌, List, [], ◌∷◌, length, map, Option, Some, None, if◌then◌else◌, refl, sym, ap, subst}
 use Rattle.std.specs.Prelude.{option_map, unwrap_or, is_some, codes}
-use Rattle.scj_base.specs.declared.places.Pos.{Pos}
+use Rattle.scj_base.specs.declared.positions.Position.{Position}
 use Rattle.scj_base.specs.declared.faults.RunFault.{RunFault}
 use Rattle.scj_base.specs.declared.values.Value.{Value}
 use Rattle.scj_rules.specs.declared.views.Body.{Body}
@@ -47,30 +47,30 @@ unfolding closed
 same_closed s None = record { releases = refl; earlier = refl }
 same_closed s (Some a) = record { releases = refl; earlier = refl }
 
-same_fault : (s : State) (activity : Activity) (position : Pos) (fault : RunFault) → Same s (fault_in s TheSequencer activity position fault)
+same_fault : (s : State) (activity : Activity) (position : Position) (fault : RunFault) → Same s (fault_in s TheSequencer activity position fault)
 unfolding fault_in
 same_fault s activity position fault = record { releases = refl; earlier = refl }
 
-same_called : (code : Code) (s : State) (activity : Activity) (frames : List Frame) (position : Pos) (g : Frame) → Same s (called code s TheSequencer activity frames position g)
+same_called : (code : Code) (s : State) (activity : Activity) (frames : List Frame) (position : Position) (g : Frame) → Same s (called code s TheSequencer activity frames position g)
 unfolding called with_activity
 same_called code s activity frames position g =
     same_if s (is_full frames) _ _ (same_fault s activity position _)
     (same_option s (ceiling_entered code s g) _ _ (record { releases = refl; earlier = refl })
     (λ ceiling. same_if s (nat_lt ceiling activity.priority) _ _ (same_fault s activity position _) (record { releases = refl; earlier = refl })))
 
-same_opening : (s : State) (activity : Activity) (position : Pos) (scope : ℕ) (parent : Option ℕ) (bytes : ℕ) (next : State → ℕ → Step) → ((t : State) (a : ℕ) → HasSame s t → Same s (next t a)) → Same s (opening s TheSequencer activity position scope parent bytes next)
+same_opening : (s : State) (activity : Activity) (position : Position) (scope : ℕ) (parent : Option ℕ) (bytes : ℕ) (next : State → ℕ → Step) → ((t : State) (a : ℕ) → HasSame s t → Same s (next t a)) → Same s (opening s TheSequencer activity position scope parent bytes next)
 unfolding opening
 same_opening s activity position scope parent bytes next h =
     same_if s (has_store_for s bytes) _ _ (h (with_area s scope parent bytes) (length s.areas) (record { releases = refl; earlier = refl }))
     (same_fault s activity position _)
 
-same_allocating : (s : State) (activity : Activity) (position : Pos) (class area : ℕ) (slots : List Value) (next : State → ℕ → Step) → ((t : State) (r : ℕ) → HasSame s t → Same s (next t r)) → Same s (allocating s TheSequencer activity position class area slots next)
+same_allocating : (s : State) (activity : Activity) (position : Position) (class area : ℕ) (slots : List Value) (next : State → ℕ → Step) → ((t : State) (r : ℕ) → HasSame s t → Same s (next t r)) → Same s (allocating s TheSequencer activity position class area slots next)
 unfolding allocating
 same_allocating s activity position class area slots next h =
     same_if s (has_room s area (length slots)) _ _ (h (with_object s class area slots) (length s.objects) (record { releases = refl; earlier = refl }))
     (same_fault s activity position _)
 
-same_opened : (s : State) (activity : Activity) (frames : List Frame) (position : Pos) (g : Frame) (scope bytes : ℕ) → Same s (opened_in s TheSequencer activity frames position g scope bytes)
+same_opened : (s : State) (activity : Activity) (frames : List Frame) (position : Position) (g : Frame) (scope bytes : ℕ) → Same s (opened_in s TheSequencer activity frames position g scope bytes)
 unfolding opened_in with_activity
 same_opened s activity frames position g scope bytes =
     same_if s (is_some (area_with_scope s scope activity.areas)) _ _ (same_fault s activity position _)
@@ -108,7 +108,7 @@ same_asked s r e =
         else silently (record s { is_end_asked = true })))
         (sym e) (record { releases = refl; earlier = refl })
 
-same_registered : (code : Code) (s : State) (activity : Activity) (position : Pos) (r : ℕ) (o : Object) (after : State) → HasSame s after → Same s (registered code s TheSequencer activity position r o after)
+same_registered : (code : Code) (s : State) (activity : Activity) (position : Position) (r : ℕ) (o : Object) (after : State) → HasSame s after → Same s (registered code s TheSequencer activity position r o after)
 unfolding registered
 same_registered code s activity position r o after a =
     same_if s (not (is_init s.phase)) _ _ (same_fault s activity position _)
@@ -136,7 +136,7 @@ same_mapped : {A : Type 0} (s : State) (o : Option A) (f : A → Step) → ((a :
 same_mapped s None f h = same_none s
 same_mapped s (Some a) f h = same_some s (f a) (h a)
 
-same_applied : (code : Code) (s : State) → is_exec s.phase ≡ false → (activity : Activity) (below : List Frame) (position : Pos) (effect : Effect) → SameIf s (applied code s TheSequencer activity below position effect)
+same_applied : (code : Code) (s : State) → is_exec s.phase ≡ false → (activity : Activity) (below : List Frame) (position : Position) (effect : Effect) → SameIf s (applied code s TheSequencer activity below position effect)
 unfolding applied with_activity
 same_applied code s e activity below position (Goes f) = same_some s _ (record { releases = refl; earlier = refl })
 same_applied code s e activity below position (Prints f label value) = same_some s _ (record { releases = refl; earlier = refl })
@@ -174,12 +174,12 @@ same_frame code rows s e activity = go activity.frames
     go [] = same_none s
     go (f ∷ below) = act f below f.rest
 
-same_area : (s : State) (position : Pos) (scope bytes : ℕ) → Same s (area_opened s position scope bytes)
+same_area : (s : State) (position : Position) (scope bytes : ℕ) → Same s (area_opened s position scope bytes)
 unfolding area_opened
 same_area s position scope bytes =
     same_opening s s.activity position scope (innermost s.activity.areas) bytes _ (λ t a k. record { releases = k.releases; earlier = k.earlier })
 
-same_safelet : (code : Code) (s : State) (position : Pos) (class area : ℕ) → Same s (safelet_made code s position class area)
+same_safelet : (code : Code) (s : State) (position : Position) (class area : ℕ) → Same s (safelet_made code s position class area)
 unfolding safelet_made
 same_safelet code s position class area =
     same_allocating s s.activity position class area (new_slots code.program class) _ (λ t r k. record { releases = k.releases; earlier = k.earlier })

@@ -1,7 +1,7 @@
 -- What an operation does leaves each job with few frames.
 use Rattle.std.proofs.Common.{◌≡◌, ℕ, ◌+◌, ◌<◌, ◌≤◌, nat_lt, Bool, true, false, not, List, [], ◌∷◌, length, Option, Some, None, if◌then◌else◌, refl, arith}
 use Rattle.std.specs.Prelude.{is_some, option_map, slice_get, slice_set, codes, unwrap_or}
-use Rattle.scj_base.specs.declared.places.Pos.{Pos}
+use Rattle.scj_base.specs.declared.positions.Position.{Position}
 use Rattle.scj_base.specs.declared.values.Value.{Value}
 use Rattle.scj_base.specs.declared.values.Value.TheVariants.{At}
 use Rattle.scj_rules.specs.declared.views.Body.{Body}
@@ -26,7 +26,7 @@ use Rattle.run_sizes.proofs.DeepSteps.{FewAfter, FewFrames, few_active, few_afte
 
 -- ---- steps
 
-few_called : (code : Code) (s : State) (job : Job) (activity : Activity) (frames : List Frame) (position : Pos)
+few_called : (code : Code) (s : State) (job : Job) (activity : Activity) (frames : List Frame) (position : Position)
     (g : Frame) → FewFrames s → FewAfter (called code s job activity frames position g)
 unfolding called
 few_called code s job activity frames position g h =
@@ -38,7 +38,7 @@ few_called code s job activity frames position g h =
     (record activity { frames = record g { saved = Some activity.priority } ∷ frames; priority = ceiling }) h
     (one_more_frame frames (record g { saved = Some activity.priority }) e))))
 
-few_opened : (s : State) (job : Job) (activity : Activity) (frames : List Frame) (position : Pos) (g : Frame)
+few_opened : (s : State) (job : Job) (activity : Activity) (frames : List Frame) (position : Position) (g : Frame)
     (scope bytes : ℕ) → FewFrames s → FewAfter (opened_in s job activity frames position g scope bytes)
 unfolding opened_in
 few_opened s job activity frames position g scope bytes h =
@@ -94,7 +94,7 @@ few_asked s r h =
     (λ f. record { sequencer = h.sequencer; releases = h.releases }))
     (λ e. record { sequencer = h.sequencer; releases = h.releases })
 
-few_registered : (code : Code) (s : State) (job : Job) (activity : Activity) (position : Pos) (r : ℕ) (o : Object)
+few_registered : (code : Code) (s : State) (job : Job) (activity : Activity) (position : Position) (r : ℕ) (o : Object)
     (after : State) → FewFrames s → FewFrames after → FewAfter (registered code s job activity position r o after)
 unfolding registered
 few_registered code s job activity position r o after h k =
@@ -125,7 +125,7 @@ few_either true x y h k = h
 few_either false x y h k = k
 
 -- an effect of the highest frame of a job that has so many below it
-few_applied : (code : Code) (s : State) (job : Job) (activity : Activity) (below : List Frame) (position : Pos)
+few_applied : (code : Code) (s : State) (job : Job) (activity : Activity) (below : List Frame) (position : Position)
     (effect : Effect) → FewFrames s → length below < 64 → FewIf (applied code s job activity below position effect)
 unfolding applied
 few_applied code s job activity below position (Goes f) h few =
@@ -240,13 +240,13 @@ few_method code s r name h =
     few_bind (object_at s r) _ (λ o e.
     few_bind (body_named code.program o.class name) _ (λ body f. few_body code s r body h))
 
-few_area : (s : State) (position : Pos) (scope bytes : ℕ) → FewFrames s → FewAfter (area_opened s position scope bytes)
+few_area : (s : State) (position : Position) (scope bytes : ℕ) → FewFrames s → FewAfter (area_opened s position scope bytes)
 unfolding area_opened
 few_area s position scope bytes h =
     few_opening s TheSequencer s.activity position scope (innermost s.activity.areas) bytes _ h
     (λ t a k. record { sequencer = h.sequencer; releases = k.releases })
 
-few_safelet : (code : Code) (s : State) (position : Pos) (class area : ℕ) → FewFrames s →
+few_safelet : (code : Code) (s : State) (position : Position) (class area : ℕ) → FewFrames s →
     FewAfter (safelet_made code s position class area)
 unfolding safelet_made
 few_safelet code s position class area h =

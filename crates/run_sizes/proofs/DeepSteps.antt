@@ -2,7 +2,7 @@
 use Rattle.std.proofs.Common.{◌≡◌, ◌∙◌, ℕ, zero, suc, ◌<◌, ◌≤◌, nat_lt, Bool, true, false, not, List, [], ◌∷◌, ◌++◌, length, map, Option, Some, None, if◌then◌else◌, refl, ap, sym, subst, arith}
 use Rattle.std.specs.Prelude.{slice_get, slice_set}
 use Rattle.std.proofs.lemmas.Bool.Decides.{nat_tests}
-use Rattle.scj_base.specs.declared.places.Pos.{Pos}
+use Rattle.scj_base.specs.declared.positions.Position.{Position}
 use Rattle.scj_base.specs.declared.faults.RunFault.{RunFault}
 use Rattle.scj_base.specs.declared.values.Value.{Value}
 use Rattle.scj_model.specs.State.{Frame, Activity, Waits, Started, Ended, Dropped, Release, Job, TheSequencer, ReleaseAt, State, activity_in, changed, is_waiting, with_activity}
@@ -126,7 +126,7 @@ few_ended_at : (s : State) (n : ℕ) → FewFrames s →
 few_ended_at s n h =
     rows_changed (λ (r : Release). record r { status = Ended }) n s.releases h.releases (λ r. row_ended r)
 
-pub few_fault : (s : State) (job : Job) (activity : Activity) (position : Pos) (fault : RunFault) → FewFrames s →
+pub few_fault : (s : State) (job : Job) (activity : Activity) (position : Position) (fault : RunFault) → FewFrames s →
     FewAfter (fault_in s job activity position fault)
 unfolding fault_in
 few_fault s TheSequencer activity position fault h = record { sequencer = h.sequencer; releases = h.releases }
@@ -144,7 +144,7 @@ few_job_ended s (ReleaseAt n) activity value h few =
 pub few_after_close : (s : State) (a : Option ℕ) → FewFrames s → FewFrames (closed s a)
 few_after_close s a h = few_closed s a h
 
-pub few_opening : (s : State) (job : Job) (activity : Activity) (position : Pos) (scope : ℕ) (parent : Option ℕ)
+pub few_opening : (s : State) (job : Job) (activity : Activity) (position : Position) (scope : ℕ) (parent : Option ℕ)
     (bytes : ℕ) (next : State → ℕ → Step) → FewFrames s →
     ((t : State) (a : ℕ) → FewFrames t → FewAfter (next t a)) →
     FewAfter (opening s job activity position scope parent bytes next)
@@ -155,7 +155,7 @@ few_opening s job activity position scope parent bytes next h k =
     (record { sequencer = h.sequencer; releases = h.releases }))
     (λ e. few_fault s job activity position _ h)
 
-pub few_allocating : (s : State) (job : Job) (activity : Activity) (position : Pos) (class area : ℕ) (slots : List Value)
+pub few_allocating : (s : State) (job : Job) (activity : Activity) (position : Position) (class area : ℕ) (slots : List Value)
     (next : State → ℕ → Step) → FewFrames s → ((t : State) (r : ℕ) → FewFrames t → FewAfter (next t r)) →
     FewAfter (allocating s job activity position class area slots next)
 unfolding allocating

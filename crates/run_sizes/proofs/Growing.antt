@@ -1,7 +1,7 @@
 -- How much the steps make of which operations are made: at most one object or one area.
 use Rattle.std.proofs.Common.{◌≡◌, ℕ, ◌+◌, ◌≤◌, nat_lt, Bool, true, false, not, List, [], ◌∷◌, length, Option, Some, None, if◌then◌else◌, refl, arith, length-append, length-set}
 use Rattle.std.specs.Prelude.{slice_get, slice_set, is_some}
-use Rattle.scj_base.specs.declared.places.Pos.{Pos}
+use Rattle.scj_base.specs.declared.positions.Position.{Position}
 use Rattle.scj_base.specs.declared.faults.RunFault.{RunFault}
 use Rattle.scj_base.specs.declared.values.Value.{Value}
 use Rattle.scj_model.specs.Code.{Code}
@@ -73,7 +73,7 @@ grows_closed_all s [] = unchanged s s refl refl
 grows_closed_all s (f ∷ fs) =
     then_grows 0 s (closed s f.opened) _ (grows_closed s f.opened) (grows_closed_all (closed s f.opened) fs)
 
-pub grows_fault : (s : State) (job : Job) (activity : Activity) (position : Pos) (fault : RunFault) →
+pub grows_fault : (s : State) (job : Job) (activity : Activity) (position : Position) (fault : RunFault) →
     GrowsTo 0 s (fault_in s job activity position fault)
 unfolding fault_in
 grows_fault s TheSequencer activity position fault = unchanged s _ refl refl
@@ -81,7 +81,7 @@ grows_fault s (ReleaseAt n) activity position fault =
     grows_then 0 s (closed_all s activity.frames) _ (grows_closed_all s activity.frames)
     (unchanged (closed_all s activity.frames) _ refl refl)
 
-pub faulted : (s : State) (job : Job) (activity : Activity) (position : Pos) (fault : RunFault) →
+pub faulted : (s : State) (job : Job) (activity : Activity) (position : Position) (fault : RunFault) →
     GrowsTo 1 s (fault_in s job activity position fault)
 faulted s job activity position fault = by_one s _ (grows_fault s job activity position fault)
 
@@ -93,7 +93,7 @@ grows_ended s (ReleaseAt n) activity value = unchanged s _ refl refl
 
 -- ---- effects
 
-pub grows_called : (code : Code) (s : State) (job : Job) (activity : Activity) (frames : List Frame) (position : Pos)
+pub grows_called : (code : Code) (s : State) (job : Job) (activity : Activity) (frames : List Frame) (position : Position)
     (g : Frame) → GrowsTo 0 s (called code s job activity frames position g)
 unfolding called
 grows_called code s job activity frames position g =
@@ -120,7 +120,7 @@ one_object s class area slots =
       areas = omega arith;
     }
 
-pub grows_opening : (s : State) (job : Job) (activity : Activity) (position : Pos) (scope : ℕ) (parent : Option ℕ) (bytes : ℕ)
+pub grows_opening : (s : State) (job : Job) (activity : Activity) (position : Position) (scope : ℕ) (parent : Option ℕ) (bytes : ℕ)
     (next : State → ℕ → Step) → ((t : State) (a : ℕ) → GrowsTo 0 t (next t a)) →
     GrowsTo 1 s (opening s job activity position scope parent bytes next)
 unfolding opening
@@ -130,7 +130,7 @@ grows_opening s job activity position scope parent bytes next h =
     (h (with_area s scope parent bytes) (length s.areas)))
     (faulted s job activity position _)
 
-pub grows_allocating : (s : State) (job : Job) (activity : Activity) (position : Pos) (class area : ℕ) (slots : List Value)
+pub grows_allocating : (s : State) (job : Job) (activity : Activity) (position : Position) (class area : ℕ) (slots : List Value)
     (next : State → ℕ → Step) → ((t : State) (r : ℕ) → GrowsTo 0 t (next t r)) →
     GrowsTo 1 s (allocating s job activity position class area slots next)
 unfolding allocating
@@ -140,7 +140,7 @@ grows_allocating s job activity position class area slots next h =
     (h (with_object s class area slots) (length s.objects)))
     (faulted s job activity position _)
 
-pub grows_opened : (s : State) (job : Job) (activity : Activity) (frames : List Frame) (position : Pos) (g : Frame)
+pub grows_opened : (s : State) (job : Job) (activity : Activity) (frames : List Frame) (position : Position) (g : Frame)
     (scope bytes : ℕ) → GrowsTo 1 s (opened_in s job activity frames position g scope bytes)
 unfolding opened_in
 grows_opened s job activity frames position g scope bytes =
@@ -183,7 +183,7 @@ grows_asked s r =
     (grows_if 0 s (is_exec s.phase) _ _ (unchanged s _ refl refl) (unchanged s _ refl refl))
     (unchanged s _ refl refl)
 
-pub grows_registered : (code : Code) (s : State) (job : Job) (activity : Activity) (position : Pos) (r : ℕ) (o : Object)
+pub grows_registered : (code : Code) (s : State) (job : Job) (activity : Activity) (position : Position) (r : ℕ) (o : Object)
     (after : State) → Grows 0 s after → GrowsTo 0 s (registered code s job activity position r o after)
 unfolding registered
 grows_registered code s job activity position r o after g =

@@ -1,7 +1,7 @@
 -- An operation of a job makes at most one object and opens at most one area.
 use Rattle.std.proofs.Common.{ℕ, Bool, true, false, List, [], ◌∷◌, Option, Some, None, if◌then◌else◌, refl, subst, ap}
 use Rattle.std.specs.Prelude.{option_map, slice_get, slice_set, unwrap_or, codes}
-use Rattle.scj_base.specs.declared.places.Pos.{Pos}
+use Rattle.scj_base.specs.declared.positions.Position.{Position}
 use Rattle.scj_rules.specs.declared.views.Body.{Body}
 use Rattle.scj_rules.specs.Words.{◌>>=◌}
 use Rattle.scj_rules.specs.ScopeRules.{immortal_scope, defined_by_chain}
@@ -47,7 +47,7 @@ pub either_grows : (more : ℕ) (s : State) (b : Bool) (x y : Option Step) → G
 either_grows more s true x y g h = g
 either_grows more s false x y g h = h
 
-grows_applied : (code : Code) (s : State) (job : Job) (activity : Activity) (below : List Frame) (position : Pos)
+grows_applied : (code : Code) (s : State) (job : Job) (activity : Activity) (below : List Frame) (position : Position)
     (effect : Effect) → GrowsIf 1 s (applied code s job activity below position effect)
 unfolding applied
 grows_applied code s job activity below position (Goes f) = some_grows 1 s _ (by_one s _ (grows_active s job _))
@@ -160,13 +160,13 @@ grows_method code s r name =
     bind_grows 1 s (object_at s r) _ (λ o.
     bind_grows 1 s (body_named code.program o.class name) _ (λ body. grows_body code s r body))
 
-grows_area : (s : State) (position : Pos) (scope bytes : ℕ) → GrowsTo 1 s (area_opened s position scope bytes)
+grows_area : (s : State) (position : Position) (scope bytes : ℕ) → GrowsTo 1 s (area_opened s position scope bytes)
 unfolding area_opened
 grows_area s position scope bytes =
     grows_opening s TheSequencer s.activity position scope (innermost s.activity.areas) bytes _
     (λ t a. unchanged t _ refl refl)
 
-grows_safelet : (code : Code) (s : State) (position : Pos) (class area : ℕ) →
+grows_safelet : (code : Code) (s : State) (position : Position) (class area : ℕ) →
     GrowsTo 1 s (safelet_made code s position class area)
 unfolding safelet_made
 grows_safelet code s position class area =

@@ -2,7 +2,7 @@
 -- frame may stand there as it was before the operation, or as the operation left it.
 use Rattle.std.specs.Prelude.{Option, Some, None, if◌then◌else◌, nat_lt, option_map}
 use Rattle.std.proofs.Common.{◌≡◌, ℕ, List, [], ◌∷◌, refl, ap}
-use Rattle.scj_base.specs.declared.places.Pos.{Pos}
+use Rattle.scj_base.specs.declared.positions.Position.{Position}
 use Rattle.scj_base.specs.declared.faults.RunFault.{RunFault}
 use Rattle.scj_base.specs.declared.faults.RunFault.TheVariants.{MemoryFull, StoreFull, NotInitializing, TooManyHandlers, DepthFull, CeilingViolation, ScopedCycle}
 use Rattle.scj_model.specs.declared.events.Event.TheVariants.{Fault, End}
@@ -13,7 +13,7 @@ use Rattle.scj_model.specs.Steps.{Step, allocating, closed_all, fault_in, of_rel
 use Rattle.scj_model.specs.Effects.{Effect, Goes, Prints, Makes, Stores, StoresStatic, SetsHidden, SetsCeiling, Calls, Opens, Leaves, AsksRegistration, AsksRelease, AsksTermination, Faults, Stuck}
 use Rattle.scj_model.specs.Apply.{applied, called, ceiling_entered, frame_left, is_full, opened_in, registered, tell_priority, with_frame}
 
-module _ (code : Code) (s : State) (job : Job) (activity : Activity) (below : List Frame) (position : Pos) where
+module _ (code : Code) (s : State) (job : Job) (activity : Activity) (below : List Frame) (position : Position) where
   abbrev pub topped : Frame → Activity
   topped f = record activity { frames = f ∷ below }
 

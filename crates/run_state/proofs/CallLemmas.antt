@@ -3,7 +3,7 @@ use Rattle.std.specs.Prelude.{Bool, true, false, not, Option, Some, None, is_som
 use Rattle.std.proofs.Common.{◌≡◌, ◌∙◌, ℕ, suc, List, ◌∷◌, ◌++◌, length, refl, ap, sym, arith}
 use Rattle.std.proofs.lemmas.Bool.{le-ltb, lt-ltb, ltb-false, ltb-true}
 use Rattle.std.proofs.lemmas.List.{length-map}
-use Rattle.scj_base.specs.declared.places.Pos.{Pos}
+use Rattle.scj_base.specs.declared.positions.Position.{Position}
 use Rattle.scj_base.specs.declared.faults.RunFault.TheVariants.{ScopedCycle, CeilingViolation, DepthFull}
 use Rattle.scj_model.specs.declared.events.Event.{Event}
 use Rattle.scj_model.specs.Code.{code_of}
@@ -114,7 +114,7 @@ moved_seen code g before after frames areas area h e o =
 
 -- ---- calls
 
-module _ (code : Listing) (s : State) (job : Job) (activity : Activity) (frames : List Frame) (position : Pos)
+module _ (code : Listing) (s : State) (job : Job) (activity : Activity) (frames : List Frame) (position : Position)
     (g : Frame) where
   pub called_full : is_full frames ≡ true →
       called (code_of code.program) s job activity frames position g ≡ fault_in s job activity position DepthFull

@@ -3,7 +3,7 @@ use Rattle.std.specs.Prelude.{Option, Some, None, slice_get}
 use Rattle.std.proofs.Common.{◌≡◌, ◌∙◌, ◌<◌, ℕ, zero, suc, List, [], ◌∷◌, ◌++◌, length, reverse, take, refl, ap, sym, subst, arith}
 use Rattle.std.proofs.lemmas.List.{append-nil, append_assoc}
 use Rattle.scj_base.specs.declared.faults.RunFault.{RunFault}
-use Rattle.scj_base.specs.declared.places.Pos.{Pos}
+use Rattle.scj_base.specs.declared.positions.Position.{Position}
 use Rattle.scj_base.specs.declared.values.Value.{Value}
 use Rattle.scj_model.specs.declared.events.Event.{Event}
 use Rattle.scj_model.specs.declared.events.Event.TheVariants.{Fault, End}
@@ -84,7 +84,7 @@ module _ (code : Listing) (st : RunState) (n : ℕ) (rs : StoredReleases) (first
     told = t;
   }
 
-  pub release_at_fault : (m : Contents) (activity : StoredActivity) (position : Pos) (fault : RunFault)
+  pub release_at_fault : (m : Contents) (activity : StoredActivity) (position : Position) (fault : RunFault)
       (middle : List Event) →
       ((s : State) → closed_all (with_memory s st.memory) (frames_of code activity.frames) ≡ with_memory s m) →
       rs ≡ status_set n Ended st.releases → middle ≡ first ++ Fault st.unit fault position ∷ [] →

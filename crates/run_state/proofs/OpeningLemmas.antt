@@ -2,7 +2,7 @@
 use Rattle.std.specs.Prelude.{Option, Some, None}
 use Rattle.std.proofs.Common.{◌∙◌, ℕ, List, ◌∷◌, refl, ap, sym}
 use Rattle.scj_base.specs.declared.faults.RunFault.TheVariants.{StoreFull}
-use Rattle.scj_base.specs.declared.places.Pos.{Pos}
+use Rattle.scj_base.specs.declared.positions.Position.{Position}
 use Rattle.scj_model.specs.declared.events.Event.{Event}
 use Rattle.op_list.specs.Listed.{Listing}
 use Rattle.scj_model.specs.State.{Frame, Activity, Job, State, with_activity}
@@ -12,7 +12,7 @@ use Rattle.run_state.specs.Calls.{call_opened}
 use Rattle.run_state.specs.Steps.{GoesOn, IsStep}
 use Rattle.run_state.proofs.StepLemmas.{same_step}
 
-module _ (code : Listing) (s : State) (job : Job) (activity : Activity) (frames : List Frame) (position : Pos) (g : Frame)
+module _ (code : Listing) (s : State) (job : Job) (activity : Activity) (frames : List Frame) (position : Position) (g : Frame)
     (scope : ℕ) (parent : Option ℕ) (bytes : ℕ) (after : State) (st : RunState) (first last : List Event) where
   abbrev moved : State → ℕ → Step
   moved s area = silently (with_activity s job (record activity {

@@ -2,7 +2,7 @@
 use Rattle.std.specs.Prelude.{true, false, Option, Some, None}
 use Rattle.std.proofs.Common.{◌≡◌, ◌∙◌, ℕ, List, length, refl, ap, sym}
 use Rattle.scj_base.specs.declared.faults.RunFault.TheVariants.{MemoryFull, StoreFull}
-use Rattle.scj_base.specs.declared.places.Pos.{Pos}
+use Rattle.scj_base.specs.declared.positions.Position.{Position}
 use Rattle.scj_base.specs.declared.values.Value.{Value}
 use Rattle.scj_model.specs.State.{Activity, Job, State}
 use Rattle.scj_model.specs.Memory.{has_room, has_store_for, with_area, with_object}
@@ -12,7 +12,7 @@ use Rattle.run_state.specs.Steps.{GoesOn}
 some_same : (m n : ℕ) → Some m ≡ Some n → m ≡ n
 some_same m n e = cc
 
-module _ (s : State) (job : Job) (activity : Activity) (position : Pos) where
+module _ (s : State) (job : Job) (activity : Activity) (position : Position) where
   pub store_full : (scope : ℕ) (parent : Option ℕ) (bytes : ℕ) → has_store_for s bytes ≡ false →
       GoesOn s (opening s job activity position scope parent bytes) (fault_in s job activity position StoreFull) None s
   unfolding opening

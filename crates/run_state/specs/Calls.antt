@@ -1,6 +1,6 @@
 -- Parts of the definitions of calls and of leaving, each for what one function of the code does.
 use Rattle.std.specs.Prelude.{ℕ, List, [], ◌∷◌, Option, Some, None}
-use Rattle.scj_base.specs.declared.places.Pos.{Pos}
+use Rattle.scj_base.specs.declared.positions.Position.{Position}
 use Rattle.scj_base.specs.declared.values.Value.{Value}
 use Rattle.scj_base.specs.declared.values.Value.TheVariants.{At}
 use Rattle.scj_base.specs.declared.faults.RunFault.TheVariants.{MemoryFull}
@@ -19,7 +19,7 @@ call_entered s job activity frames g ceiling =
     (tell_priority s job activity.priority ceiling)
 
 -- a call in a new area, where neither scope nor depth forbids it
-unfoldable pub call_opened : State → Job → Activity → List Frame → Pos → Frame → ℕ → Option ℕ → ℕ → Step
+unfoldable pub call_opened : State → Job → Activity → List Frame → Position → Frame → ℕ → Option ℕ → ℕ → Step
 call_opened s job activity frames position g scope parent bytes =
     opening s job activity position scope parent bytes (λ s area.
     silently (with_activity s job (record activity {
@@ -36,7 +36,7 @@ settled s job after value below =
     ]
 
 -- what was made in the area of the highest frame is its last operand; where nothing was made the area is full
-unfoldable pub made_or_full : State → Job → Activity → Frame → List Frame → Pos → Option ℕ → Step
+unfoldable pub made_or_full : State → Job → Activity → Frame → List Frame → Position → Option ℕ → Step
 made_or_full s job activity f below position made =
     elim made [
       | Some r ↦ silently

@@ -15,7 +15,7 @@ use crate::states::{Acting, Job, RunState};
 use crate::told::{tell, tell_end, tell_two};
 use job_frames::{Activity, Frame};
 use region_heap::RegionHeap;
-use scj_base::{AreaId, Memory, Pos, RunFault, Value};
+use scj_base::{AreaId, Memory, Position, RunFault, Value};
 use scj_model::{Event, Phase, SeqOp};
 
 /// Closes an area that was opened, if there is one.
@@ -63,7 +63,7 @@ fn close_all(memory: &mut RegionHeap, frames: &[Frame])
 /// The sequencer meets a fault, and the run is over.
 pub fn halted(
     state: &mut RunState,
-    position: Pos,
+    position: Position,
     fault: RunFault,
     told: &mut Vec<Event>,
 ) -> Result<(), Memory>
@@ -101,7 +101,7 @@ fn release_broken(
     state: &mut RunState,
     release: usize,
     activity: &Activity,
-    position: Pos,
+    position: Position,
     fault: RunFault,
     told: &mut Vec<Event>,
 ) -> Result<(), Memory>

@@ -1,7 +1,7 @@
 //! Areas that are opened and objects that are made, where there is room for them.
 
 ghost use Rattle.std.specs.Prelude.{◌≡◌, ◌^◌, ◌<◌, None, length, true};
-ghost use Rattle.scj_base.specs.declared.places.Pos.{Pos as PosOfRun};
+ghost use Rattle.scj_base.specs.declared.positions.Position.{Position};
 ghost use Rattle.scj_base.specs.declared.faults.RunFault.TheVariants.{MemoryFull, StoreFull};
 ghost use Rattle.op_list.specs.Listed.{Listing};
 ghost use Rattle.scj_model.specs.State.{Activity as ActivityOfRun, Job as JobOfRun};
@@ -20,7 +20,7 @@ use value_operators::default_of;
 pub fn open_area(state: &mut RunState, area: NewArea) -> Option<AreaId>
     requires numbers { HasNumbers state.old.memory }
     requires few { open_count state.old.memory < 1794 }
-    ensures opened { (code : Listing) (job : JobOfRun) (activity : ActivityOfRun) (position : PosOfRun) →
+    ensures opened { (code : Listing) (job : JobOfRun) (activity : ActivityOfRun) (position : Position) →
         GoesOn (state_of code state.old)
         (opening (state_of code state.old) job activity position area.scope area.parent area.bytes)
         (fault_in (state_of code state.old) job activity position StoreFull) result (state_of code state.new) }
@@ -36,7 +36,7 @@ pub fn open_area(state: &mut RunState, area: NewArea) -> Option<AreaId>
 pub fn make_object(state: &mut RunState, area: AreaId, object: &NewObject) -> Option<Ref>
     requires open { is_open_area state.old.memory area ≡ true }
     requires numbers { length state.old.memory.objects < 2 ^ 31 }
-    ensures made { (code : Listing) (job : JobOfRun) (activity : ActivityOfRun) (position : PosOfRun) →
+    ensures made { (code : Listing) (job : JobOfRun) (activity : ActivityOfRun) (position : Position) →
         GoesOn (state_of code state.old)
         (allocating (state_of code state.old) job activity position object.now.class area object.now.slots.items)
         (fault_in (state_of code state.old) job activity position MemoryFull) result (state_of code state.new) }
@@ -53,7 +53,7 @@ pub fn make_object(state: &mut RunState, area: AreaId, object: &NewObject) -> Op
 pub fn make_array(state: &mut RunState, area: AreaId, array: NewArray) -> Option<Ref>
     requires open { is_open_area state.old.memory area ≡ true }
     requires numbers { length state.old.memory.objects < 2 ^ 31 }
-    ensures made { (code : Listing) (job : JobOfRun) (activity : ActivityOfRun) (position : PosOfRun) →
+    ensures made { (code : Listing) (job : JobOfRun) (activity : ActivityOfRun) (position : Position) →
         GoesOn (state_of code state.old)
         (allocating (state_of code state.old) job activity position array.class area (new_elements array.kind array.count))
         (fault_in (state_of code state.old) job activity position MemoryFull) result (state_of code state.new) }

@@ -3,7 +3,7 @@
 use job_frames::Activity;
 use region_heap::RegionHeap;
 use run_releases::Releases;
-use scj_base::{AreaId, ClassId, Pos, Ref, ScopeId, Value};
+use scj_base::{AreaId, ClassId, Position, Ref, ScopeId, Value};
 use scj_model::{HandlerRow, Phase, SeqOp};
 use scj_rules::SlotKind;
 
@@ -31,7 +31,7 @@ pub struct Acting {
     /// Who acts.
     pub job: Job,
     /// Where the operation stands, which a fault tells.
-    pub position: Pos,
+    pub position: Position,
 }
 
 /// An area that is to be opened.

@@ -5,7 +5,7 @@ use Rattle.std.proofs.lemmas.List.{drop_all, drop_more}
 use Rattle.scj_base.specs.declared.findings.Found.{Found}
 use Rattle.scj_base.specs.declared.findings.Rule.{Rule}
 use Rattle.scj_base.specs.declared.findings.Rule.TheVariants.{E2}
-use Rattle.scj_base.specs.declared.places.Pos.{Pos}
+use Rattle.scj_base.specs.declared.positions.Position.{Position}
 use Rattle.scj_tree.specs.declared.nodes.Node.TheVariants.{Call}
 use Rattle.scj_rules.specs.declared.views.Declared.{Declared}
 use Rattle.scj_rules.specs.declared.typing.Scope.{Scope}
@@ -22,7 +22,7 @@ use Rattle.program_facts.specs.Told.{declared, types, scopes}
 use Rattle.runs_in_check.specs.Phase.{parameters_of, seen_scope, argument_breaks, misfits_from, e3_of, entry_breaks}
 
 -- an assignment of a value that fits breaks nothing
-pub right_assign : (test : Bool) (o : Option Rule) (position : Pos) → false ≡ test →
+pub right_assign : (test : Bool) (o : Option Rule) (position : Position) → false ≡ test →
     found_at o (λ rule. broken test rule position) ≡ []
 right_assign test None position h = refl
 right_assign test (Some rule) position h = rw (← h) refl
@@ -74,7 +74,7 @@ unfolding e3_of e3_of_call e3_of_constructor parameters_of seen_scope
 e3_over_arguments at (Method m object) ids = refl
 e3_over_arguments at (Constructor class object) ids = refl
 
-module _ (at : At) (position : Pos) (name : List ℕ) (object : Option ℕ) where
+module _ (at : At) (position : Position) (name : List ℕ) (object : Option ℕ) where
   abbrev broken_there : List ℕ → List Found
   broken_there ids = use_breaks (declared at) (types at) (scopes at) at.id (Call position name object ids)
 

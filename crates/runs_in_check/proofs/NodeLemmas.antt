@@ -2,7 +2,7 @@
 use Rattle.std.proofs.Common.{◌≡◌, ℕ, arith, not, Bool, true, false, List, [], ◌++◌, length, Option, Some, None, option_and_then, option_map, if◌then◌else◌, slice_get, append-nil, refl, ap, ◌∙◌}
 use Rattle.std.proofs.lemmas.Option.{slice_get_within}
 use Rattle.scj_base.specs.declared.findings.Found.{Found}
-use Rattle.scj_base.specs.declared.places.Pos.{Pos}
+use Rattle.scj_base.specs.declared.positions.Position.{Position}
 use Rattle.scj_tree.specs.declared.nodes.Node.{Node}
 use Rattle.scj_tree.specs.declared.nodes.Node.TheVariants.{SuperCall, SimpleName, This}
 use Rattle.scj_tree.specs.Forest.{Forest}
@@ -65,7 +65,7 @@ plain_meaning forest id (a_field f) h =
 plain_meaning forest id _ h = refl
 
 -- a name whose type is told to be none of references has no scope; it breaks no rule, since its type is told
-plain_name : (forest : Forest) (types : List (Option Ty)) (id : ℕ) (position : Pos) (name : List ℕ) →
+plain_name : (forest : Forest) (types : List (Option Ty)) (id : ℕ) (position : Position) (name : List ℕ) →
     slice_get forest.nodes id ≡ Some (SimpleName position name) → types ≡ types_in (declarations_of forest)
     → true ≡ is_plain (lookup None types id)
     → scope_of_meaning (declarations_of forest) id (meaning (declarations_of forest) id name) ≡ None

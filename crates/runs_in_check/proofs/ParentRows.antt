@@ -4,7 +4,7 @@ use Rattle.std.specs.List.{position_from}
 use Rattle.std.proofs.lemmas.Grind.{common_steps}
 use Rattle.std.proofs.lemmas.Bool.Decides.{nat_tests}
 use Rattle.std.proofs.lemmas.Option.{slice_get_within}
-use Rattle.scj_base.specs.declared.places.Pos.{Pos}
+use Rattle.scj_base.specs.declared.positions.Position.{Position}
 use Rattle.scj_tree.specs.declared.nodes.Node.TheVariants.{Empty}
 use Rattle.std.proofs.lemmas.Iterator.Adapters.{position_from-zero}
 use Rattle.scj_tree.specs.declared.nodes.Node.{Node}
@@ -88,7 +88,7 @@ without_parents nodes k rows e l =
     none_there (suc k) (suc id) = none_there k id
 
 -- any node
-first_position : Pos
+first_position : Position
 first_position = record { file = 0; line = 0; col = 0 }
 
 module _ (forest : Forest) (whole : IsForest forest) (rows : List (Option ℕ)) (h : AreParents forest.nodes 0 rows) where

@@ -3,7 +3,7 @@ use Rattle.std.proofs.Common.{◌≡◌, ◌<◌, ℕ, List, [], ◌∷◌, ◌+
 use Rattle.std.proofs.lemmas.Option.{slice_get_within}
 use Rattle.scj_base.specs.declared.findings.Found.{Found}
 use Rattle.scj_base.specs.declared.findings.Rule.TheVariants.{E1}
-use Rattle.scj_base.specs.declared.places.Pos.{Pos}
+use Rattle.scj_base.specs.declared.positions.Position.{Position}
 use Rattle.scj_tree.specs.declared.nodes.Node.{Node}
 use Rattle.scj_tree.specs.declared.nodes.Node.TheVariants.{SuperCall, LocalWithValue, Assign, Return, Cast, Call, New}
 use Rattle.scj_tree.specs.Forest.{Forest, IsForest, AllBelow}
@@ -56,7 +56,7 @@ module _ (p : Declarations) (types : Types) (id : ℕ) (s u : Scopes) (same : (c
       misfits_call p s id object ≡ misfits_call p u id object
   refused object ids b = λ i f. holds (runs_in p f.on f.method) (misfits_runs_in p id (receiver object ids b i))
 
-  call : (position : Pos) (name : List ℕ) (object : Option ℕ) (ids : List ℕ) → AllBelow id (optional object ++ ids)
+  call : (position : Position) (name : List ℕ) (object : Option ℕ) (ids : List ℕ) → AllBelow id (optional object ++ ids)
       → use_breaks p types s id (Call position name object ids) ≡ use_breaks p types u id (Call position name object ids)
   unfolding AllBelow use_breaks e1 e2 e3 e4_and_e5 e6 e7 e8 e9 e10
   call position name object (o ∷ r ∷ []) b =

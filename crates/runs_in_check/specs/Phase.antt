@@ -2,7 +2,7 @@
 use Rattle.std.specs.Prelude.{ℕ, Bool, true, false, not, List, [], ◌∷◌, ◌++◌, slice_get, Option}
 use Rattle.scj_base.specs.declared.findings.Found.{Found}
 use Rattle.scj_base.specs.declared.findings.Rule.TheVariants.{E3, E7, E8}
-use Rattle.scj_base.specs.declared.places.Pos.{Pos}
+use Rattle.scj_base.specs.declared.positions.Position.{Position}
 use Rattle.scj_tree.specs.Forest.{Forest}
 use Rattle.scj_tree.specs.declared.kinds.NodeKind.{NodeKind}
 use Rattle.scj_tree.specs.declared.kinds.NodeKind.TheVariants.{Class, Field, Method as a_method, Parameter, Local, SuperCall, LocalWithValue, Assign, Return, Cast, Parenthesized, SimpleName, FieldAccess, Call, Element, New, NewArray, Null, This}
@@ -91,7 +91,7 @@ e3_of at (Method m object) arguments =
 e3_of at (Constructor class object) arguments = e3_of_constructor (declared at) (scopes at) object arguments class
 
 -- E7 and E8 of a call of the framework's method of a number
-unfoldable pub entry_breaks : At → Pos → ℕ → List ℕ → List Found
+unfoldable pub entry_breaks : At → Position → ℕ → List ℕ → List Found
 entry_breaks at position number (o ∷ r ∷ []) = broken (enters_wrong (declared at) (types at) at.id number r) E7 position
     ++ (broken (executes_wrong (declared at) (types at) (scopes at) number o r) E8 position ++ [])
 entry_breaks at position number _ = []

@@ -16,7 +16,7 @@ use method_rows::{MethodRef, builtin};
 use node_views::position_at;
 use program_facts::{At, Facts};
 use scj_base::ids::{MANAGED_MEMORY_ENTER_PRIVATE_MEMORY, MANAGED_MEMORY_EXECUTE_IN_AREA_OF};
-use scj_base::{ClassId, Found, Memory, MethodId, Name, NodeId, Pos, Rule, ScopeId};
+use scj_base::{ClassId, Found, Memory, MethodId, Name, NodeId, Position, Rule, ScopeId};
 use scj_builtins::FRAMEWORK_CLASS_COUNT;
 use scj_rules::{Declared, Scope, Ty, report_if};
 use scope_tree::scopes::{defined_by_chain, parent_scope};
@@ -134,7 +134,7 @@ fn misfits_call(at: &At<'_>, object: &Option<NodeId>, method: &MethodRef) -> boo
 fn note_user_method(
     found: &mut Vec<Found>,
     at: &At<'_>,
-    position: Pos,
+    position: Position,
     object: &Option<NodeId>,
     arguments: &[NodeId],
     method: &MethodRef,
@@ -225,7 +225,7 @@ fn misfits_execute(facts: &Facts<'_>, area: &Option<Scope>, t: &Option<Ty>) -> b
 fn note_entry(
     found: &mut Vec<Found>,
     at: &At<'_>,
-    position: Pos,
+    position: Position,
     number: MethodId,
     arguments: &[NodeId],
 ) -> Result<(), Memory>
@@ -272,7 +272,7 @@ pub fn called_builtin(at: &At<'_>, name: &Name, object: &Option<NodeId>) -> Opti
 pub fn note_call(
     found: &mut Vec<Found>,
     at: &At<'_>,
-    position: Pos,
+    position: Position,
     name: &Name,
     object: &Option<NodeId>,
     arguments: &[NodeId],

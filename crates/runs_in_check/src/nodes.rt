@@ -17,7 +17,7 @@ use crate::guards::Guards;
 use crate::scopes::{is_other, misfit_scope, scope_in_class, scope_of_new};
 use crate::stores::is_guarded_store;
 use program_facts::{At, Facts, NameMeaning};
-use scj_base::{ClassId, Found, Memory, Name, NodeId, Pos, Rule, ScopeId};
+use scj_base::{ClassId, Found, Memory, Name, NodeId, Position, Rule, ScopeId};
 use scj_rules::{ClassScope, Scope, Ty, report_if};
 use scj_tree::Node;
 use scope_tree::scopes::{class_scope, is_outer};
@@ -39,7 +39,7 @@ fn lies_elsewhere(facts: &Facts<'_>, id: NodeId, class: ClassId) -> bool
 pub fn note_new(
     found: &mut Vec<Found>,
     at: &At<'_>,
-    position: Pos,
+    position: Position,
     name: &Name,
     arguments: &[NodeId],
 ) -> Result<Option<Scope>, Memory>
@@ -116,7 +116,7 @@ pub fn note_assign(
     found: &mut Vec<Found>,
     at: &At<'_>,
     guards: &Guards,
-    position: Pos,
+    position: Position,
     target: NodeId,
     value: NodeId,
 ) -> Result<(), Memory>
@@ -178,7 +178,7 @@ fn lies_outside(facts: &Facts<'_>, operand: &Option<Scope>, class: ClassId) -> b
 pub fn note_cast(
     found: &mut Vec<Found>,
     at: &At<'_>,
-    position: Pos,
+    position: Position,
     name: &Name,
     operand: NodeId,
 ) -> Result<Option<Scope>, Memory>

@@ -1,7 +1,7 @@
 -- Reading makes few nodes: for each lexeme that it takes three at most.
 use Rattle.std.specs.Prelude.{Bool, List, None, Option, Some, [], suc, length, ℕ, ◌*◌, ◌+◌, ◌∷◌, ◌≤◌}
 use Rattle.std.proofs.Common.{arith, length-append}
-use Rattle.scj_base.specs.declared.places.Pos.{Pos}
+use Rattle.scj_base.specs.declared.positions.Position.{Position}
 use Rattle.scj_tree.specs.declared.nodes.Node.{Node}
 use Rattle.scj_tree.specs.declared.readings.FlagSet.{FlagSet}
 use Rattle.scj_tree.specs.declared.readings.PostKind.{PostKind}
@@ -136,7 +136,7 @@ mutual
   unary1_few (cast h d) = made _ (record { is = omega (arith, (unary1_few d).is) })
   unary1_few (post_unary d) = post_few d
 
-  post_few : {minimum : Bool} {kind : PostKind} {p : Pos} {N N1 : List Node} {i o : List Lexeme} {id : ℕ} →
+  post_few : {minimum : Bool} {kind : PostKind} {p : Position} {N N1 : List Node} {i o : List Lexeme} {id : ℕ} →
       PostRead minimum kind p N i N1 o id → Few 0 N i N1 o
   post_few simple_name = made _ (record { is = omega arith })
   post_few (simple_call d) = made _ (record { is = omega (arith, (arguments_few d).is) })

@@ -3,7 +3,7 @@ use Rattle.std.specs.Prelude.{◌≡◌, ℕ, List, [], ◌∷◌, Some, None, u
 use Rattle.std.proofs.Common.{arith, refl}
 use Rattle.scj_base.specs.Lex.{Lex}
 use Rattle.scj_base.specs.declared.lexemes.Token.{Token}
-use Rattle.scj_base.specs.declared.places.Pos.{Pos}
+use Rattle.scj_base.specs.declared.positions.Position.{Position}
 use Rattle.scj_tree.specs.declared.nodes.Node.{Node}
 use Rattle.scj_tree.specs.Counts.{times}
 use Rattle.scj_tree.specs.Files.{FileRead}
@@ -99,7 +99,7 @@ gate_reads =
       files_read = next_file base_file (next_file gate_file no_file);
     }
 
-abbrev at : ℕ → ℕ → ℕ → Pos
+abbrev at : ℕ → ℕ → ℕ → Position
 at file line col = record { file = file; line = line; col = col }
 
 gate_is_forest : IsForest ceiling

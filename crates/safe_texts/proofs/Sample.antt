@@ -1,6 +1,6 @@
 -- The program of the sample text is accepted: its nodes are a forest, the text is read as it, and it breaks no rule.
 use Rattle.std.proofs.Common.{arith, [], ◌∷◌, refl, Some, None, codes, ℕ}
-use Rattle.scj_base.specs.declared.places.Pos.{Pos}
+use Rattle.scj_base.specs.declared.positions.Position.{Position}
 use Rattle.scj_tree.specs.declared.nodes.Node.TheVariants.{Class}
 use Rattle.scj_tree.specs.Counts.{times}
 use Rattle.scj_tree.specs.Forest.{IsForest, is_class, all_children, AllClasses}
@@ -11,7 +11,7 @@ use Rattle.scj_check.specs.Samples.{arithmetic_text}
 use Rattle.scj_check.proofs.SampleLaws.{sample_reads}
 use Rattle.accepted_laws.specs.Programs.{IsAcceptedProgram}
 
-abbrev at : ℕ → ℕ → Pos
+abbrev at : ℕ → ℕ → Position
 at line col = record { file = 0; line = line; col = col }
 
 sample_is_forest : IsForest one_safelet

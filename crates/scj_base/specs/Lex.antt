@@ -1,25 +1,25 @@
 -- The tokens of a source text, and the first place at which it breaks a rule of the lexemes.
 use Rattle.std.specs.Prelude.{ℕ, ◌+◌, List, [], ◌∷◌, ◌++◌, length, take, fold, cond, ◌==◌, Option, Some, None}
-use Rattle.scj_base.specs.declared.places.Pos.{Pos}
+use Rattle.scj_base.specs.declared.positions.Position.{Position}
 use Rattle.scj_base.specs.declared.lexemes.Token.{Token}
 use Rattle.scj_base.specs.declared.lexemes.TokenKind.{TokenKind}
 use Rattle.scj_base.specs.declared.lexemes.TokenKind.TheVariants.{End}
 use Rattle.scj_base.specs.declared.findings.Rule.{Rule}
 use Rattle.scj_base.specs.Lexeme.{Piece, BreakAt}
 
-abbrev pub position_at : ℕ → ℕ → ℕ → Pos
+abbrev pub position_at : ℕ → ℕ → ℕ → Position
 position_at file line col = record { file = file; line = line; col = col }
 
 -- the place behind a byte: a new line behind a line feed, else one column further
-unfoldable pub position_behind_byte : Pos → ℕ → Pos
+unfoldable pub position_behind_byte : Position → ℕ → Position
 position_behind_byte p b = cond (b == 10) (position_at p.file (p.line + 1) 1) (position_at p.file p.line (p.col + 1))
 
 -- the place behind bytes that begin a file
-unfoldable pub position_behind : ℕ → List ℕ → Pos
+unfoldable pub position_behind : ℕ → List ℕ → Position
 position_behind file before = fold position_behind_byte (position_at file 1 1) before
 
 -- the place of the byte that has so many bytes of the file before it
-unfoldable pub position_of : ℕ → List ℕ → ℕ → Pos
+unfoldable pub position_of : ℕ → List ℕ → ℕ → Position
 position_of file bytes offset = position_behind file (take offset bytes)
 
 abbrev pub token_at : ℕ → List ℕ → TokenKind → ℕ → Token

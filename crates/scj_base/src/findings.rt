@@ -7,7 +7,7 @@ ghost use Rattle.std.specs.Cmp.Rules.{comparing};
 ghost use Rattle.std.specs.Ordering.{nat_cmp, on, as_partial_cmp};
 ghost use Rattle.scj_base.specs.Rule.{number_of, name_of, text_of};
 
-use crate::places::Pos;
+use crate::positions::Position;
 use std::cmp::Ordering;
 
 /// The rules of the checker, in the order in which a report lists them at one place. `docs/RULES.md` says
@@ -387,7 +387,7 @@ impl PartialOrd for Rule {
 #[derive(Clone, Copy, Debug, PartialEq, Eq, PartialOrd, Ord)]
 pub struct Found {
     /// Where the rule is broken.
-    pub pos: Pos,
+    pub pos: Position,
     /// The rule that is broken.
     pub rule: Rule,
 }

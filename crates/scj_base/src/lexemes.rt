@@ -3,7 +3,7 @@
 ghost use Rattle.std.specs.Prelude.{◌≡◌, [], ◌∷◌, ◌++◌, OnOk, OnErr};
 
 use crate::errors::Memory;
-use crate::places::Pos;
+use crate::positions::Position;
 use std::alloc::Global;
 use std::marker::Model;
 
@@ -30,7 +30,7 @@ pub struct Token {
     /// What it is.
     pub kind: TokenKind,
     /// Where it begins.
-    pub pos: Pos,
+    pub pos: Position,
     /// The number of the bytes before it.
     pub start: u32,
     /// The number of its bytes: none at the end of the file.

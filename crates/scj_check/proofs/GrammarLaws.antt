@@ -3,7 +3,7 @@ use Rattle.std.proofs.Common.{◌≡◌, ℕ, List, [], ◌∷◌, ◌++◌, len
 use Rattle.std.proofs.lemmas.Option.{none-some, same_Some}
 use Rattle.scj_base.specs.declared.findings.Found.{Found}
 use Rattle.scj_base.specs.declared.findings.Rule.{Rule}
-use Rattle.scj_base.specs.declared.places.Pos.{Pos}
+use Rattle.scj_base.specs.declared.positions.Position.{Position}
 use Rattle.scj_tree.specs.declared.nodes.Node.{Node}
 use Rattle.scj_tree.specs.Forest.{Forest, forest_of}
 use Rattle.scj_tree.specs.Lexemes.{Lexeme}
@@ -13,7 +13,7 @@ use Rattle.machine_laws.proofs.Whole.{one_tree_nodes, one_tree_classes}
 use Rattle.scj_tree.specs.Files.{FileRead, BreaksGrammar}
 use Rattle.scj_tree.specs.Files.BreaksGrammar.{not_in_the_grammar, too_high}
 
-abbrev found_of : Rule → Pos → Found
+abbrev found_of : Rule → Position → Found
 found_of r p = record { rule = r; pos = p }
 
 pub same_found : (one other : Found) → one.rule ≡ other.rule → one.pos ≡ other.pos → one ≡ other

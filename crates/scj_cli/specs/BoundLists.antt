@@ -1,6 +1,6 @@
 -- The text of the bounds of a program's private memories.
 use Rattle.std.specs.Prelude.{◌≡◌, ℕ, List, [], ◌++◌, codes, decimal, slice_index_or, flat_map, Option, Some, None}
-use Rattle.scj_base.specs.declared.places.Pos.{Pos}
+use Rattle.scj_base.specs.declared.positions.Position.{Position}
 use Rattle.scj_tree.specs.Forest.{Forest}
 use Rattle.scj_rules.specs.Contexts.{Declarations, declarations_of}
 use Rattle.scj_model.specs.Code.{code_of}
@@ -25,7 +25,7 @@ cause_word NewInLoop = codes "NewInLoop"
 cause_word TooSmall = codes "TooSmall"
 
 -- file, line and column
-abbrev pub place_text : List (List ℕ) → Pos → List ℕ
+abbrev pub place_text : List (List ℕ) → Position → List ℕ
 place_text names at =
     slice_index_or names at.file [] ++ (codes ":" ++ (decimal at.line ++ (codes ":" ++ decimal at.col)))
 

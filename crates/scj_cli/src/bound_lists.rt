@@ -8,7 +8,7 @@ ghost use Rattle.memory_needs.specs.declared.answers.BoundAnswer.TheVariants.{No
 use crate::reports::file_name;
 use class_rows::ClassTable;
 use memory_needs::{BoundAnswer, BoundRow, Bounds, NoBound};
-use scj_base::{ClassId, Pos};
+use scj_base::{ClassId, Position};
 use std::alloc::{AllocError, Global};
 
 /// The lines of the rows, in their order, and the line of the store.
@@ -89,7 +89,7 @@ fn refusal_text(
     alloc: Global,
     names: &[String],
     cause: NoBound,
-    at: Pos,
+    at: Position,
 ) -> Result<String, AllocError>
     ensures { IfOk result
         (λ text. string_bytes text ≡ answer_text (map string_bytes names.now) (No cause at)) }

@@ -10,7 +10,7 @@ use Rattle.scj_base.specs.Lex.{position_at, position_behind_byte}
 use Rattle.scj_base.specs.Lexeme.{AllOf, Lexeme, Piece, is_letter, is_digit, is_name_byte, is_text_byte, is_line_byte}
 use Rattle.scj_base.specs.Lexeme.Lexeme.{name, word, number, text, sign}
 use Rattle.scj_base.specs.Lexeme.Piece.{blank, line_comment, block_comment, lexeme}
-use Rattle.scj_base.specs.declared.places.Pos.{Pos}
+use Rattle.scj_base.specs.declared.positions.Position.{Position}
 use Rattle.scj_base.specs.declared.lexemes.TokenKind.{TokenKind}
 use Rattle.scj_lexer.specs.declared.pieces.Front.TheVariants.{Piece as Told}
 use Rattle.scj_lexer.specs.First.{first_of}
@@ -82,7 +82,7 @@ told_in_line (b ∷ s) kind len l e t =
     rw same (piece_in_line p.piece p.rest p.kind p.is (rw (kinds, ← same) t))
 
 -- the place behind bytes with no line feed
-pub fold_in_line : (p : Pos) (w : List ℕ) → AllOf is_line_byte w → fold position_behind_byte p w ≡ position_at p.file p.line
+pub fold_in_line : (p : Position) (w : List ℕ) → AllOf is_line_byte w → fold position_behind_byte p w ≡ position_at p.file p.line
     (p.col + length w)
 unfolding position_behind_byte is_line_byte
 fold_in_line p [] a = ap (position_at p.file p.line) (omega arith)

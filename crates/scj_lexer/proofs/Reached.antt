@@ -8,7 +8,7 @@ use Rattle.scj_base.specs.Lexeme.{Piece, is_blank}
 use Rattle.scj_base.specs.Lex.{Lexes, Lex, LexBreak, position_at, position_behind, position_behind_byte, position_of}
 use Rattle.scj_base.specs.Lex.Lexes.{ends}
 use Rattle.scj_base.specs.Lex.LexBreak.{here, later}
-use Rattle.scj_base.specs.declared.places.Pos.{Pos}
+use Rattle.scj_base.specs.declared.positions.Position.{Position}
 use Rattle.scj_base.specs.declared.findings.Found.{Found}
 use Rattle.scj_base.specs.declared.lexemes.Token.{Token}
 use Rattle.scj_base.specs.declared.lexemes.TokenKind.{TokenKind}
@@ -23,7 +23,7 @@ use Rattle.scj_lexer.specs.First.{first_of}
 use Rattle.scj_lexer.proofs.Decided.{Begins, piece_sound, break_sound}
 use Rattle.scj_lexer.proofs.Whole.{step, joined, not_both, piece_len}
 
-pub record Reached (file : ℕ) (bytes rest : List ℕ) (pos : Pos) (tokens : List Token) : Type 0 where
+pub record Reached (file : ℕ) (bytes rest : List ℕ) (pos : Position) (tokens : List Token) : Type 0 where
   pub before : List ℕ
   pub whole : bytes ≡ before ++ rest
   pub place : pos ≡ position_behind file before
@@ -52,7 +52,7 @@ behind_more : (file : ℕ) (before w : List ℕ) → fold position_behind_byte (
 unfolding position_behind
 behind_more file before w = sym (fold-append position_behind_byte (position_at file 1 1) before w)
 
-pub reached_piece : (file : ℕ) (bytes rest w s : List ℕ) (kind : Option TokenKind) (pos : Pos) (tokens : List Token) →
+pub reached_piece : (file : ℕ) (bytes rest w s : List ℕ) (kind : Option TokenKind) (pos : Position) (tokens : List Token) →
     Piece w s kind → rest ≡ w ++ s → Reached file bytes rest pos tokens →
     Reached file bytes s (fold position_behind_byte pos w)
     (tokens ++ token_of kind pos (length bytes - length rest) (length w))
@@ -77,7 +77,7 @@ reached_piece file bytes rest w s kind pos tokens p e r =
           (subst (λ u. LexBreak u rule (length w + offset)) (sym e) (later w s kind rule offset p b)));
     }
 
-reached_found : (file : ℕ) (bytes rest : List ℕ) (pos : Pos) (tokens : List Token) (p : Begins rest) →
+reached_found : (file : ℕ) (bytes rest : List ℕ) (pos : Position) (tokens : List Token) (p : Begins rest) →
     Reached file bytes rest pos tokens →
     Reached file bytes (drop (length p.piece) rest) (fold position_behind_byte pos (take (length p.piece) rest))
     (tokens ++ token_of p.kind pos (length bytes - length rest) (length p.piece))
@@ -88,7 +88,7 @@ reached_found file bytes rest pos tokens p r =
     ∙ drop_at p.piece p.rest (length p.piece) refl in
     rw (front, back) (reached_piece file bytes rest p.piece p.rest p.kind pos tokens p.is p.whole r)
 
-reached_as : (file : ℕ) (bytes rest : List ℕ) (pos : Pos) (tokens : List Token) (p : Begins rest)
+reached_as : (file : ℕ) (bytes rest : List ℕ) (pos : Position) (tokens : List Token) (p : Begins rest)
     (kind : Option TokenKind) (len : ℕ) → p.kind ≡ kind → length p.piece ≡ len → Reached file bytes rest pos tokens →
     Reached file bytes (drop len rest) (fold position_behind_byte pos (take len rest))
     (tokens ++ token_of kind pos (length bytes - length rest) len)
@@ -100,7 +100,7 @@ reached_as file bytes rest pos tokens p kind len k l r =
     (tokens ++ token_of p.kind pos (length bytes - length rest) n)) l
     (reached_found file bytes rest pos tokens p r))
 
-pub reached_step : (file : ℕ) (bytes rest : List ℕ) (kind : Option TokenKind) (len : ℕ) (pos : Pos)
+pub reached_step : (file : ℕ) (bytes rest : List ℕ) (kind : Option TokenKind) (len : ℕ) (pos : Position)
     (tokens : List Token) → 0 < length rest → first_of rest ≡ Told kind len → Reached file bytes rest pos tokens →
     Reached file bytes (drop len rest) (fold position_behind_byte pos (take len rest))
     (tokens ++ token_of kind pos (length bytes - length rest) len)
@@ -120,7 +120,7 @@ told_len (b ∷ s) kind len l e =
     let same : length p.piece ≡ len = found.2 in
     (omega arith, omega arith)
 
-pub reached_end : (file : ℕ) (bytes rest : List ℕ) (pos : Pos) (tokens : List Token) → length rest ≡ 0 →
+pub reached_end : (file : ℕ) (bytes rest : List ℕ) (pos : Position) (tokens : List Token) → length rest ≡ 0 →
     Reached file bytes rest pos tokens → Lex file bytes (tokens ++ token_of (Some End) pos (length bytes) 0)
 reached_end file bytes [] pos tokens e r =
     let all : bytes ≡ r.before = r.whole ∙ append-nil r.before in
@@ -129,7 +129,7 @@ reached_end file bytes [] pos tokens e r =
     (r.lexes _ (ends file r.before)))
 reached_end file bytes (b ∷ s) pos tokens e r = absurd (omega arith)
 
-pub reached_break : (file : ℕ) (bytes rest : List ℕ) (pos : Pos) (tokens : List Token) (rule : Rule) (found : Found) →
+pub reached_break : (file : ℕ) (bytes rest : List ℕ) (pos : Position) (tokens : List Token) (rule : Rule) (found : Found) →
     0 < length rest → first_of rest ≡ Bad rule → found.pos ≡ pos → found.rule ≡ rule →
     Reached file bytes rest pos tokens → IsBreakOf file bytes found
 unfolding position_of
@@ -155,7 +155,7 @@ blank_first [] l e = absurd (omega arith)
 blank_first (b ∷ s) l e = cond-true _ _ _ e
 
 -- behind a blank
-pub reached_blank : (file : ℕ) (bytes rest : List ℕ) (pos : Pos) (tokens : List Token) → 0 < length rest →
+pub reached_blank : (file : ℕ) (bytes rest : List ℕ) (pos : Position) (tokens : List Token) → 0 < length rest →
     is_blank (slice_index rest 0) ≡ true → Reached file bytes rest pos tokens →
     Reached file bytes (drop 1 rest) (position_behind_byte pos (slice_index rest 0)) tokens
 reached_blank file bytes [] pos tokens l e r = absurd (omega arith)
@@ -163,28 +163,28 @@ reached_blank file bytes (b ∷ s) pos tokens l e r =
     subst (λ ts. Reached file bytes (drop 1 (b ∷ s)) (position_behind_byte pos b) ts) (append-nil tokens)
     (reached_step file bytes (b ∷ s) None 1 pos tokens l (blank_first (b ∷ s) l e) r)
 
-line_one : (p : Pos) (b : ℕ) → (position_behind_byte p b).line ≤ p.line + 1
+line_one : (p : Position) (b : ℕ) → (position_behind_byte p b).line ≤ p.line + 1
 unfolding position_behind_byte
 line_one p b = elim (cases_Bool (b == 10)) [ inl e ↦ rw e (omega arith) | inr e ↦ rw e (omega arith) ]
 
-col_one : (p : Pos) (b : ℕ) → (position_behind_byte p b).col ≤ p.col + 1
+col_one : (p : Position) (b : ℕ) → (position_behind_byte p b).col ≤ p.col + 1
 unfolding position_behind_byte
 col_one p b = elim (cases_Bool (b == 10)) [ inl e ↦ rw e (omega arith) | inr e ↦ rw e (omega arith) ]
 
-line_more : (p : Pos) (bytes : List ℕ) → (fold position_behind_byte p bytes).line ≤ p.line + length bytes
+line_more : (p : Position) (bytes : List ℕ) → (fold position_behind_byte p bytes).line ≤ p.line + length bytes
 line_more p [] = omega arith
 line_more p (b ∷ s) = omega (arith, line_one p b, line_more (position_behind_byte p b) s)
 
-col_more : (p : Pos) (bytes : List ℕ) → (fold position_behind_byte p bytes).col ≤ p.col + length bytes
+col_more : (p : Position) (bytes : List ℕ) → (fold position_behind_byte p bytes).col ≤ p.col + length bytes
 col_more p [] = omega arith
 col_more p (b ∷ s) = omega (arith, col_one p b, col_more (position_behind_byte p b) s)
 
-pub record Small (pos : Pos) (bytes rest : List ℕ) : Type 0 where
+pub record Small (pos : Position) (bytes rest : List ℕ) : Type 0 where
   pub line : pos.line + length rest ≤ length bytes + 1
   pub col : pos.col + length rest ≤ length bytes + 1
   pub left : length rest ≤ length bytes
 
-pub reached_small : (file : ℕ) (bytes rest : List ℕ) (pos : Pos) (tokens : List Token) →
+pub reached_small : (file : ℕ) (bytes rest : List ℕ) (pos : Position) (tokens : List Token) →
     Reached file bytes rest pos tokens → Small pos bytes rest
 unfolding position_behind
 reached_small file bytes rest pos tokens r =
@@ -193,7 +193,7 @@ reached_small file bytes rest pos tokens r =
     let cols : pos.col ≤ 1 + length r.before = rw r.place (col_more (position_at file 1 1) r.before) in
     record { line = omega arith; col = omega arith; left = omega arith }
 
-pub record PieceFits (bytes rest : List ℕ) (pos : Pos) (len : ℕ) : Type 0 where
+pub record PieceFits (bytes rest : List ℕ) (pos : Position) (len : ℕ) : Type 0 where
   pub positive : 0 < len
   pub within : len ≤ length rest
   pub len_fits : len < 4294967296
@@ -208,7 +208,7 @@ not_empty (suc n) e = omega arith
 pub not_at_end : (rest : List ℕ) (b : Bool) → b ≡ (length rest == 0) → b ≡ false → 0 < length rest
 not_at_end rest b e f = not_empty (length rest) (sym e ∙ f)
 
-pub piece_fits : (file : ℕ) (bytes rest : List ℕ) (kind : Option TokenKind) (len : ℕ) (pos : Pos)
+pub piece_fits : (file : ℕ) (bytes rest : List ℕ) (kind : Option TokenKind) (len : ℕ) (pos : Position)
     (tokens : List Token) → length bytes ≤ 1048576 → 0 < length rest → first_of rest ≡ Told kind len →
     Reached file bytes rest pos tokens → PieceFits bytes rest pos len
 piece_fits file bytes rest kind len pos tokens l h e r =
@@ -231,7 +231,7 @@ told_memory file bytes (Ok a) h = tt
 told_memory file bytes (Err e) h = subst (Tells file bytes) (sym h) tt
 
 -- behind a space
-pub reached_space : (file : ℕ) (bytes rest : List ℕ) (pos : Pos) (tokens : List Token) → 0 < length rest →
+pub reached_space : (file : ℕ) (bytes rest : List ℕ) (pos : Position) (tokens : List Token) → 0 < length rest →
     slice_index rest 0 ≡ 32 → Reached file bytes rest pos tokens →
     Reached file bytes (drop 1 rest) (position_at pos.file pos.line (pos.col + 1)) tokens
 unfolding position_behind_byte is_blank

@@ -1,6 +1,6 @@
 -- What the lexer answers where it gives no tokens.
 use Rattle.std.specs.Prelude.{ℕ, ◌≡◌, List, [], ◌∷◌, Option, Some, None, ⊤}
-use Rattle.scj_base.specs.declared.places.Pos.{Pos}
+use Rattle.scj_base.specs.declared.positions.Position.{Position}
 use Rattle.scj_base.specs.declared.findings.Found.{Found}
 use Rattle.scj_base.specs.declared.lexemes.Token.{Token}
 use Rattle.scj_base.specs.declared.lexemes.TokenKind.{TokenKind}
@@ -20,6 +20,6 @@ Tells file bytes (Bad found) = IsBreakOf file bytes found
 Tells file bytes Memory = ⊤
 
 -- the token of a piece, if it has a kind
-abbrev pub token_of : Option TokenKind → Pos → ℕ → ℕ → List Token
+abbrev pub token_of : Option TokenKind → Position → ℕ → ℕ → List Token
 token_of None pos start len = []
 token_of (Some kind) pos start len = record { kind = kind; pos = pos; start = start; len = len } ∷ []

@@ -8,7 +8,7 @@ ghost use Rattle.scj_lexer.specs.Answer.{Tells, token_of};
 
 use crate::classes::{is_blank, is_line_byte};
 use crate::pieces::{Front, first};
-use scj_base::{Found, Memory, Pos, Token, TokenKind, Tokens};
+use scj_base::{Found, Memory, Position, Token, TokenKind, Tokens};
 use std::alloc::Global;
 
 /// The column of the first byte of a line.
@@ -41,7 +41,7 @@ pub fn lex(alloc: Global, file: u8, bytes: &[u8]) -> Result<Tokens, LexAnswer>
     ensures bad { IfErr result (λ answer. Tells file bytes.now answer) }
 {
     let mut tokens = Tokens::new(alloc);
-    let mut pos = Pos {
+    let mut pos = Position {
         file,
         line: 1,
         col: FIRST_COLUMN,
@@ -79,7 +79,7 @@ pub fn lex(alloc: Global, file: u8, bytes: &[u8]) -> Result<Tokens, LexAnswer>
 fn put(
     tokens: &mut Tokens,
     kind: Option<TokenKind>,
-    pos: Pos,
+    pos: Position,
     start: usize,
     len: usize,
 ) -> Result<(), Memory>
@@ -99,7 +99,7 @@ fn put(
 }
 
 /// The place behind a piece, which is looked through for line feeds only where it can have some.
-fn behind_piece(pos: Pos, kind: Option<TokenKind>, piece: &[u8]) -> Pos
+fn behind_piece(pos: Position, kind: Option<TokenKind>, piece: &[u8]) -> Position
     requires in_line { stays_in_line kind piece.now ≡ true → AllOf line_byte piece.now }
     requires lines_fit { pos.line + length piece.now < 2 ^ 32 }
     requires columns_fit { pos.col + length piece.now + 1 < 2 ^ 32 }
@@ -126,11 +126,11 @@ fn is_in_line(kind: Option<TokenKind>, piece: &[u8]) -> bool
 }
 
 /// The place so many columns further.
-fn along(pos: Pos, len: u32) -> Pos
+fn along(pos: Position, len: u32) -> Position
     requires { pos.col + len < 2 ^ 32 }
     ensures { result ≡ position_at pos.file pos.line (pos.col + len) }
 {
-    Pos {
+    Position {
         file: pos.file,
         line: pos.line,
         col: pos.col + len,
@@ -138,7 +138,7 @@ fn along(pos: Pos, len: u32) -> Pos
 }
 
 /// The place behind the bytes.
-fn behind(pos: Pos, bytes: &[u8]) -> Pos
+fn behind(pos: Position, bytes: &[u8]) -> Position
     requires lines_fit { pos.line + length bytes.now < 2 ^ 32 }
     requires columns_fit { pos.col + length bytes.now + 1 < 2 ^ 32 }
     ensures { result ≡ fold position_behind_byte pos bytes.now }
@@ -152,7 +152,7 @@ fn behind(pos: Pos, bytes: &[u8]) -> Pos
 
 /// The place behind a byte.
 #[tactic(auto, unfolding(scj_base::specs::Lex::position_behind_byte, scj_base::specs::Lexeme::is_line_byte))]
-fn behind_byte(pos: Pos, byte: u8) -> Pos
+fn behind_byte(pos: Position, byte: u8) -> Position
     requires line_fits { pos.line + 1 < 2 ^ 32 }
     requires column_fits { pos.col + 1 < 2 ^ 32 }
     ensures value { result ≡ position_behind_byte pos byte }
@@ -160,13 +160,13 @@ fn behind_byte(pos: Pos, byte: u8) -> Pos
     ensures column { result.col ≤ pos.col + 1 }
 {
     if is_line_byte(byte) {
-        return Pos {
+        return Position {
             file: pos.file,
             line: pos.line,
             col: pos.col + 1,
         };
     }
-    Pos {
+    Position {
         file: pos.file,
         line: pos.line + 1,
         col: FIRST_COLUMN,

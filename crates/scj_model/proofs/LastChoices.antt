@@ -1,7 +1,7 @@
 -- The operation of a job doesn't look at the last choice: after another one it does the same.
 use Rattle.std.proofs.Common.{◌≡◌, ℕ, nat_lt, Bool, true, false, not, List, [], ◌∷◌, length, Option, Some, None, if◌then◌else◌, refl, ap, ◌∙◌}
 use Rattle.std.specs.Prelude.{◌==◌, option_map, slice_get, is_some, unwrap_or, codes}
-use Rattle.scj_base.specs.declared.places.Pos.{Pos}
+use Rattle.scj_base.specs.declared.positions.Position.{Position}
 use Rattle.scj_base.specs.declared.faults.RunFault.{RunFault}
 use Rattle.scj_base.specs.declared.faults.RunFault.TheVariants.{ScopedCycle, DepthFull}
 use Rattle.scj_base.specs.declared.values.Value.{Value}
@@ -47,7 +47,7 @@ closed_all_same t s [] = refl
 closed_all_same t s (f ∷ fs) =
     ap (λ (x : State). closed_all x fs) (closed_same t s f.opened) ∙ closed_all_same t (closed s f.opened) fs
 
-fault_same : (t : Turn) (s : State) (n : ℕ) (activity : Activity) (position : Pos) (fault : RunFault) → SameStep t (fault_in (with_turn s t) (ReleaseAt n) activity position fault) (fault_in s (ReleaseAt n) activity position fault)
+fault_same : (t : Turn) (s : State) (n : ℕ) (activity : Activity) (position : Position) (fault : RunFault) → SameStep t (fault_in (with_turn s t) (ReleaseAt n) activity position fault) (fault_in s (ReleaseAt n) activity position fault)
 unfolding fault_in
 fault_same t s n activity position fault =
     record {
@@ -57,19 +57,19 @@ fault_same t s n activity position fault =
 
 -- ---- effects
 
-called_same : (t : Turn) (code : Code) (s : State) (n : ℕ) (activity : Activity) (frames : List Frame) (position : Pos) (g : Frame) → SameStep t (called code (with_turn s t) (ReleaseAt n) activity frames position g) (called code s (ReleaseAt n) activity frames position g)
+called_same : (t : Turn) (code : Code) (s : State) (n : ℕ) (activity : Activity) (frames : List Frame) (position : Position) (g : Frame) → SameStep t (called code (with_turn s t) (ReleaseAt n) activity frames position g) (called code s (ReleaseAt n) activity frames position g)
 unfolding called ceiling_entered with_activity
 called_same t code s n activity frames position g =
     same_if t (is_full frames) _ _ _ _ (fault_same t s n activity position _)
     (same_option t (ceiling_entered code s g) _ _ _ _ (record { is = refl })
     (λ ceiling. same_if t (nat_lt ceiling activity.priority) _ _ _ _ (fault_same t s n activity position _) (record { is = refl })))
 
-opening_same : (t : Turn) (s : State) (n : ℕ) (activity : Activity) (position : Pos) (scope : ℕ) (parent : Option ℕ) (bytes : ℕ) (next : State → ℕ → Step) → ((u : State) (a : ℕ) → SameStep t (next (with_turn u t) a) (next u a)) → SameStep t (opening (with_turn s t) (ReleaseAt n) activity position scope parent bytes next) (opening s (ReleaseAt n) activity position scope parent bytes next)
+opening_same : (t : Turn) (s : State) (n : ℕ) (activity : Activity) (position : Position) (scope : ℕ) (parent : Option ℕ) (bytes : ℕ) (next : State → ℕ → Step) → ((u : State) (a : ℕ) → SameStep t (next (with_turn u t) a) (next u a)) → SameStep t (opening (with_turn s t) (ReleaseAt n) activity position scope parent bytes next) (opening s (ReleaseAt n) activity position scope parent bytes next)
 unfolding opening has_store_for reserved
 opening_same t s n activity position scope parent bytes next h =
     same_if t (has_store_for s bytes) _ _ _ _ (h (with_area s scope parent bytes) (length s.areas)) (fault_same t s n activity position _)
 
-allocating_same : (t : Turn) (s : State) (n : ℕ) (activity : Activity) (position : Pos) (class area : ℕ) (slots : List Value) (next : State → ℕ → Step) → ((u : State) (r : ℕ) → SameStep t (next (with_turn u t) r) (next u r)) → SameStep t (allocating (with_turn s t) (ReleaseAt n) activity position class area slots next) (allocating s (ReleaseAt n) activity position class area slots next)
+allocating_same : (t : Turn) (s : State) (n : ℕ) (activity : Activity) (position : Position) (class area : ℕ) (slots : List Value) (next : State → ℕ → Step) → ((u : State) (r : ℕ) → SameStep t (next (with_turn u t) r) (next u r)) → SameStep t (allocating (with_turn s t) (ReleaseAt n) activity position class area slots next) (allocating s (ReleaseAt n) activity position class area slots next)
 unfolding allocating has_room used
 allocating_same t s n activity position class area slots next h =
     same_if t (has_room s area (length slots)) _ _ _ _ (h (with_object s class area slots) (length s.objects)) (fault_same t s n activity position _)
@@ -80,7 +80,7 @@ scope_same t s scope [] = refl
 scope_same t s scope (a ∷ areas) =
     ap (λ (o : Option ℕ). if holds (area_at s a) (λ (x : MemoryArea). x.scope == scope) then Some a else o) (scope_same t s scope areas)
 
-opened_same : (t : Turn) (s : State) (n : ℕ) (activity : Activity) (frames : List Frame) (position : Pos) (g : Frame) (scope bytes : ℕ) → SameStep t (opened_in (with_turn s t) (ReleaseAt n) activity frames position g scope bytes) (opened_in s (ReleaseAt n) activity frames position g scope bytes)
+opened_same : (t : Turn) (s : State) (n : ℕ) (activity : Activity) (frames : List Frame) (position : Position) (g : Frame) (scope bytes : ℕ) → SameStep t (opened_in (with_turn s t) (ReleaseAt n) activity frames position g scope bytes) (opened_in s (ReleaseAt n) activity frames position g scope bytes)
 unfolding opened_in with_activity
 opened_same t s n activity frames position g scope bytes =
     record {
@@ -137,7 +137,7 @@ unfolding termination_asked termination
 asked_same t s r =
     same_if t (asks_for_end s.mission s.phase s.is_end_asked r) _ _ _ _ (same_if t (is_exec s.phase) _ _ _ _ (record { is = refl }) (record { is = refl })) (record { is = refl })
 
-registered_same : (t : Turn) (code : Code) (s : State) (n : ℕ) (activity : Activity) (position : Pos) (r : ℕ) (o : Object) (after : State) → SameStep t (registered code (with_turn s t) (ReleaseAt n) activity position r o (with_turn after t)) (registered code s (ReleaseAt n) activity position r o after)
+registered_same : (t : Turn) (code : Code) (s : State) (n : ℕ) (activity : Activity) (position : Position) (r : ℕ) (o : Object) (after : State) → SameStep t (registered code (with_turn s t) (ReleaseAt n) activity position r o (with_turn after t)) (registered code s (ReleaseAt n) activity position r o after)
 unfolding registered
 registered_same t code s n activity position r o after =
     same_if t (not (is_init s.phase)) _ _ _ _ (fault_same t s n activity position _)
@@ -160,7 +160,7 @@ same_mapped t (Some a) f g h = ap (λ (x : Step). Some x) (h a).is
 same_some : (t : Turn) (x y : Step) → SameStep t x y → SameIf t (Some x) (Some y)
 same_some t x y h = ap (λ (z : Step). Some z) h.is
 
-applied_same : (t : Turn) (code : Code) (s : State) (n : ℕ) (activity : Activity) (below : List Frame) (position : Pos) (effect : Effect) → SameIf t (applied code (with_turn s t) (ReleaseAt n) activity below position effect) (applied code s (ReleaseAt n) activity below position effect)
+applied_same : (t : Turn) (code : Code) (s : State) (n : ℕ) (activity : Activity) (below : List Frame) (position : Position) (effect : Effect) → SameIf t (applied code (with_turn s t) (ReleaseAt n) activity below position effect) (applied code s (ReleaseAt n) activity below position effect)
 unfolding applied with_activity
 applied_same t code s n activity below position (Goes f) = refl
 applied_same t code s n activity below position (Prints f label value) = refl

@@ -3,7 +3,7 @@ use Rattle.std.proofs.Common.{◌≡◌, ◌⊎◌, inl, inr, ⊎_elim, ℕ, zer
 use Rattle.std.specs.Prelude.{option_map, slice_get, unwrap_or, is_some, codes}
 use Rattle.std.specs.List.{list_any}
 use Rattle.std.proofs.lemmas.List.{append-nil, append_assoc}
-use Rattle.scj_base.specs.declared.places.Pos.{Pos}
+use Rattle.scj_base.specs.declared.positions.Position.{Position}
 use Rattle.scj_base.specs.declared.faults.RunFault.{RunFault}
 use Rattle.scj_base.specs.declared.values.Value.{Value}
 use Rattle.scj_rules.specs.declared.views.Body.{Body}
@@ -106,7 +106,7 @@ no_last_of s (ReleaseAt index) tell h = go (slice_get s.releases index)
 
 -- ---- faults
 
-fine_fault : (s : State) (job : Job) (activity : Activity) (position : Pos) (fault : RunFault) → is_over s.phase ≡ false → IsFine (fault_in s job activity position fault)
+fine_fault : (s : State) (job : Job) (activity : Activity) (position : Position) (fault : RunFault) → is_over s.phase ≡ false → IsFine (fault_in s job activity position fault)
 unfolding fault_in is_last_line is_over
 fine_fault s TheSequencer activity position fault h =
     inr (record { over = refl; nothing_left = refl; ends = record { before = _ ∷ []; last = _; are = refl; ends = refl; none_before = refl } })
@@ -147,7 +147,7 @@ fine_behind first second n h =
 
 -- ---- what effects do
 
-fine_called : (code : Code) (s : State) (job : Job) (activity : Activity) (frames : List Frame) (position : Pos) (g : Frame) → is_over s.phase ≡ false → IsFine (called code s job activity frames position g)
+fine_called : (code : Code) (s : State) (job : Job) (activity : Activity) (frames : List Frame) (position : Position) (g : Frame) → is_over s.phase ≡ false → IsFine (called code s job activity frames position g)
 unfolding called
 fine_called code s job activity frames position g h =
     fine_if (is_full frames) _ _ (fine_fault s job activity position _ h)
@@ -156,17 +156,17 @@ fine_called code s job activity frames position g h =
     (λ ceiling. fine_if (nat_lt ceiling activity.priority) _ _ (fine_fault s job activity position _ h)
     (quiet s h _ (keeps_activity s job _) (tells_no_last s job activity.priority ceiling))))
 
-fine_opening : (s : State) (job : Job) (activity : Activity) (position : Pos) (scope : ℕ) (parent : Option ℕ) (bytes : ℕ) (next : State → ℕ → Step) → is_over s.phase ≡ false → ((t : State) (a : ℕ) → is_over t.phase ≡ false → IsFine (next t a)) → IsFine (opening s job activity position scope parent bytes next)
+fine_opening : (s : State) (job : Job) (activity : Activity) (position : Position) (scope : ℕ) (parent : Option ℕ) (bytes : ℕ) (next : State → ℕ → Step) → is_over s.phase ≡ false → ((t : State) (a : ℕ) → is_over t.phase ≡ false → IsFine (next t a)) → IsFine (opening s job activity position scope parent bytes next)
 unfolding opening
 fine_opening s job activity position scope parent bytes next h k =
     fine_if (has_store_for s bytes) _ _ (k (with_area s scope parent bytes) (length s.areas) h) (fine_fault s job activity position _ h)
 
-fine_allocating : (s : State) (job : Job) (activity : Activity) (position : Pos) (class area : ℕ) (slots : List Value) (next : State → ℕ → Step) → is_over s.phase ≡ false → ((t : State) (r : ℕ) → is_over t.phase ≡ false → IsFine (next t r)) → IsFine (allocating s job activity position class area slots next)
+fine_allocating : (s : State) (job : Job) (activity : Activity) (position : Position) (class area : ℕ) (slots : List Value) (next : State → ℕ → Step) → is_over s.phase ≡ false → ((t : State) (r : ℕ) → is_over t.phase ≡ false → IsFine (next t r)) → IsFine (allocating s job activity position class area slots next)
 unfolding allocating
 fine_allocating s job activity position class area slots next h k =
     fine_if (has_room s area (length slots)) _ _ (k (with_object s class area slots) (length s.objects) h) (fine_fault s job activity position _ h)
 
-fine_opened : (s : State) (job : Job) (activity : Activity) (frames : List Frame) (position : Pos) (g : Frame) (scope bytes : ℕ) → is_over s.phase ≡ false → IsFine (opened_in s job activity frames position g scope bytes)
+fine_opened : (s : State) (job : Job) (activity : Activity) (frames : List Frame) (position : Position) (g : Frame) (scope bytes : ℕ) → is_over s.phase ≡ false → IsFine (opened_in s job activity frames position g scope bytes)
 unfolding opened_in
 fine_opened s job activity frames position g scope bytes h =
     fine_if (is_some (area_with_scope s scope activity.areas)) _ _ (fine_fault s job activity position _ h)
@@ -197,7 +197,7 @@ unfolding release_taken is_last_line
 fine_taken s handler h =
     fine_if (not (nat_lt (length (waiting_of s handler)) most_waiting)) _ _ (quiet s h _ refl refl) (quiet s h _ refl refl)
 
-fine_registered : (code : Code) (s : State) (job : Job) (activity : Activity) (position : Pos) (r : ℕ) (o : _) (after : State) → is_over s.phase ≡ false → Keeps s after → IsFine (registered code s job activity position r o after)
+fine_registered : (code : Code) (s : State) (job : Job) (activity : Activity) (position : Position) (r : ℕ) (o : _) (after : State) → is_over s.phase ≡ false → Keeps s after → IsFine (registered code s job activity position r o after)
 unfolding registered is_last_line
 fine_registered code s job activity position r o after h k =
     fine_if (not (is_init s.phase)) _ _ (fine_fault s job activity position _ h)
@@ -247,7 +247,7 @@ fine_either : (b : Bool) (x y : Option Step) → IsFineIf x → IsFineIf y → I
 fine_either true x y h k = h
 fine_either false x y h k = k
 
-fine_applied : (code : Code) (s : State) (job : Job) (activity : Activity) (below : List Frame) (position : Pos) (effect : Effect) → is_over s.phase ≡ false → IsFineIf (applied code s job activity below position effect)
+fine_applied : (code : Code) (s : State) (job : Job) (activity : Activity) (below : List Frame) (position : Position) (effect : Effect) → is_over s.phase ≡ false → IsFineIf (applied code s job activity below position effect)
 unfolding applied is_last_line
 fine_applied code s job activity below position (Goes f) h = fine_some _ (quiet s h _ (keeps_activity s job _) refl)
 fine_applied code s job activity below position (Prints f label value) h = fine_some _ (quiet s h _ (keeps_activity s job _) refl)
@@ -305,12 +305,12 @@ fine_release code rows s index r h = go r.status
     go Ended = fine_none
     go Dropped = fine_none
 
-fine_area : (s : State) (position : Pos) (scope bytes : ℕ) → is_over s.phase ≡ false → IsFine (area_opened s position scope bytes)
+fine_area : (s : State) (position : Position) (scope bytes : ℕ) → is_over s.phase ≡ false → IsFine (area_opened s position scope bytes)
 unfolding area_opened
 fine_area s position scope bytes h =
     fine_opening s TheSequencer s.activity position scope (innermost s.activity.areas) bytes _ h (λ t a k. quiet t k _ refl refl)
 
-fine_safelet : (code : Code) (s : State) (position : Pos) (class area : ℕ) → is_over s.phase ≡ false → IsFine (safelet_made code s position class area)
+fine_safelet : (code : Code) (s : State) (position : Position) (class area : ℕ) → is_over s.phase ≡ false → IsFine (safelet_made code s position class area)
 unfolding safelet_made
 fine_safelet code s position class area h =
     fine_allocating s TheSequencer s.activity position class area (new_slots code.program class) _ h (λ t r k. quiet t k _ refl refl)

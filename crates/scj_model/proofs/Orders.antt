@@ -2,7 +2,7 @@
 use Rattle.std.proofs.Common.{◌≡◌, ℕ, zero, suc, nat_lt, Bool, true, false, not, ◌&&◌, ◌||◌, List, [], ◌∷◌, ◌++◌, length, map, Option, Some, None, if◌then◌else◌, refl, sym, ap, ◌∙◌, subst}
 use Rattle.std.specs.Prelude.{option_map, slice_get, unwrap_or, is_some, codes}
 use Rattle.std.specs.List.{list_any}
-use Rattle.scj_base.specs.declared.places.Pos.{Pos}
+use Rattle.scj_base.specs.declared.positions.Position.{Position}
 use Rattle.scj_base.specs.declared.faults.RunFault.{RunFault}
 use Rattle.scj_base.specs.declared.values.Value.{Value}
 use Rattle.scj_rules.specs.declared.views.Body.{Body}
@@ -61,32 +61,32 @@ unfolding closed_all
 aside_closed_all s [] = record { phase = refl; activity = refl; outcome = refl }
 aside_closed_all s (f ∷ fs) = aside_then s (closed s f.opened) (closed_all (closed s f.opened) fs) (aside_closed s f.opened) (aside_closed_all (closed s f.opened) fs)
 
-aside_fault : (s : State) (n : ℕ) (activity : Activity) (position : Pos) (fault : RunFault) → Aside s (fault_in s (ReleaseAt n) activity position fault)
+aside_fault : (s : State) (n : ℕ) (activity : Activity) (position : Position) (fault : RunFault) → Aside s (fault_in s (ReleaseAt n) activity position fault)
 unfolding fault_in
 aside_fault s n activity position fault =
     let c : IsAside s (closed_all s activity.frames) = aside_closed_all s activity.frames in
     record { phase = c.phase; activity = c.activity; outcome = c.outcome }
 
-aside_called : (code : Code) (s : State) (n : ℕ) (activity : Activity) (frames : List Frame) (position : Pos) (g : Frame) → Aside s (called code s (ReleaseAt n) activity frames position g)
+aside_called : (code : Code) (s : State) (n : ℕ) (activity : Activity) (frames : List Frame) (position : Position) (g : Frame) → Aside s (called code s (ReleaseAt n) activity frames position g)
 unfolding called with_activity
 aside_called code s n activity frames position g =
     aside_if s (is_full frames) _ _ (aside_fault s n activity position _)
     (aside_option s (ceiling_entered code s g) _ _ (record { phase = refl; activity = refl; outcome = refl })
     (λ ceiling. aside_if s (nat_lt ceiling activity.priority) _ _ (aside_fault s n activity position _) (record { phase = refl; activity = refl; outcome = refl })))
 
-aside_opening : (s : State) (n : ℕ) (activity : Activity) (position : Pos) (scope : ℕ) (parent : Option ℕ) (bytes : ℕ) (next : State → ℕ → Step) → ((t : State) (a : ℕ) → IsAside s t → Aside s (next t a)) → Aside s (opening s (ReleaseAt n) activity position scope parent bytes next)
+aside_opening : (s : State) (n : ℕ) (activity : Activity) (position : Position) (scope : ℕ) (parent : Option ℕ) (bytes : ℕ) (next : State → ℕ → Step) → ((t : State) (a : ℕ) → IsAside s t → Aside s (next t a)) → Aside s (opening s (ReleaseAt n) activity position scope parent bytes next)
 unfolding opening
 aside_opening s n activity position scope parent bytes next h =
     aside_if s (has_store_for s bytes) _ _ (h (with_area s scope parent bytes) (length s.areas) (record { phase = refl; activity = refl; outcome = refl }))
     (aside_fault s n activity position _)
 
-aside_allocating : (s : State) (n : ℕ) (activity : Activity) (position : Pos) (class area : ℕ) (slots : List Value) (next : State → ℕ → Step) → ((t : State) (r : ℕ) → IsAside s t → Aside s (next t r)) → Aside s (allocating s (ReleaseAt n) activity position class area slots next)
+aside_allocating : (s : State) (n : ℕ) (activity : Activity) (position : Position) (class area : ℕ) (slots : List Value) (next : State → ℕ → Step) → ((t : State) (r : ℕ) → IsAside s t → Aside s (next t r)) → Aside s (allocating s (ReleaseAt n) activity position class area slots next)
 unfolding allocating
 aside_allocating s n activity position class area slots next h =
     aside_if s (has_room s area (length slots)) _ _ (h (with_object s class area slots) (length s.objects) (record { phase = refl; activity = refl; outcome = refl }))
     (aside_fault s n activity position _)
 
-aside_opened : (s : State) (n : ℕ) (activity : Activity) (frames : List Frame) (position : Pos) (g : Frame) (scope bytes : ℕ) → Aside s (opened_in s (ReleaseAt n) activity frames position g scope bytes)
+aside_opened : (s : State) (n : ℕ) (activity : Activity) (frames : List Frame) (position : Position) (g : Frame) (scope bytes : ℕ) → Aside s (opened_in s (ReleaseAt n) activity frames position g scope bytes)
 unfolding opened_in with_activity
 aside_opened s n activity frames position g scope bytes =
     aside_if s (is_some (area_with_scope s scope activity.areas)) _ _ (aside_fault s n activity position _)
@@ -121,7 +121,7 @@ aside_asked s r =
     (aside_if s (is_exec s.phase) _ _ (record { phase = refl; activity = refl; outcome = refl }) (record { phase = refl; activity = refl; outcome = refl }))
     (record { phase = refl; activity = refl; outcome = refl })
 
-aside_registered : (code : Code) (s : State) (n : ℕ) (activity : Activity) (position : Pos) (r : ℕ) (o : _) (after : State) → IsAside s after → Aside s (registered code s (ReleaseAt n) activity position r o after)
+aside_registered : (code : Code) (s : State) (n : ℕ) (activity : Activity) (position : Position) (r : ℕ) (o : _) (after : State) → IsAside s after → Aside s (registered code s (ReleaseAt n) activity position r o after)
 unfolding registered
 aside_registered code s n activity position r o after a =
     aside_if s (not (is_init s.phase)) _ _ (aside_fault s n activity position _)
@@ -153,7 +153,7 @@ aside_either : (s : State) (b : Bool) (x y : Option Step) → AsideIf s x → As
 aside_either s true x y h k = h
 aside_either s false x y h k = k
 
-aside_applied : (code : Code) (s : State) (n : ℕ) (activity : Activity) (below : List Frame) (position : Pos) (effect : Effect) → AsideIf s (applied code s (ReleaseAt n) activity below position effect)
+aside_applied : (code : Code) (s : State) (n : ℕ) (activity : Activity) (below : List Frame) (position : Position) (effect : Effect) → AsideIf s (applied code s (ReleaseAt n) activity below position effect)
 unfolding applied with_activity
 aside_applied code s n activity below position (Goes f) = aside_some s _ (record { phase = refl; activity = refl; outcome = refl })
 aside_applied code s n activity below position (Prints f label value) = aside_some s _ (record { phase = refl; activity = refl; outcome = refl })
@@ -239,11 +239,11 @@ unfolding closed
 started_closed s None = refl
 started_closed s (Some a) = refl
 
-acted_fault : (s : State) (activity : Activity) (position : Pos) (fault : RunFault) → Acted s (fault_in s TheSequencer activity position fault)
+acted_fault : (s : State) (activity : Activity) (position : Position) (fault : RunFault) → Acted s (fault_in s TheSequencer activity position fault)
 unfolding fault_in is_exec
 acted_fault s activity position fault = record { started_same = refl; outside = refl; frameless = λ v x. absurd (cc (x)) }
 
-acted_called : (code : Code) (s : State) (activity : Activity) (frames : List Frame) (position : Pos) (g : Frame) → is_exec s.phase ≡ false → s.outcome ≡ None → Acted s (called code s TheSequencer activity frames position g)
+acted_called : (code : Code) (s : State) (activity : Activity) (frames : List Frame) (position : Position) (g : Frame) → is_exec s.phase ≡ false → s.outcome ≡ None → Acted s (called code s TheSequencer activity frames position g)
 unfolding called with_activity
 acted_called code s activity frames position g h n =
     acted_if s (is_full frames) _ _ (acted_fault s activity position _)
@@ -257,21 +257,21 @@ record IsKept (s t : State) : Type 0 where
   outcome : t.outcome ≡ s.outcome
   activity : t.activity ≡ s.activity
 
-acted_opening : (s : State) (activity : Activity) (position : Pos) (scope : ℕ) (parent : Option ℕ) (bytes : ℕ) (next : State → ℕ → Step) → ((t : State) (a : ℕ) → IsKept s t → Acted s (next t a)) → Acted s (opening s TheSequencer activity position scope parent bytes next)
+acted_opening : (s : State) (activity : Activity) (position : Position) (scope : ℕ) (parent : Option ℕ) (bytes : ℕ) (next : State → ℕ → Step) → ((t : State) (a : ℕ) → IsKept s t → Acted s (next t a)) → Acted s (opening s TheSequencer activity position scope parent bytes next)
 unfolding opening
 acted_opening s activity position scope parent bytes next h =
     acted_if s (has_store_for s bytes) _ _
     (h (with_area s scope parent bytes) (length s.areas) (record { started_same = refl; phase = refl; outcome = refl; activity = refl }))
     (acted_fault s activity position _)
 
-acted_allocating : (s : State) (activity : Activity) (position : Pos) (class area : ℕ) (slots : List Value) (next : State → ℕ → Step) → ((t : State) (r : ℕ) → IsKept s t → Acted s (next t r)) → Acted s (allocating s TheSequencer activity position class area slots next)
+acted_allocating : (s : State) (activity : Activity) (position : Position) (class area : ℕ) (slots : List Value) (next : State → ℕ → Step) → ((t : State) (r : ℕ) → IsKept s t → Acted s (next t r)) → Acted s (allocating s TheSequencer activity position class area slots next)
 unfolding allocating
 acted_allocating s activity position class area slots next h =
     acted_if s (has_room s area (length slots)) _ _
     (h (with_object s class area slots) (length s.objects) (record { started_same = refl; phase = refl; outcome = refl; activity = refl }))
     (acted_fault s activity position _)
 
-acted_opened : (s : State) (activity : Activity) (frames : List Frame) (position : Pos) (g : Frame) (scope bytes : ℕ) → is_exec s.phase ≡ false → s.outcome ≡ None → Acted s (opened_in s TheSequencer activity frames position g scope bytes)
+acted_opened : (s : State) (activity : Activity) (frames : List Frame) (position : Position) (g : Frame) (scope bytes : ℕ) → is_exec s.phase ≡ false → s.outcome ≡ None → Acted s (opened_in s TheSequencer activity frames position g scope bytes)
 unfolding opened_in with_activity
 acted_opened s activity frames position g scope bytes h n =
     acted_if s (is_some (area_with_scope s scope activity.areas)) _ _ (acted_fault s activity position _)
@@ -287,7 +287,7 @@ acted_left s activity f [] (Some value) h n =
 acted_left s activity f (g ∷ gs) value h n =
     plain s h n _ (started_closed s f.opened) (aside_closed s f.opened).phase (aside_closed s f.opened).outcome
 
-acted_registered : (code : Code) (s : State) (activity : Activity) (position : Pos) (r : ℕ) (o : _) (after : State) → IsActed s after → Acted s (registered code s TheSequencer activity position r o after)
+acted_registered : (code : Code) (s : State) (activity : Activity) (position : Position) (r : ℕ) (o : _) (after : State) → IsActed s after → Acted s (registered code s TheSequencer activity position r o after)
 unfolding registered
 acted_registered code s activity position r o after a =
     acted_if s (not (is_init s.phase)) _ _ (acted_fault s activity position _)
@@ -329,7 +329,7 @@ acted_either : (s : State) (b : Bool) (x y : Option Step) → ActedIf s x → Ac
 acted_either s true x y h k = h
 acted_either s false x y h k = k
 
-acted_applied : (code : Code) (s : State) (activity : Activity) (below : List Frame) (position : Pos) (effect : Effect) → is_exec s.phase ≡ false → s.outcome ≡ None → ActedIf s (applied code s TheSequencer activity below position effect)
+acted_applied : (code : Code) (s : State) (activity : Activity) (below : List Frame) (position : Position) (effect : Effect) → is_exec s.phase ≡ false → s.outcome ≡ None → ActedIf s (applied code s TheSequencer activity below position effect)
 unfolding applied with_activity
 acted_applied code s activity below position (Goes f) h n = acted_some s _ (plain s h n _ refl refl refl)
 acted_applied code s activity below position (Prints f label value) h n = acted_some s _ (plain s h n _ refl refl refl)
@@ -365,13 +365,13 @@ acted_frame code rows s activity h n = go activity.frames
     go [] = acted_none s
     go (f ∷ below) = act f below f.rest
 
-acted_area : (s : State) (position : Pos) (scope bytes : ℕ) → is_exec s.phase ≡ false → s.activity.frames ≡ [] → Acted s (area_opened s position scope bytes)
+acted_area : (s : State) (position : Position) (scope bytes : ℕ) → is_exec s.phase ≡ false → s.activity.frames ≡ [] → Acted s (area_opened s position scope bytes)
 unfolding area_opened
 acted_area s position scope bytes h f =
     acted_opening s s.activity position scope (innermost s.activity.areas) bytes _
     (λ t a k. record { started_same = k.started_same; outside = ap is_exec k.phase ∙ h; frameless = λ v x. f })
 
-acted_safelet : (code : Code) (s : State) (position : Pos) (class area : ℕ) → is_exec s.phase ≡ false → s.activity.frames ≡ [] → Acted s (safelet_made code s position class area)
+acted_safelet : (code : Code) (s : State) (position : Position) (class area : ℕ) → is_exec s.phase ≡ false → s.activity.frames ≡ [] → Acted s (safelet_made code s position class area)
 unfolding safelet_made
 acted_safelet code s position class area h f =
     acted_allocating s s.activity position class area (new_slots code.program class) _

@@ -1,7 +1,7 @@
 -- What happens in a unit leaves the number of the unit as it is: arrivals, the operation of a job, and what follows it.
 use Rattle.std.proofs.Common.{◌≡◌, ℕ, nat_lt, Bool, true, false, not, ◌&&◌, List, [], ◌∷◌, ◌++◌, length, Option, Some, None, if◌then◌else◌, refl, sym, ap, ◌∙◌}
 use Rattle.std.specs.Prelude.{option_map, slice_get, unwrap_or, is_some, codes}
-use Rattle.scj_base.specs.declared.places.Pos.{Pos}
+use Rattle.scj_base.specs.declared.positions.Position.{Position}
 use Rattle.scj_base.specs.declared.faults.RunFault.{RunFault}
 use Rattle.scj_base.specs.declared.values.Value.{Value}
 use Rattle.scj_rules.specs.declared.views.Body.{Body}
@@ -54,7 +54,7 @@ unfolding closed_all
 unit_closed_all s [] = refl
 unit_closed_all s (f ∷ fs) = unit_closed_all (closed s f.opened) fs ∙ unit_closed s f.opened
 
-keeps_fault : (s : State) (job : Job) (activity : Activity) (position : Pos) (fault : RunFault) → KeepsUnit s (fault_in s job activity position fault)
+keeps_fault : (s : State) (job : Job) (activity : Activity) (position : Position) (fault : RunFault) → KeepsUnit s (fault_in s job activity position fault)
 unfolding fault_in
 keeps_fault s TheSequencer activity position fault = refl
 keeps_fault s (ReleaseAt n) activity position fault = unit_closed_all s activity.frames
@@ -66,24 +66,24 @@ keeps_ended s (ReleaseAt n) activity value = refl
 
 -- ---- effects
 
-keeps_called : (code : Code) (s : State) (job : Job) (activity : Activity) (frames : List Frame) (position : Pos) (g : Frame) → KeepsUnit s (called code s job activity frames position g)
+keeps_called : (code : Code) (s : State) (job : Job) (activity : Activity) (frames : List Frame) (position : Position) (g : Frame) → KeepsUnit s (called code s job activity frames position g)
 unfolding called
 keeps_called code s job activity frames position g =
     keeps_if s (is_full frames) _ _ (keeps_fault s job activity position _)
     (keeps_option s (ceiling_entered code s g) _ _ (unit_active s job _)
     (λ ceiling. keeps_if s (nat_lt ceiling activity.priority) _ _ (keeps_fault s job activity position _) (unit_active s job _)))
 
-keeps_opening : (s : State) (job : Job) (activity : Activity) (position : Pos) (scope : ℕ) (parent : Option ℕ) (bytes : ℕ) (next : State → ℕ → Step) → ((t : State) (a : ℕ) → t.unit ≡ s.unit → KeepsUnit s (next t a)) → KeepsUnit s (opening s job activity position scope parent bytes next)
+keeps_opening : (s : State) (job : Job) (activity : Activity) (position : Position) (scope : ℕ) (parent : Option ℕ) (bytes : ℕ) (next : State → ℕ → Step) → ((t : State) (a : ℕ) → t.unit ≡ s.unit → KeepsUnit s (next t a)) → KeepsUnit s (opening s job activity position scope parent bytes next)
 unfolding opening
 keeps_opening s job activity position scope parent bytes next h =
     keeps_if s (has_store_for s bytes) _ _ (h (with_area s scope parent bytes) (length s.areas) refl) (keeps_fault s job activity position _)
 
-keeps_allocating : (s : State) (job : Job) (activity : Activity) (position : Pos) (class area : ℕ) (slots : List Value) (next : State → ℕ → Step) → ((t : State) (r : ℕ) → t.unit ≡ s.unit → KeepsUnit s (next t r)) → KeepsUnit s (allocating s job activity position class area slots next)
+keeps_allocating : (s : State) (job : Job) (activity : Activity) (position : Position) (class area : ℕ) (slots : List Value) (next : State → ℕ → Step) → ((t : State) (r : ℕ) → t.unit ≡ s.unit → KeepsUnit s (next t r)) → KeepsUnit s (allocating s job activity position class area slots next)
 unfolding allocating
 keeps_allocating s job activity position class area slots next h =
     keeps_if s (has_room s area (length slots)) _ _ (h (with_object s class area slots) (length s.objects) refl) (keeps_fault s job activity position _)
 
-keeps_opened : (s : State) (job : Job) (activity : Activity) (frames : List Frame) (position : Pos) (g : Frame) (scope bytes : ℕ) → KeepsUnit s (opened_in s job activity frames position g scope bytes)
+keeps_opened : (s : State) (job : Job) (activity : Activity) (frames : List Frame) (position : Position) (g : Frame) (scope bytes : ℕ) → KeepsUnit s (opened_in s job activity frames position g scope bytes)
 unfolding opened_in
 keeps_opened s job activity frames position g scope bytes =
     keeps_if s (is_some (area_with_scope s scope activity.areas)) _ _ (keeps_fault s job activity position _)
@@ -112,7 +112,7 @@ unfolding termination_asked termination
 keeps_asked s r =
     keeps_if s (asks_for_end s.mission s.phase s.is_end_asked r) _ _ (keeps_if s (is_exec s.phase) _ _ refl refl) refl
 
-keeps_registered : (code : Code) (s : State) (job : Job) (activity : Activity) (position : Pos) (r : ℕ) (o : _) (after : State) → after.unit ≡ s.unit → KeepsUnit s (registered code s job activity position r o after)
+keeps_registered : (code : Code) (s : State) (job : Job) (activity : Activity) (position : Position) (r : ℕ) (o : _) (after : State) → after.unit ≡ s.unit → KeepsUnit s (registered code s job activity position r o after)
 unfolding registered
 keeps_registered code s job activity position r o after e =
     keeps_if s (not (is_init s.phase)) _ _ (keeps_fault s job activity position _)
@@ -140,7 +140,7 @@ keeps_either : (s : State) (b : Bool) (x y : Option Step) → KeepsUnitIf s x �
 keeps_either s true x y h k = h
 keeps_either s false x y h k = k
 
-keeps_applied : (code : Code) (s : State) (job : Job) (activity : Activity) (below : List Frame) (position : Pos) (effect : Effect) → KeepsUnitIf s (applied code s job activity below position effect)
+keeps_applied : (code : Code) (s : State) (job : Job) (activity : Activity) (below : List Frame) (position : Position) (effect : Effect) → KeepsUnitIf s (applied code s job activity below position effect)
 unfolding applied
 keeps_applied code s job activity below position (Goes f) = keeps_some s _ (unit_active s job _)
 keeps_applied code s job activity below position (Prints f label value) = keeps_some s _ (unit_active s job _)
@@ -203,12 +203,12 @@ keeps_method : (code : Code) (s : State) (r : ℕ) (name : List ℕ) → KeepsUn
 keeps_method code s r name =
     keeps_bind s (object_at s r) _ (λ o. keeps_bind s (body_named code.program o.class name) _ (λ body. keeps_body code s r body))
 
-keeps_area : (s : State) (position : Pos) (scope bytes : ℕ) → KeepsUnit s (area_opened s position scope bytes)
+keeps_area : (s : State) (position : Position) (scope bytes : ℕ) → KeepsUnit s (area_opened s position scope bytes)
 unfolding area_opened
 keeps_area s position scope bytes =
     keeps_opening s TheSequencer s.activity position scope (innermost s.activity.areas) bytes _ (λ t a k. k)
 
-keeps_safelet : (code : Code) (s : State) (position : Pos) (class area : ℕ) → KeepsUnit s (safelet_made code s position class area)
+keeps_safelet : (code : Code) (s : State) (position : Position) (class area : ℕ) → KeepsUnit s (safelet_made code s position class area)
 unfolding safelet_made
 keeps_safelet code s position class area =
     keeps_allocating s TheSequencer s.activity position class area (new_slots code.program class) _ (λ t r k. k)

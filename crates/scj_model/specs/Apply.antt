@@ -2,7 +2,7 @@
 -- event handlers, Mission). Where memory, frames, priorities or the registry don't allow an effect, a fault is its
 -- result.
 use Rattle.std.specs.Prelude.{ℕ, ◌+◌, ◌==◌, nat_lt, Bool, true, false, not, ◌&&◌, List, [], ◌∷◌, ◌++◌, length, map, filter, drop, slice_get, slice_set, Option, Some, None, if◌then◌else◌, is_some, option_map, unwrap_or, ◌||◌}
-use Rattle.scj_base.specs.declared.places.Pos.{Pos}
+use Rattle.scj_base.specs.declared.positions.Position.{Position}
 use Rattle.scj_base.specs.declared.faults.RunFault.TheVariants.{ScopedCycle, CeilingViolation, NotInitializing, TooManyHandlers, DepthFull}
 use Rattle.scj_base.specs.declared.values.Value.{Value}
 use Rattle.scj_base.specs.declared.values.Value.TheVariants.{At}
@@ -42,7 +42,7 @@ unfoldable pub ceiling_entered : Code → State → Frame → Option ℕ
 ceiling_entered code s f = monitor_of code f >>= object_at s >>= (λ o. Some o.ceiling)
 
 -- a call on top of these frames: the active priority becomes the ceiling of the monitor that is entered
-unfoldable pub called : Code → State → Job → Activity → List Frame → Pos → Frame → Step
+unfoldable pub called : Code → State → Job → Activity → List Frame → Position → Frame → Step
 called code s job activity frames position g =
     if is_full frames then fault_in s job activity position DepthFull
     else (elim (ceiling_entered code s g) [
@@ -58,7 +58,7 @@ called code s job activity frames position g =
     ])
 
 -- a call in a new area inside the caller's
-unfoldable pub opened_in : State → Job → Activity → List Frame → Pos → Frame → ℕ → ℕ → Step
+unfoldable pub opened_in : State → Job → Activity → List Frame → Position → Frame → ℕ → ℕ → Step
 opened_in s job activity frames position g scope bytes =
     if is_some (area_with_scope s scope activity.areas) then fault_in s job activity position ScopedCycle
     else (if is_full frames then fault_in s job activity position DepthFull
@@ -114,7 +114,7 @@ release_taken s handler =
     telling (record s { releases = s.releases ++ taken ∷ [] }) (Arrive s.unit handler number ∷ []))
 
 -- a handler is registered during the mission's initialisation, and once
-unfoldable pub registered : Code → State → Job → Activity → Pos → ℕ → Object → State → Step
+unfoldable pub registered : Code → State → Job → Activity → Position → ℕ → Object → State → Step
 registered code s job activity position r o after =
     if not (is_init s.phase) then fault_in s job activity position NotInitializing
     else (if is_some (handler_number s.registry r) then silently after
@@ -170,7 +170,7 @@ is_sequencer (ReleaseAt index) = false
 abbrev pub with_frame : State → Job → Activity → Frame → List Frame → State
 with_frame s job activity f below = with_activity s job (record activity { frames = f ∷ below })
 
-unfoldable pub applied : Code → State → Job → Activity → List Frame → Pos → Effect → Option Step
+unfoldable pub applied : Code → State → Job → Activity → List Frame → Position → Effect → Option Step
 applied code s job activity below position (Goes f) = Some (silently (with_frame s job activity f below))
 applied code s job activity below position (Prints f label value) =
     Some (telling (with_frame s job activity f below) (Print s.unit label value ∷ []))

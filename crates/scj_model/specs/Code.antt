@@ -1,6 +1,6 @@
 -- The code that a run executes: what a program declares, and what its nodes stand for.
 use Rattle.std.specs.Prelude.{ℕ, List, Option}
-use Rattle.scj_base.specs.declared.places.Pos.{Pos}
+use Rattle.scj_base.specs.declared.positions.Position.{Position}
 use Rattle.scj_tree.specs.declared.nodes.Node.{Node}
 use Rattle.scj_tree.specs.Forest.{Forest}
 use Rattle.scj_tree.specs.Recursion.{lookup}
@@ -27,5 +27,5 @@ binding code id = lookup Plain code.bindings id
 abbrev pub part : {A : Type 0} → Code → (Node → Option A) → ℕ → Option A
 part code reading id = read code.program.nodes reading id
 
-abbrev pub position_of_node : Code → ℕ → Pos
+abbrev pub position_of_node : Code → ℕ → Position
 position_of_node code id = position_at code.program.nodes id

@@ -1,7 +1,7 @@
 -- A run, unit by unit: arrivals, the choice, one operation, and what follows in the sequencer. One unit is one
 -- operation of one job (this project's profile; JSR 302 leaves the execution of threads to the implementation).
 use Rattle.std.specs.Prelude.{◌≡◌, ℕ, zero, suc, ◌+◌, ◌==◌, Bool, true, false, ◌||◌, List, [], ◌∷◌, ◌++◌, map, slice_get, Option, Some, None, if◌then◌else◌, codes}
-use Rattle.scj_base.specs.declared.places.Pos.{Pos}
+use Rattle.scj_base.specs.declared.positions.Position.{Position}
 use Rattle.scj_base.specs.declared.values.Value.{Value}
 use Rattle.scj_rules.specs.declared.views.Body.{Body}
 use Rattle.scj_rules.specs.declared.views.Declared.{Declared}
@@ -40,7 +40,7 @@ environment rows s =
     record { object_at = (λ r. object_at s r); statics = s.statics; reading = (λ port. reading rows port s.unit) }
 
 -- where an operation stands; LEAVE has no place, and no fault
-abbrev pub position_of_op : Code → Op → Pos
+abbrev pub position_of_op : Code → Op → Position
 position_of_op code op = elim (node_of op) [ None ↦ nowhere | Some node ↦ position_of_node code node ]
 
 -- what the first operation that a frame has left does
@@ -66,7 +66,7 @@ no_activity = record { frames = []; areas = []; priority = 0 }
 -- `handleAsyncEvent`; it stands where the handler's class is named
 unfoldable pub started_with : Code → State → ℕ → HandlerRow → ℕ → Body → Step
 started_with code s index row scope body =
-    let at : Pos = class_position code.program row.class in
+    let at : Position = class_position code.program row.class in
     opening s (ReleaseAt index) no_activity at scope (innermost s.activity.areas) row.bytes (λ t area.
     silently (with_activity t (ReleaseAt index) (record {
       frames = record (new_frame code body None (Some row.at) area []) { opened = Some area } ∷ [];

@@ -2,7 +2,7 @@
 -- It sets up the safelet, asks it for the sequencer object, and asks that one for a mission after the other.
 use Rattle.std.specs.Prelude.{ℕ, ◌+◌, Bool, false, not, ◌&&◌, ◌||◌, List, [], ◌∷◌, length, Option, Some, None, if◌then◌else◌, codes, option_map}
 use Rattle.std.specs.List.{list_any}
-use Rattle.scj_base.specs.declared.places.Pos.{Pos}
+use Rattle.scj_base.specs.declared.positions.Position.{Position}
 use Rattle.scj_base.specs.declared.faults.RunFault.TheVariants.{NullPointer}
 use Rattle.scj_base.specs.declared.values.Value.{Value}
 use Rattle.scj_base.specs.declared.values.Value.TheVariants.{Null, At}
@@ -40,13 +40,13 @@ abbrev pub done : State → Value → State
 done s value = record s { outcome = Some value }
 
 -- an area is opened inside the innermost one of the sequencer's; the sequencer has it from now on
-unfoldable pub area_opened : State → Pos → ℕ → ℕ → Step
+unfoldable pub area_opened : State → Position → ℕ → ℕ → Step
 area_opened s position scope bytes =
     opening s TheSequencer s.activity position scope (innermost s.activity.areas) bytes (λ t area.
     silently (done (record t { activity = record s.activity { areas = area ∷ s.activity.areas } }) Null))
 
 -- the safelet is made in immortal memory; its reference is the value
-unfoldable pub safelet_made : Code → State → Pos → ℕ → ℕ → Step
+unfoldable pub safelet_made : Code → State → Position → ℕ → ℕ → Step
 safelet_made code s position class area =
     allocating s TheSequencer s.activity position class area (new_slots code.program class) (λ t r.
     silently (done t (At r)))
@@ -65,7 +65,7 @@ method_called code s r name =
     object_at s r >>= (λ o. body_named code.program o.class name >>= body_called code s r)
 
 -- the place of an operation on an object: where its class is named
-abbrev pub position_of_object : Code → State → ℕ → Pos
+abbrev pub position_of_object : Code → State → ℕ → Position
 position_of_object code s r = elim (object_at s r) [ None ↦ nowhere | Some o ↦ class_position code.program o.class ]
 
 unfoldable pub sequencer_op : Code → State → SeqOp → Option Step

@@ -2,7 +2,7 @@
 -- others are made: a job ends, a fault, an area that is opened, an object that is made (JSR 302: memory areas,
 -- ManagedMemory).
 use Rattle.std.specs.Prelude.{ℕ, List, [], ◌∷◌, ◌++◌, length, slice_get, Option, Some, None, if◌then◌else◌, option_map, unwrap_or}
-use Rattle.scj_base.specs.declared.places.Pos.{Pos}
+use Rattle.scj_base.specs.declared.positions.Position.{Position}
 use Rattle.scj_base.specs.declared.faults.RunFault.{RunFault}
 use Rattle.scj_base.specs.declared.faults.RunFault.TheVariants.{MemoryFull, StoreFull}
 use Rattle.scj_base.specs.declared.values.Value.{Value}
@@ -61,7 +61,7 @@ job_ended s (ReleaseAt index) activity value =
 
 -- a fault: it ends a release, whose frames are dropped and whose areas are closed, and it halts the run of the
 -- sequencer
-unfoldable pub fault_in : State → Job → Activity → Pos → RunFault → Step
+unfoldable pub fault_in : State → Job → Activity → Position → RunFault → Step
 fault_in s TheSequencer activity position fault =
     telling (record s { phase = Over; operation = Finished; outcome = None })
     (Fault s.unit fault position ∷ Halted s.unit ∷ [])
@@ -72,13 +72,13 @@ fault_in s (ReleaseAt n) activity position fault =
 -- ---- memory
 
 -- an area is opened inside another one, if the store has room for it, and `next` goes on with its number
-unfoldable pub opening : State → Job → Activity → Pos → ℕ → Option ℕ → ℕ → (State → ℕ → Step) → Step
+unfoldable pub opening : State → Job → Activity → Position → ℕ → Option ℕ → ℕ → (State → ℕ → Step) → Step
 opening s job activity position scope parent bytes next =
     if has_store_for s bytes then next (with_area s scope parent bytes) (length s.areas)
     else fault_in s job activity position StoreFull
 
 -- an object is made in an area, if that has room for it, and `next` goes on with its reference
-unfoldable pub allocating : State → Job → Activity → Pos → ℕ → ℕ → List Value → (State → ℕ → Step) → Step
+unfoldable pub allocating : State → Job → Activity → Position → ℕ → ℕ → List Value → (State → ℕ → Step) → Step
 allocating s job activity position class area slots next =
     if has_room s area (length slots) then next (with_object s class area slots) (length s.objects)
     else fault_in s job activity position MemoryFull

@@ -1,6 +1,6 @@
 //! What a trace tells.
 
-use scj_base::{Name, NodeId, Pos, RunFault};
+use scj_base::{Name, NodeId, Position, RunFault};
 
 /// What happens in a unit: one line of the trace.
 #[derive(Clone, Copy, Debug)]
@@ -63,7 +63,7 @@ pub enum Event {
     Fault {
         unit: u64,
         fault: RunFault,
-        position: Pos,
+        position: Position,
     },
     /// A release ends.
     End {

@@ -12,7 +12,7 @@ use Rattle.scj_base.specs.Lex.{Lexes, ends, skips, takes, token_at}
 use Rattle.scj_base.specs.Lexeme.{Lexeme as Shape, Piece, lexeme, name, number, sign, text, word}
 use Rattle.scj_base.specs.declared.lexemes.Token.{Token}
 use Rattle.scj_base.specs.declared.lexemes.TokenKind.{TokenKind}
-use Rattle.scj_base.specs.declared.places.Pos.{Pos}
+use Rattle.scj_base.specs.declared.positions.Position.{Position}
 use Rattle.scj_parser.specs.Parsing.{EndsThere}
 use Rattle.scj_base.specs.declared.findings.Found.{Found}
 use Rattle.scj_base.specs.declared.findings.Rule.TheVariants.{P1}
@@ -78,12 +78,12 @@ lexed_ends bytes file before rest tokens (takes file1 before1 w rest1 kind token
 some_none : {A : Type 0} {x : A} → None ≡ Some x → Prim.⊥
 some_none e = cc
 
-pub refused_stop : (N : List Node) (i : List Lexeme) (p : Pos) → way (start N) i ≡ up_to p →
+pub refused_stop : (N : List Node) (i : List Lexeme) (p : Position) → way (start N) i ≡ up_to p →
     BreaksGrammar N i (record { pos = p; rule = P1 })
 refused_stop N i p e =
     let stop = way_stops (start N) i p e in
     let P : List Lexeme → Type 0 = λ l. RefusedAt N l p in
-    let Q : Pos → Type 0 = λ q. RefusedAt N (stop.before ++ stop.refused ∷ stop.behind) q in
+    let Q : Position → Type 0 = λ q. RefusedAt N (stop.before ++ stop.refused ∷ stop.behind) q in
     not_in_the_grammar refl
     (subst P (sym stop.whole)
     (subst Q stop.place (refused_at N stop.before stop.behind stop.refused stop.state stop.reached stop.refuses)))

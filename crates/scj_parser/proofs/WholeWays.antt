@@ -2,7 +2,7 @@
 use Rattle.std.proofs.Common.{◌≡◌, List, [], ◌∷◌, ◌++◌, Option, Some, None, refl, ◌∙◌, ap}
 use Rattle.parser_machine.specs.Machine.{answer, finished, run, step}
 use Rattle.parser_machine.specs.States.{State}
-use Rattle.scj_base.specs.declared.places.Pos.{Pos}
+use Rattle.scj_base.specs.declared.positions.Position.{Position}
 use Rattle.scj_tree.specs.Lexemes.{Lexeme, position_of_lexeme}
 use Rattle.parser_steps.specs.Outcomes.{to, up_to, way}
 
@@ -21,7 +21,7 @@ way_run st last (t ∷ o) e = go (λ next h. way_run next last o h) (step st t) 
     go f (Some next) e = f next e
 
 -- a way that stops at p: the lexemes before it, the lexeme itself and those behind it
-pub record IsStopped (st : State) (i : List Lexeme) (p : Pos) : Type 0 where
+pub record IsStopped (st : State) (i : List Lexeme) (p : Position) : Type 0 where
   pub before : List Lexeme
   pub refused : Lexeme
   pub behind : List Lexeme
@@ -31,7 +31,7 @@ pub record IsStopped (st : State) (i : List Lexeme) (p : Pos) : Type 0 where
   pub refuses : step state refused ≡ None
   pub place : position_of_lexeme refused ≡ p
 
-pub way_stops : (st : State) (i : List Lexeme) (p : Pos) → way st i ≡ up_to p → IsStopped st i p
+pub way_stops : (st : State) (i : List Lexeme) (p : Position) → way st i ≡ up_to p → IsStopped st i p
 unfolding way run
 way_stops st [] p e = cc
 way_stops st (t ∷ o) p e = go (λ next h. way_stops next o p h) (step st t) refl e

@@ -5,7 +5,7 @@ ghost use Rattle.scj_tree.specs.Heights.{highest, weight as weight_of, too_deep 
 ghost use Rattle.scj_tree.specs.Shape.{children, optional};
 ghost use Rattle.scj_parser.specs.HeightRowsSupport.{row, body_height_by, super_height_by, ChildrenWithin};
 
-use scj_base::{Memory, NodeId, Pos};
+use scj_base::{Memory, NodeId, Position};
 use scj_tree::{Node, Parts, parts_of};
 use std::alloc::Global;
 
@@ -150,7 +150,7 @@ fn super_height(heights: &Heights, super_call: Option<NodeId>) -> u32
 }
 
 /// The name of the first method or constructor from the node `first` on whose body is higher than 64.
-pub fn too_deep(alloc: Global, nodes: &[Node], first: usize) -> Result<Option<Pos>, Memory>
+pub fn too_deep(alloc: Global, nodes: &[Node], first: usize) -> Result<Option<Position>, Memory>
     requires behind { first ≤ length nodes.now }
     requires few { length nodes.now < 2 ^ 32 }
     requires children { ChildrenWithin first first (drop first nodes.now) }

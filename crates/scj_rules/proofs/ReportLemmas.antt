@@ -8,7 +8,7 @@ use Rattle.std.proofs.lemmas.List.Elements.{All-from_recursion, All-contains}
 use Rattle.std.proofs.lemmas.Map.Keys.{sorted_head}
 use Rattle.scj_base.specs.declared.findings.Found.{Found}
 use Rattle.scj_base.specs.declared.findings.Rule.{Rule}
-use Rattle.scj_base.specs.declared.places.Pos.{Pos}
+use Rattle.scj_base.specs.declared.positions.Position.{Position}
 use Rattle.scj_base.specs.Rule.{number_of}
 use Rattle.scj_rules.specs.Report.{IsReport, report_order}
 
@@ -86,7 +86,7 @@ report_order_total =
     (then_total (on_total (λ (f : Found). f.pos.line) nat_cmp_total)
     (on_total (λ (f : Found). f.pos.col) nat_cmp_total))) (on_total (λ (f : Found). number_of f.rule) nat_cmp_total)
 
-pub one_report_of : (breaks : Rule → Pos → Type 0) (xs ys : List Found) → IsReport breaks xs → IsReport breaks ys →
+pub one_report_of : (breaks : Rule → Position → Type 0) (xs ys : List Found) → IsReport breaks xs → IsReport breaks ys →
     xs ≡ ys
 one_report_of breaks xs ys h k =
     one_sorted report_order_total xs ys h.in_order k.in_order (λ z m. (k.exact z).1 ((h.exact z).0 m))

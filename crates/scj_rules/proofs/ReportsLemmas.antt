@@ -2,13 +2,13 @@
 use Rattle.std.proofs.Common.{◌≡◌, List, ◌∷◌, refl, Option}
 use Rattle.scj_base.specs.declared.findings.Found.{Found}
 use Rattle.scj_base.specs.declared.findings.Rule.{Rule}
-use Rattle.scj_base.specs.declared.places.Pos.{Pos}
+use Rattle.scj_base.specs.declared.positions.Position.{Position}
 use Rattle.scj_tree.specs.Forest.{Forest}
 use Rattle.scj_rules.specs.Report.{IsReport}
 use Rattle.scj_rules.specs.Phases.{Reports, in_the_text, in_classes, in_types, in_scopes, in_uses, nowhere, NothingBreaks, BreaksClassRules, BreaksTypeRules, BreaksScopeRules, BreaksUseRules}
 use Rattle.scj_rules.proofs.ReportLemmas.{Contains-head, one_report_of}
 
-breaks_something : (breaks : Rule → Pos → Type 0) (first : Found) (more : List Found) → IsReport breaks (first ∷ more) →
+breaks_something : (breaks : Rule → Position → Type 0) (first : Found) (more : List Found) → IsReport breaks (first ∷ more) →
     NothingBreaks breaks → ⊥
 breaks_something breaks first more r nothing =
     nothing first.rule first.pos ((r.exact first).0 (Contains-head first more))

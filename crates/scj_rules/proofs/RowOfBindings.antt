@@ -1,6 +1,6 @@
 -- What the nodes of a small program stand for: locals, fields, methods, classes and arrays by their numbers.
 use Rattle.std.proofs.Common.{◌≡◌, ℕ, [], ◌∷◌, refl, Some, None, codes, true, false, Bool}
-use Rattle.scj_base.specs.declared.places.Pos.{Pos}
+use Rattle.scj_base.specs.declared.positions.Position.{Position}
 use Rattle.scj_tree.specs.declared.nodes.Node.TheVariants.{Assign, Binary, Block, Call, Cast, Class, ClassType, Constructor, Element, ExpressionStatement, Field, FieldAccess, Flags, IntType, LocalWithValue, Method as MethodNode, NewArray, Number, Parameter, Parameters, Return, SimpleName, SuperCall, SuperType, Supers, Text, This}
 use Rattle.scj_tree.specs.Forest.{Forest}
 use Rattle.scj_rules.specs.declared.typing.Binding.TheVariants.{Plain, Local as LocalVariable, Field as InstanceField, Static, Length, Class as ClassNamed, Method, StaticMethod, Builtin}
@@ -9,7 +9,7 @@ use Rattle.scj_rules.specs.Contexts.{declarations_of}
 use Rattle.scj_rules.specs.Bindings.{bindings_in}
 use Rattle.scj_rules.proofs.Computing.{computing}
 
-abbrev at : ℕ → ℕ → ℕ → Pos
+abbrev at : ℕ → ℕ → ℕ → Position
 at file line col = record { file = file; line = line; col = col }
 
 abbrev on : ℕ → ℕ → Bool → Target

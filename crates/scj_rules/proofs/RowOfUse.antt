@@ -2,7 +2,7 @@
 use Rattle.std.proofs.Common.{◌≡◌, ℕ, [], ◌∷◌, refl, Some, None, codes, true, false}
 use Rattle.scj_base.specs.declared.findings.Found.{Found}
 use Rattle.scj_base.specs.declared.findings.Rule.{Rule}
-use Rattle.scj_base.specs.declared.places.Pos.{Pos}
+use Rattle.scj_base.specs.declared.positions.Position.{Position}
 use Rattle.scj_tree.specs.declared.nodes.Node.TheVariants.{Assign, Binary, Block, Call, Class, ClassType, Constructor, DefineScope, ExpressionStatement, Field, FieldAccess, Flags, If, IntType, LocalWithValue, LongType, Method, New, Null, Number, Parameter, Parameters, Return, ScopeName, SimpleName, SuperCall, SuperType, Supers, Text, VoidType}
 use Rattle.std.proofs.Common.{arith}
 use Rattle.scj_tree.specs.Counts.{times}
@@ -13,10 +13,10 @@ use Rattle.scj_rules.specs.Phases.{class_phase, type_phase, scope_phase, use_pha
 use Rattle.scj_rules.proofs.Computing.{computing}
 use Rattle.scj_rules.proofs.AcceptedLemmas.{accepted}
 
-abbrev at : ℕ → ℕ → ℕ → Pos
+abbrev at : ℕ → ℕ → ℕ → Position
 at file line col = record { file = file; line = line; col = col }
 
-abbrev found : Rule → Pos → Found
+abbrev found : Rule → Position → Found
 found rule position = record { pos = position; rule = rule }
 
 abbrev pub controller : Forest

@@ -3,7 +3,7 @@ use Rattle.std.proofs.Common.{◌≡◌, ℕ, [], ◌∷◌, refl, Some, None, c
 use Rattle.scj_base.specs.declared.findings.Found.{Found}
 use Rattle.scj_base.specs.declared.findings.Rule.{Rule}
 use Rattle.scj_base.specs.declared.findings.Rule.TheVariants.{C2, C8, T1, T10, T9}
-use Rattle.scj_base.specs.declared.places.Pos.{Pos}
+use Rattle.scj_base.specs.declared.positions.Position.{Position}
 use Rattle.scj_tree.specs.declared.nodes.Node.TheVariants.{Binary, Block, BooleanType, Call, Class, ClassType, DefineScope, ExpressionStatement, Flags, IntType, LocalWithValue, LongType, Method, Null, Number, Return, ScopeName, SimpleName, SuperType, Supers, Text, True, Unary, VoidType}
 use Rattle.scj_tree.specs.Forest.{Forest}
 use Rattle.scj_rules.specs.Contexts.{declarations_of}
@@ -11,10 +11,10 @@ use Rattle.scj_rules.specs.Phases.{class_phase, type_phase, scope_phase, use_pha
 use Rattle.scj_rules.proofs.Computing.{computing}
 use Rattle.scj_rules.proofs.AcceptedLemmas.{accepted}
 
-abbrev at : ℕ → ℕ → ℕ → Pos
+abbrev at : ℕ → ℕ → ℕ → Position
 at file line col = record { file = file; line = line; col = col }
 
-abbrev found : Rule → Pos → Found
+abbrev found : Rule → Position → Found
 found rule position = record { pos = position; rule = rule }
 
 abbrev pub nothing_written : Forest

@@ -3,17 +3,17 @@ use Rattle.std.proofs.Common.{◌≡◌, ℕ, [], ◌∷◌, refl, Some, None, c
 use Rattle.scj_base.specs.declared.findings.Found.{Found}
 use Rattle.scj_base.specs.declared.findings.Rule.{Rule}
 use Rattle.scj_base.specs.declared.findings.Rule.TheVariants.{A1, E5}
-use Rattle.scj_base.specs.declared.places.Pos.{Pos}
+use Rattle.scj_base.specs.declared.positions.Position.{Position}
 use Rattle.scj_tree.specs.declared.nodes.Node.TheVariants.{Assign, Block, Call, Class, ClassType, Field, FieldAccess, Flags, If, Method, Null, Parameter, Parameters, Parenthesized, Return, ScopeName, SimpleName, VoidType}
 use Rattle.scj_tree.specs.Forest.{Forest}
 use Rattle.scj_rules.specs.Contexts.{declarations_of}
 use Rattle.scj_rules.specs.Phases.{type_phase, use_phase}
 use Rattle.scj_rules.proofs.Computing.{computing}
 
-abbrev at : ℕ → ℕ → ℕ → Pos
+abbrev at : ℕ → ℕ → ℕ → Position
 at file line col = record { file = file; line = line; col = col }
 
-abbrev found : Rule → Pos → Found
+abbrev found : Rule → Position → Found
 found rule position = record { pos = position; rule = rule }
 
 -- the store of one subject of a guard in a field of the other, in either order

@@ -2,7 +2,7 @@
 -- fields with literals.
 use Rattle.std.proofs.Common.{◌≡◌, ℕ, [], ◌∷◌, refl, Some, None, codes, true, false}
 use Rattle.std.specs.Prelude.{map}
-use Rattle.scj_base.specs.declared.places.Pos.{Pos}
+use Rattle.scj_base.specs.declared.positions.Position.{Position}
 use Rattle.scj_tree.specs.declared.nodes.Node.TheVariants.{Class, Field, Flags, IntType, BooleanType, Number as NumberNode, True}
 use Rattle.scj_tree.specs.Forest.{Forest}
 use Rattle.scj_builtins.specs.Framework.{object, mission, mission_clean_up, mission_initialize, periodic_handler_handle_async_event, aperiodic_handler_handle_async_event, safelet_get_sequencer}
@@ -145,7 +145,7 @@ inherited_body = refl
 
 -- ---- class L { int a; int b = 5; static boolean c = true; }
 
-abbrev at : ℕ → Pos
+abbrev at : ℕ → Position
 at col = record { file = 0; line = 1; col = col }
 
 abbrev with_literals : Forest

@@ -2,14 +2,14 @@
 use Rattle.std.proofs.Common.{◌≡◌, ◌<◌, List, [], ◌∷◌, length, None, arith}
 use Rattle.scj_base.specs.declared.findings.Found.{Found}
 use Rattle.scj_base.specs.declared.findings.Rule.{Rule}
-use Rattle.scj_base.specs.declared.places.Pos.{Pos}
+use Rattle.scj_base.specs.declared.positions.Position.{Position}
 use Rattle.scj_tree.specs.Forest.{Forest}
 use Rattle.scj_rules.specs.Report.{IsReport}
 use Rattle.scj_rules.specs.Phases.{Reports, in_classes, in_types, in_scopes, in_uses, NothingBreaks, BreaksClassRules, BreaksTypeRules, BreaksScopeRules, BreaksUseRules}
 use Rattle.scj_rules.proofs.ReportLemmas.{none_contained}
 
 -- an empty report says that nothing is broken
-pub nothing_found : (breaks : Rule → Pos → Type 0) (found : List Found) → length found ≡ 0 → IsReport breaks found →
+pub nothing_found : (breaks : Rule → Position → Type 0) (found : List Found) → length found ≡ 0 → IsReport breaks found →
     NothingBreaks breaks
 nothing_found breaks [] e r =
     λ rule position broken. none_contained _ ((r.exact (record { pos = position; rule = rule })).1 broken)

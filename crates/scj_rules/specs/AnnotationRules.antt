@@ -4,7 +4,7 @@ use Rattle.std.specs.Prelude.{ℕ, Bool, true, false, not, ◌&&◌, ◌||◌, L
 use Rattle.scj_base.specs.declared.findings.Found.{Found}
 use Rattle.scj_base.specs.declared.findings.Rule.{Rule}
 use Rattle.scj_base.specs.declared.findings.Rule.TheVariants.{A1, A2, A3, A4, A5, A6, A7, A8, A9}
-use Rattle.scj_base.specs.declared.places.Pos.{Pos}
+use Rattle.scj_base.specs.declared.positions.Position.{Position}
 use Rattle.scj_tree.specs.declared.nodes.Node.{Node}
 use Rattle.scj_tree.specs.declared.nodes.Node.TheVariants.{Class, Field, Method, Parameter, Local, LocalWithValue}
 use Rattle.scj_rules.specs.declared.scopes.Written.{Written}
@@ -60,7 +60,7 @@ abbrev pub has_other_scope : Declarations → ℕ → Bool
 has_other_scope p class =
     differs_from_above p (scope_written_in p class) (scope_above p class) (is_implied_immortal p class)
 
-unfoldable pub a2_position : Pos → Option Written → Pos
+unfoldable pub a2_position : Position → Option Written → Position
 a2_position position None = position
 a2_position position (Some w) = w.position
 

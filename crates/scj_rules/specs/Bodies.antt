@@ -2,7 +2,7 @@
 -- the constants of the size methods, and what the framework itself looks up of the safelet and the missions (JSR 302:
 -- Safelet, Mission). Each is said of any program, also of one that breaks rules.
 use Rattle.std.specs.Prelude.{ℕ, ◌-◌, nat_lt, Bool, ◌==◌, List, [], ◌∷◌, length, map, find, slice_get, Option, Some, None, if◌then◌else◌, option_map, codes}
-use Rattle.scj_base.specs.declared.places.Pos.{Pos}
+use Rattle.scj_base.specs.declared.positions.Position.{Position}
 use Rattle.scj_builtins.specs.declared.methods.FrameworkMethod.{FrameworkMethod}
 use Rattle.scj_builtins.specs.Framework.{framework_methods, object, mission_clean_up}
 use Rattle.scj_tree.specs.declared.nodes.Node.{Node}
@@ -133,5 +133,5 @@ safelet_class p = find (is_concrete_safelet p) (numbers_from 0 p.classes)
 -- ---- places of faults that no node has
 
 -- where a user class is named
-unfoldable pub class_position : Declarations → ℕ → Pos
+unfoldable pub class_position : Declarations → ℕ → Position
 class_position p class = elim (user_class_in p.classes class) [ None ↦ nowhere | Some c ↦ c.position ]

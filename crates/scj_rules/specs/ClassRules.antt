@@ -5,7 +5,7 @@ use Rattle.std.specs.Cmp.Lexicographic.{pointwise}
 use Rattle.scj_base.specs.declared.findings.Found.{Found}
 use Rattle.scj_base.specs.declared.findings.Rule.{Rule}
 use Rattle.scj_base.specs.declared.findings.Rule.TheVariants.{C1, C2, C3, C4, C5, C6, C7, C8, C9, C10, C11}
-use Rattle.scj_base.specs.declared.places.Pos.{Pos}
+use Rattle.scj_base.specs.declared.positions.Position.{Position}
 use Rattle.scj_builtins.specs.Framework.{runnable, safelet, mission, mission_sequencer}
 use Rattle.scj_tree.specs.declared.nodes.Node.{Node}
 use Rattle.scj_tree.specs.declared.nodes.Node.TheVariants.{Class, TypeArgument, ClassType, Field, Method, Constructor, Parameter, Local, LocalWithValue, Cast, New, NewArray}
@@ -188,7 +188,7 @@ safelets_from rows class (row ∷ more) =
     ]
 
 -- line 1, column 1 of the first file
-abbrev pub first_position : Pos
+abbrev pub first_position : Position
 first_position = record { file = 0; line = 1; col = 1 }
 
 unfoldable pub c8_of : List WrittenClass → List Found

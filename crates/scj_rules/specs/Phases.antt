@@ -3,7 +3,7 @@ use Rattle.std.specs.Prelude.{ℕ, List, [], ◌∷◌, ◌++◌, length, flat_m
 use Rattle.std.specs.List.{Contains}
 use Rattle.scj_base.specs.declared.findings.Found.{Found}
 use Rattle.scj_base.specs.declared.findings.Rule.{Rule}
-use Rattle.scj_base.specs.declared.places.Pos.{Pos}
+use Rattle.scj_base.specs.declared.positions.Position.{Position}
 use Rattle.scj_tree.specs.declared.nodes.Node.{Node}
 use Rattle.scj_tree.specs.Forest.{Forest}
 use Rattle.scj_tree.specs.Recursion.{lookup, joined_below}
@@ -56,23 +56,23 @@ use_phase p =
     ++ use_breaks p (lookup None types) (lookup None scopes) id node)
 
 -- the break of a rule at a place is in a list, however often
-abbrev pub IsFound : List Found → Rule → Pos → Type 0
+abbrev pub IsFound : List Found → Rule → Position → Type 0
 IsFound found rule position = Contains found (record { pos = position; rule = rule })
 
-abbrev pub BreaksClassRules : Forest → Rule → Pos → Type 0
+abbrev pub BreaksClassRules : Forest → Rule → Position → Type 0
 BreaksClassRules forest = IsFound (class_phase (declarations_of forest))
 
-abbrev pub BreaksTypeRules : Forest → Rule → Pos → Type 0
+abbrev pub BreaksTypeRules : Forest → Rule → Position → Type 0
 BreaksTypeRules forest = IsFound (type_phase (declarations_of forest))
 
-abbrev pub BreaksScopeRules : Forest → Rule → Pos → Type 0
+abbrev pub BreaksScopeRules : Forest → Rule → Position → Type 0
 BreaksScopeRules forest = IsFound (scope_phase (declarations_of forest))
 
-abbrev pub BreaksUseRules : Forest → Rule → Pos → Type 0
+abbrev pub BreaksUseRules : Forest → Rule → Position → Type 0
 BreaksUseRules forest = IsFound (use_phase (declarations_of forest))
 
-abbrev pub NothingBreaks : (Rule → Pos → Type 0) → Type 0
-NothingBreaks breaks = (rule : Rule) (position : Pos) → ¬ (breaks rule position)
+abbrev pub NothingBreaks : (Rule → Position → Type 0) → Type 0
+NothingBreaks breaks = (rule : Rule) (position : Position) → ¬ (breaks rule position)
 
 -- no rule from C1 on is broken
 pub record IsAccepted (forest : Forest) : Type 0 where

@@ -1,7 +1,7 @@
 -- The declarations at the nodes of a program: annotations and modifiers, types, fields, methods, constructors and
 -- classes as they are written (JLS 8.1, 8.3, 8.4, 8.8).
 use Rattle.std.specs.Prelude.{ℕ, Bool, true, false, List, [], slice_get, filter_map, Option, Some, None, if◌then◌else◌, unwrap_or, is_some}
-use Rattle.scj_base.specs.declared.places.Pos.{Pos}
+use Rattle.scj_base.specs.declared.positions.Position.{Position}
 use Rattle.scj_tree.specs.declared.nodes.Node.{Node}
 use Rattle.scj_tree.specs.declared.nodes.Node.TheVariants.{Class, Flags, Supers, SuperType, IntType, BooleanType, ClassType, VoidType, LongType, Field, Method, Constructor, Parameters, Parameter, SuperCall, Local, LocalWithValue}
 use Rattle.scj_tree.specs.Shape.{position_of}
@@ -14,10 +14,10 @@ use Rattle.scj_rules.specs.declared.views.WrittenType.TheVariants.{Int as int_ty
 use Rattle.scj_rules.specs.declared.views.Declared.{Declared}
 
 -- the place of what no source declares
-abbrev pub nowhere : Pos
+abbrev pub nowhere : Position
 nowhere = record { file = 0; line = 0; col = 0 }
 
-abbrev pub position_at : List Node → ℕ → Pos
+abbrev pub position_at : List Node → ℕ → Position
 position_at nodes id = elim (slice_get nodes id) [ None ↦ nowhere | Some node ↦ position_of node ]
 
 abbrev pub no_modifiers : Modifiers
@@ -69,7 +69,7 @@ named_supers nodes (Supers position superclass interfaces) =
 named_supers nodes _ = None
 
 -- a declaration at a node, from the nodes of its modifiers and its type
-abbrev pub declared : List Node → ℕ → Pos → List ℕ → Option ℕ → ℕ → Declared
+abbrev pub declared : List Node → ℕ → Position → List ℕ → Option ℕ → ℕ → Declared
 declared nodes node position name flags declared_type =
     record {
       node = node;
@@ -134,7 +134,7 @@ method_at nodes id = read nodes (method_of nodes id) id
 -- a constructor; `super_call` has the arguments of its super call, where it has one
 pub record DeclaredConstructor : Type 0 where
   pub node : ℕ
-  pub position : Pos
+  pub position : Position
   pub name : List ℕ
   pub modifiers : Modifiers
   pub parameters : List Declared
@@ -170,7 +170,7 @@ callable_name _ = None
 -- a class as it is written
 pub record WrittenClass : Type 0 where
   pub node : ℕ
-  pub position : Pos
+  pub position : Position
   pub name : List ℕ
   pub modifiers : Modifiers
   pub extends : Option Written

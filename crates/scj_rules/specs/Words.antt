@@ -4,18 +4,18 @@ use Rattle.std.specs.List.{list_any}
 use Rattle.scj_base.specs.Bytes.{is_one_of}
 use Rattle.scj_base.specs.declared.findings.Found.{Found}
 use Rattle.scj_base.specs.declared.findings.Rule.{Rule}
-use Rattle.scj_base.specs.declared.places.Pos.{Pos}
+use Rattle.scj_base.specs.declared.positions.Position.{Position}
 
 -- the number is one of these
 abbrev pub is_among : ℕ → List ℕ → Bool
 is_among n ns = list_any (λ m. n == m) ns
 
 -- the rule is broken at the place, where the test holds
-abbrev pub broken : Bool → Rule → Pos → List Found
+abbrev pub broken : Bool → Rule → Position → List Found
 broken test rule position = if test then record { pos = position; rule = rule } ∷ [] else []
 
 -- the rule is broken at the place of each element
-abbrev pub broken_at_each : {A : Type 0} → (A → Pos) → Rule → List A → List Found
+abbrev pub broken_at_each : {A : Type 0} → (A → Position) → Rule → List A → List Found
 broken_at_each position rule xs = map (λ x. record { pos = position x; rule = rule }) xs
 
 -- the first value that f gives along a list

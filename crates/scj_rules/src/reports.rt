@@ -7,7 +7,7 @@ ghost use Rattle.scj_base.specs.declared.findings.Found.{Found as Finding};
 ghost use Rattle.scj_rules.specs.Report.{report_order};
 ghost use Rattle.scj_rules.specs.Words.{broken};
 
-use scj_base::{Found, Memory, Pos, Rule};
+use scj_base::{Found, Memory, Position, Rule};
 
 /// Puts findings in the order of a report, each once.
 pub fn put_in_order(found: &mut Vec<Found>)
@@ -19,7 +19,7 @@ pub fn put_in_order(found: &mut Vec<Found>)
 }
 
 /// Reports that a rule is broken at a place, where the test holds.
-pub fn report_if(found: &mut Vec<Found>, test: bool, rule: Rule, pos: Pos) -> Result<(), Memory>
+pub fn report_if(found: &mut Vec<Found>, test: bool, rule: Rule, pos: Position) -> Result<(), Memory>
     ensures { OnOk result (found.new.items ≡ found.old.items ++ broken test rule pos) }
 {
     if test {

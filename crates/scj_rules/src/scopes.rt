@@ -2,7 +2,7 @@
 
 use crate::typing::Scope;
 use crate::views::WrittenType;
-use scj_base::{ClassId, Name, NodeId, Pos, ScopeId};
+use scj_base::{ClassId, Name, NodeId, Position, ScopeId};
 
 /// The name of a scope, where an annotation writes it.
 #[derive(Clone, Copy, Debug)]
@@ -10,7 +10,7 @@ pub struct Written {
     /// The name.
     pub name: Name,
     /// Where it is written.
-    pub position: Pos,
+    pub position: Position,
 }
 
 /// An annotation `@DefineScope(name=.., parent=..)` before a class.

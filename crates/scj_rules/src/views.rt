@@ -1,7 +1,7 @@
 //! What the nodes of a program declare.
 
 use crate::scopes::Written;
-use scj_base::{Name, NodeId, Pos};
+use scj_base::{Name, NodeId, Position};
 
 /// The annotations and modifiers before a declaration (JLS 8.1.1, 8.3.1, 8.4.3; JSR 302: Scope, RunsIn, DefineScope).
 #[derive(Clone, Copy, Debug)]
@@ -49,7 +49,7 @@ pub struct Declared {
     /// Its node.
     pub node: NodeId,
     /// Where it is named.
-    pub position: Pos,
+    pub position: Position,
     /// Its name.
     pub name: Name,
     /// The annotations and modifiers before it.

@@ -1,7 +1,7 @@
 -- Canonical lexemes laid behind bytes of a file, and what it means that they are read as a tree that is the same.
 use Rattle.std.proofs.Common.{◌≡◌, ℕ, Bool, false, ◌==◌, List, [], ◌∷◌, ◌++◌, Option, Some, None, slice_get, length, refl, sym, ap, subst, ◌∙◌, append_assoc, append-nil}
 use Rattle.scj_base.specs.Vocabulary.{word_implements, sign_right_parenthesis, sign_comma}
-use Rattle.scj_base.specs.declared.places.Pos.{Pos}
+use Rattle.scj_base.specs.declared.positions.Position.{Position}
 use Rattle.scj_base.specs.Lex.{position_behind}
 use Rattle.scj_tree.specs.declared.nodes.Node.{Node}
 use Rattle.scj_tree.specs.declared.readings.PostKind.{PostKind}
@@ -147,7 +147,7 @@ head (text_at w p ∷ o) = Some (a_text w)
 head (sign_at n p ∷ o) = Some (a_sign n)
 head (the_end p ∷ o) = None
 
-nowhere : Pos
+nowhere : Position
 nowhere = record { file = 0; line = 0; col = 0 }
 
 unary1_head : Option Symbol → Bool
@@ -188,7 +188,7 @@ right_head : Option Symbol → Bool
 right_head (Some (a_sign n)) = n == sign_right_parenthesis
 right_head _ = false
 
-right_is : (w : List ℕ) (q : Pos) (i : List Lexeme) → closes_name (name_at w q ∷ i) ≡ right_head (head i)
+right_is : (w : List ℕ) (q : Position) (i : List Lexeme) → closes_name (name_at w q ∷ i) ≡ right_head (head i)
 unfolding head right_head closes_name
 right_is w q [] = refl
 right_is w q (name_at v p ∷ o) = refl
@@ -198,7 +198,7 @@ right_is w q (text_at v p ∷ o) = refl
 right_is w q (sign_at n p ∷ o) = refl
 right_is w q (the_end p ∷ o) = refl
 
-pub right_of_heads : (w : List ℕ) (p q : Pos) (i j : List Lexeme) → head i ≡ head j →
+pub right_of_heads : (w : List ℕ) (p q : Position) (i j : List Lexeme) → head i ≡ head j →
     closes_name (name_at w p ∷ i) ≡ closes_name (name_at w q ∷ j)
 right_of_heads w p q i j h = right_is w p i ∙ ap right_head h ∙ sym (right_is w q j)
 
@@ -261,10 +261,10 @@ counted-same (one_alike a more) = ap (λ (t : List ℕ). 0 ∷ t) (counted-same 
 -- what stands at some place
 pub record PostHere (minimum : Bool) (kind : PostKind) (M : List Node) (i : List Lexeme) (N : List Node)
     (o : List Lexeme) (id : ℕ) : Type 0 where
-  pub at : Pos
+  pub at : Position
   pub read : PostRead minimum kind at M i N o id
 
-pub post_here : {minimum : Bool} {kind : PostKind} {at : Pos} {M N : List Node} {i o : List Lexeme} {id : ℕ} →
+pub post_here : {minimum : Bool} {kind : PostKind} {at : Position} {M N : List Node} {i o : List Lexeme} {id : ℕ} →
     PostRead minimum kind at M i N o id → PostHere minimum kind M i N o id
 post_here {at = at} d = record { at = at; read = d }
 

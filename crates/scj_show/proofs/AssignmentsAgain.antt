@@ -3,7 +3,7 @@ use Rattle.std.proofs.Common.{nat_lt, append-nil, append_assoc, ◌≡◌, ℕ, 
 use Rattle.std.specs.Prelude.{if◌then◌else◌, nat_le}
 use Rattle.std.proofs.lemmas.Bool.{false≢true, eqb-true, le-leb}
 use Rattle.scj_base.specs.Vocabulary.{sign_left_parenthesis, sign_right_parenthesis, sign_semicolon, sign_assign, sign_plus, sign_minus, sign_star, sign_slash, sign_percent, sign_and, sign_or, sign_xor, sign_shift_left, sign_shift_right, sign_shift_right_unsigned, sign_plus_plus, sign_minus_minus, sign_plus_assign, sign_minus_assign, sign_star_assign, sign_slash_assign, sign_percent_assign, sign_and_assign, sign_or_assign, sign_xor_assign, sign_shift_left_assign, sign_shift_right_assign, sign_shift_right_unsigned_assign}
-use Rattle.scj_base.specs.declared.places.Pos.{Pos}
+use Rattle.scj_base.specs.declared.positions.Position.{Position}
 use Rattle.scj_base.specs.Lex.{position_behind}
 use Rattle.scj_tree.specs.declared.nodes.Node.{Node}
 use Rattle.scj_tree.specs.declared.nodes.Node.TheVariants.{Assign, Binary, Parenthesized, SimpleName, Number}
@@ -28,17 +28,17 @@ use Rattle.scj_show.proofs.ExpressionsAgain.{level_front, post_front, level_agai
 
 record LoneName (N : List Node) (i : List Lexeme) (N1 : List Node) (o : List Lexeme) (id : ℕ) : Type 0 where
   name : List ℕ
-  at : Pos
+  at : Position
   begins : i ≡ name_at name at ∷ o
   nodes : N1 ≡ put N (SimpleName at name)
   is : id ≡ length N
 
-other_sign : {A : Type 0} (i o : List Lexeme) (name : List ℕ) (q p : Pos) (n : ℕ) → i ≡ name_at name q ∷ sign_at n p
+other_sign : {A : Type 0} (i o : List Lexeme) (name : List ℕ) (q p : Position) (n : ℕ) → i ≡ name_at name q ∷ sign_at n p
     ∷ o → (n == sign_right_parenthesis) ≡ false → closes_name i ≡ true → A
 unfolding closes_name
 other_sign i o name q p n e f c = absurd (false≢true (sym f ∙ (ap closes_name (sym e) ∙ c)))
 
-no_operator : {A : Type 0} (i o : List Lexeme) (name : List ℕ) (q p : Pos) (n : ℕ) → i ≡ name_at name q ∷ sign_at n p
+no_operator : {A : Type 0} (i o : List Lexeme) (name : List ℕ) (q p : Position) (n : ℕ) → i ≡ name_at name q ∷ sign_at n p
     ∷ o → nat_le 1 (level n) ≡ true → closes_name i ≡ true → A
 unfolding closes_name level
 no_operator i o name q p n e h c =
@@ -67,7 +67,7 @@ mutual
   unary1_lone (cast h d) c = absurd (false≢true c)
   unary1_lone (post_unary d) c = post_lone d c
 
-  post_lone : {minimum : Bool} {kind : PostKind} {p : Pos} {N N1 : List Node} {i o : List Lexeme} {id : ℕ} →
+  post_lone : {minimum : Bool} {kind : PostKind} {p : Position} {N N1 : List Node} {i o : List Lexeme} {id : ℕ} →
       PostRead minimum kind p N i N1 o id → closes_name i ≡ true → LoneName N i N1 o id
   post_lone simple_name c = record { name = _; at = _; begins = refl; nodes = refl; is = refl }
   post_lone (simple_call d) c = absurd (false≢true c)
@@ -87,14 +87,14 @@ mutual
   post_lone (new_booleans d) c = absurd (false≢true c)
   post_lone (new_references d) c = absurd (false≢true c)
 
-lone_read : (M nodes : List Node) (i2 o2 : List Lexeme) (index : ℕ) (p q at : Pos) (name : List ℕ) →
+lone_read : (M nodes : List Node) (i2 o2 : List Lexeme) (index : ℕ) (p q at : Position) (name : List ℕ) →
     i2 ≡ name_at name at ∷ sign_at sign_right_parenthesis q ∷ o2 → nodes ≡ put M (SimpleName at name) →
     index ≡ length M → begins_unary1 o2 ≡ false → PostRead false Value p M (sign_at sign_left_parenthesis p ∷ i2)
     (put nodes (Parenthesized p index)) o2 (length nodes)
 lone_read M nodes i2 o2 index p q at name e n s u = rw (e, n, s) (parenthesized_name u)
 
 -- any expression in parentheses
-in_parentheses_read : (M nodes : List Node) (i2 o2 : List Lexeme) (index : ℕ) (p q : Pos) (c : Bool) →
+in_parentheses_read : (M nodes : List Node) (i2 o2 : List Lexeme) (index : ℕ) (p q : Position) (c : Bool) →
     closes_name i2 ≡ c → Level 1 M i2 nodes (sign_at sign_right_parenthesis q ∷ o2) index → begins_unary1 o2 ≡ false →
     PostRead false Value p M (sign_at sign_left_parenthesis p ∷ i2) (put nodes (Parenthesized p index)) o2
     (length nodes)
@@ -170,7 +170,7 @@ lowered zero n {N} {N1} {i} {o} {id} e d = subst (λ (m : ℕ). Level m N i N1 o
 lowered (suc k) n {N} {N1} {i} {o} {id} e d =
     lowered k (suc k) refl (tighter (subst (λ (m : ℕ). Level m N i N1 o id) e d))
 
-operation : (op : ℕ) {N N1 N2 : List Node} {i i1 o : List Lexeme} {l r : ℕ} {p : Pos} → IsOperator op →
+operation : (op : ℕ) {N N1 N2 : List Node} {i i1 o : List Lexeme} {l r : ℕ} {p : Position} → IsOperator op →
     UnaryRead N i N1 (sign_at op p ∷ i1) l → UnaryRead N1 i1 N2 o r →
     Level 1 N i (put N2 (Binary p op l r)) o (length N2)
 operation op k l r =
@@ -198,7 +198,7 @@ assignment_front (step_assignment h) =
     front-then (front-one _)
     (front-then (front-one _) (front-then (front-one _) (front-then (front-one _) (front-one _))))
 
-statement_of : (W : List Node) (id x e : ℕ) (p : Pos) → ChildrenFirst 0 W → slice_get W id ≡ Some (Assign p x e) →
+statement_of : (W : List Node) (id x e : ℕ) (p : Position) → ChildrenFirst 0 W → slice_get W id ≡ Some (Assign p x e) →
     whole W id ≡ bare W id ++ a_sign sign_semicolon ∷ []
 unfolding symbols_of_parts symbols_of_part own_symbols parts_of bare_parts
 statement_of W id x e p first at =
@@ -216,31 +216,31 @@ assignment_statement {W} first (assignment d e) f = statement_of W _ _ _ _ first
 assignment_statement {W} first (compound_assignment h d) f = statement_of W _ _ _ _ first (front-at _ _ f)
 assignment_statement {W} first (step_assignment h) f = statement_of W _ _ _ _ first (front-at _ _ f)
 
-simple_read : {M : List Node} {w : List ℕ} {p : Pos} {o : List Lexeme} →
+simple_read : {M : List Node} {w : List ℕ} {p : Position} {o : List Lexeme} →
     UnaryRead M (name_at w p ∷ o) (put M (SimpleName p w)) o (length M)
 simple_read = plain_unary (post_unary simple_name)
 
-name_alike : {W V : List Node} {x y : ℕ} {p q : Pos} (w : List ℕ) → slice_get W x ≡ Some (SimpleName p w) →
+name_alike : {W V : List Node} {x y : ℕ} {p q : Position} (w : List ℕ) → slice_get W x ≡ Some (SimpleName p w) →
     slice_get V y ≡ Some (SimpleName q w) → Alike W V x y
 unfolding shape in_order children
 name_alike w e h = alike e h refl none_alike
 
-binary_alike : {W V : List Node} {x y l r m s : ℕ} {p q : Pos} (op : ℕ) → slice_get W x ≡ Some (Binary p op l r) →
+binary_alike : {W V : List Node} {x y l r m s : ℕ} {p q : Position} (op : ℕ) → slice_get W x ≡ Some (Binary p op l r) →
     slice_get V y ≡ Some (Binary q op m s) → Alike W V l m → Alike W V r s → Alike W V x y
 unfolding shape in_order children
 binary_alike op e h a b = alike e h refl (one_alike a (one_alike b none_alike))
 
-assign_alike : {W V : List Node} {x y l r m s : ℕ} {p q : Pos} → slice_get W x ≡ Some (Assign p l r) →
+assign_alike : {W V : List Node} {x y l r m s : ℕ} {p q : Position} → slice_get W x ≡ Some (Assign p l r) →
     slice_get V y ≡ Some (Assign q m s) → Alike W V l m → Alike W V r s → Alike W V x y
 unfolding shape in_order children
 assign_alike e h a b = alike e h refl (one_alike a (one_alike b none_alike))
 
-paren_alike : {W V : List Node} {x y l m : ℕ} {p q : Pos} → slice_get W x ≡ Some (Parenthesized p l) →
+paren_alike : {W V : List Node} {x y l m : ℕ} {p q : Position} → slice_get W x ≡ Some (Parenthesized p l) →
     slice_get V y ≡ Some (Parenthesized q m) → Alike W V l m → Alike W V x y
 unfolding shape in_order children
 paren_alike e h a = alike e h refl (one_alike a none_alike)
 
-number_alike : {W V : List Node} {x y : ℕ} {p q : Pos} (n : ℕ) → slice_get W x ≡ Some (Number p n false) →
+number_alike : {W V : List Node} {x y : ℕ} {p q : Position} (n : ℕ) → slice_get W x ≡ Some (Number p n false) →
     slice_get V y ≡ Some (Number q n false) → Alike W V x y
 unfolding shape in_order children
 number_alike n e h = alike e h refl none_alike

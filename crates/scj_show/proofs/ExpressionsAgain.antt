@@ -1,7 +1,7 @@
 -- The canonical lexemes of an expression are read as the same expression.
 use Rattle.std.proofs.Common.{◌≡◌, ℕ, Bool, true, false, List, [], ◌∷◌, ◌++◌, Some, None, slice_get, length, refl, sym, ap, ◌∙◌}
 use Rattle.scj_base.specs.Vocabulary.{word_boolean, word_false, word_int, word_new, word_null, word_this, word_true, sign_left_parenthesis, sign_right_parenthesis, sign_left_bracket, sign_right_bracket, sign_comma, sign_dot, sign_minus, sign_not, sign_tilde}
-use Rattle.scj_base.specs.declared.places.Pos.{Pos}
+use Rattle.scj_base.specs.declared.positions.Position.{Position}
 use Rattle.scj_base.specs.Lex.{position_behind}
 use Rattle.scj_tree.specs.declared.nodes.Node.{Node}
 use Rattle.scj_tree.specs.declared.nodes.Node.TheVariants.{IntType, BooleanType, ClassType, Binary, Unary, Cast, Parenthesized, SimpleName, FieldAccess, Call, Element, New, NewArray, Text, Number, True, False, Null, This}
@@ -37,7 +37,7 @@ mutual
   unary1_front (cast h d) = front-then (unary1_front d) (front-one _)
   unary1_front (post_unary d) = post_front d
 
-  pub post_front : {minimum : Bool} {kind : PostKind} {p : Pos} {N N1 : List Node} {i o : List Lexeme} {id : ℕ} →
+  pub post_front : {minimum : Bool} {kind : PostKind} {p : Position} {N N1 : List Node} {i o : List Lexeme} {id : ℕ} →
       PostRead minimum kind p N i N1 o id → Front N N1
   post_front simple_name = (front-one _)
   post_front (simple_call d) = front-then (arguments_front d) (front-one _)
@@ -182,7 +182,7 @@ mutual
       again_of a.nodes a.place a.grown (post_unary a.read.read) a.heads a.closes a.alike
 
   pub post_again : (W : List Node) → ChildrenFirst 0 W →
-      (file : ℕ) (M : List Node) (b : List ℕ) (o2 : List Lexeme) {minimum : Bool} {kind : PostKind} {p : Pos}
+      (file : ℕ) (M : List Node) (b : List ℕ) (o2 : List Lexeme) {minimum : Bool} {kind : PostKind} {p : Position}
       {N N1 : List Node} {i o : List Lexeme} {id : ℕ} → PostRead minimum kind p N i N1 o id → Front N1 W → Calm o o2 →
       Again (PostHere minimum kind) W M i o (laid file b (whole W id) o2) o2 id
   post_again W first file M b o2 (simple_name {N = N} {w = w} {p = p} {o = o}) f h =

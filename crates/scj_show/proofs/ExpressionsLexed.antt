@@ -1,6 +1,6 @@
 -- A text may hold the lexemes of an expression that was read from a source.
 use Rattle.std.proofs.Common.{ℕ, Bool, List, refl}
-use Rattle.scj_base.specs.declared.places.Pos.{Pos}
+use Rattle.scj_base.specs.declared.positions.Position.{Position}
 use Rattle.scj_tree.specs.declared.nodes.Node.{Node}
 use Rattle.scj_tree.specs.declared.readings.PostKind.{PostKind}
 use Rattle.scj_tree.specs.Lexemes.{Lexeme}
@@ -51,7 +51,7 @@ mutual
       (sign_part refl (whole_part (unary1_lexed first d (behind3 a) (front-put _ _ f)) last))))
   unary1_lexed first (post_unary d) a f = post_lexed first d a f
 
-  pub post_lexed : {minimum : Bool} {kind : PostKind} {p : Pos} {W N N1 : List Node} {i o : List Lexeme} {id : ℕ} →
+  pub post_lexed : {minimum : Bool} {kind : PostKind} {p : Position} {W N N1 : List Node} {i o : List Lexeme} {id : ℕ} →
       ChildrenFirst 0 W → PostRead minimum kind p N i N1 o id → AreOfSource i → Front N1 W → IsLexed W id
   post_lexed first simple_name a f = node_lexed first (front-at _ _ f) refl (name_part (name_first a) last)
   post_lexed first (simple_call d) a f =

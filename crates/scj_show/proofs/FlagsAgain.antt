@@ -3,7 +3,7 @@ use Rattle.std.proofs.Common.{append-nil, ◌≡◌, ℕ, Bool, true, false, ◌
 use Rattle.std.specs.Prelude.{codes, if◌then◌else◌}
 use Rattle.std.proofs.lemmas.Bool.{false≢true, eqb-true}
 use Rattle.scj_base.specs.Vocabulary.{word_public, word_protected, word_private, word_final, word_static, word_abstract, word_synchronized, sign_at as at_sign, sign_left_parenthesis, sign_right_parenthesis, sign_comma, sign_assign}
-use Rattle.scj_base.specs.declared.places.Pos.{Pos}
+use Rattle.scj_base.specs.declared.positions.Position.{Position}
 use Rattle.scj_base.specs.Lex.{position_behind}
 use Rattle.scj_tree.specs.declared.nodes.Node.{Node}
 use Rattle.scj_tree.specs.declared.nodes.Node.TheVariants.{Flags, DefineScope, ScopeName}
@@ -28,14 +28,14 @@ use Rattle.scj_show.proofs.Printing.{symbols_of_parts-append}
 
 -- a scope's name among W
 pub record IsScope (W : List Node) (id : ℕ) : Type 0 where
-  pub position : Pos
+  pub position : Position
   pub name : List ℕ
   pub there : slice_get W id ≡ Some (ScopeName position name)
   pub is : is_name name ≡ true
 
 -- a scope's definition among W
 pub record IsDefinition (W : List Node) (id : ℕ) : Type 0 where
-  pub position : Pos
+  pub position : Position
   pub first : ℕ
   pub second : ℕ
   pub parent_first : Bool
@@ -100,7 +100,7 @@ scope_said : (W : List Node) → ChildrenFirst 0 W → (id : ℕ) (s : IsScope W
 unfolding symbols_of_parts symbols_of_part own_symbols parts_of
 scope_said W first id s = whole_at W _ _ first s.there
 
-same_name : {W V : List Node} {x y : ℕ} {p q : Pos} (w : List ℕ) → slice_get W x ≡ Some (ScopeName p w) →
+same_name : {W V : List Node} {x y : ℕ} {p q : Position} (w : List ℕ) → slice_get W x ≡ Some (ScopeName p w) →
     slice_get V y ≡ Some (ScopeName q w) → Alike W V x y
 unfolding shape in_order children
 same_name w e h = alike e h refl none_alike
@@ -114,7 +114,7 @@ with_scope_again is_local W first file M i2 b t define None not_there row = row
 with_scope_again is_local W first file M i2 b t define (Some id) (is_there s) row =
     let b3 : List ℕ = ((b ++ printed (a_sign at_sign)) ++ printed (a_name (codes "Scope")))
     ++ printed (a_sign sign_left_parenthesis) in
-    let p3 : Pos = position_behind file b3 in
+    let p3 : Position = position_behind file b3 in
     let made : Node = ScopeName p3 s.name in
     let ending : List Symbol → List Lexeme = λ ss. sign_at at_sign (position_behind file b)
     ∷ name_at (codes "Scope") (position_behind file (b ++ printed (a_sign at_sign)))
@@ -146,7 +146,7 @@ with_runs_in_again is_local W first file M i2 b t define scope None not_there ro
 with_runs_in_again is_local W first file M i2 b t define scope (Some id) (is_there s) row =
     let b3 : List ℕ = ((b ++ printed (a_sign at_sign)) ++ printed (a_name (codes "RunsIn")))
     ++ printed (a_sign sign_left_parenthesis) in
-    let p3 : Pos = position_behind file b3 in
+    let p3 : Position = position_behind file b3 in
     let made : Node = ScopeName p3 s.name in
     let ending : List Symbol → List Lexeme = λ ss. sign_at at_sign (position_behind file b)
     ∷ name_at (codes "RunsIn") (position_behind file (b ++ printed (a_sign at_sign)))
@@ -179,7 +179,7 @@ definition_symbols name parent = a_sign at_sign ∷ a_name (codes "DefineScope")
 definition_again : (is_local : Bool) (W : List Node) → ChildrenFirst 0 W →
     (file : ℕ) (M : List Node) (i2 : List Lexeme) (b : List ℕ) (t : List Lexeme) (id name parent : ℕ) → IsScope W name →
     IsScope W parent → whole W id ≡ definition_symbols (whole W name) (whole W parent) →
-    ((V : List Node) (k n m : ℕ) (q : Pos) → slice_get V k ≡ Some (DefineScope q n m false) → Alike W V name n →
+    ((V : List Node) (k n m : ℕ) (q : Position) → slice_get V k ≡ Some (DefineScope q n m false) → Alike W V name n →
     Alike W V parent m → Alike W V id k) →
     Row is_local W M i2 (laid file b (whole W id ++ []) t) None None None false false false →
     Row is_local W M i2 t (Some id) None None false false false
@@ -220,7 +220,7 @@ definition_again is_local W first file M i2 b t id name parent sn sm said same r
     }
 
 either_order : (is_local : Bool) (W : List Node) → ChildrenFirst 0 W →
-    (file : ℕ) (M : List Node) (i2 : List Lexeme) (b : List ℕ) (t : List Lexeme) (id : ℕ) (position : Pos) (x y : ℕ)
+    (file : ℕ) (M : List Node) (i2 : List Lexeme) (b : List ℕ) (t : List Lexeme) (id : ℕ) (position : Position) (x y : ℕ)
     (parent_first : Bool) → slice_get W id ≡ Some (DefineScope position x y parent_first) → IsScope W x → IsScope W y →
     Row is_local W M i2 (laid file b (whole W id ++ []) t) None None None false false false →
     Row is_local W M i2 t (Some id) None None false false false
@@ -437,10 +437,10 @@ plain_locals (runs_in_flag d h v) = plain_locals d
 plain_locals (define_scope_flag d h v w) = plain_locals d
 plain_locals (define_scope_flag_parent_first d h v w) = plain_locals d
 
-abbrev or_place : Pos → Option Pos → Option Pos
+abbrev or_place : Position → Option Position → Option Position
 or_place p position = elim position [ None ↦ Some p | Some q ↦ Some q ]
 
-placed_somewhere : {B : Type 0} (p : Pos) (position : Option Pos) → or_place p position ≡ None → B
+placed_somewhere : {B : Type 0} (p : Position) (position : Option Position) → or_place p position ≡ None → B
 placed_somewhere p None e = some_is_none p (sym e)
 placed_somewhere p (Some q) e = some_is_none q (sym e)
 
@@ -598,7 +598,7 @@ words_again false W file M i2 b1 b2 b3 o2 flags fit row =
     (with_abstract_again W file M i2 b2 _ flags.define_scope flags.scope flags.runs_in flags.is_static flags.is_abstract
     (with_static_again W file M i2 b1 _ flags.define_scope flags.scope flags.runs_in flags.is_static row))
 
-abbrev flag_set : Option Pos → Option ℕ → Option ℕ → Option ℕ → Bool → Bool → Bool → FlagSet
+abbrev flag_set : Option Position → Option ℕ → Option ℕ → Option ℕ → Bool → Bool → Bool → FlagSet
 flag_set position define scope runs_in is_static is_abstract is_synchronized =
     record {
       position = position;
@@ -615,7 +615,7 @@ flag_set position define scope runs_in is_static is_abstract is_synchronized =
       is_synchronized = is_synchronized;
     }
 
-effect_there : (position : Option Pos) (x y z : Option ℕ) (a b c : Bool) →
+effect_there : (position : Option Position) (x y z : Option ℕ) (a b c : Bool) →
     has_effect (flag_set position x y z a b c) ≡ has_effect (flag_set None (there x) (there y) (there z) a b c)
 unfolding has_effect
 effect_there position None None None a b c = refl
@@ -648,10 +648,10 @@ same_effect f g d s r a b c =
 -- the node of flags that have an effect
 pub record HasNode (flags : FlagSet) (node : Node) : Type 0 where
   pub effect : has_effect flags ≡ true
-  pub at : Pos
+  pub at : Position
   pub is : node ≡ flags_at at flags
 
-has_node_at : (flags : FlagSet) (node : Node) (e : Bool) (position : Option Pos) → has_effect flags ≡ e →
+has_node_at : (flags : FlagSet) (node : Node) (e : Bool) (position : Option Position) → has_effect flags ≡ e →
     (if e then elim position [ None ↦ None | Some p ↦ Some (flags_at p flags) ] else None) ≡ Some node → HasNode flags node
 has_node_at flags node false position is h = some_is_none node h
 has_node_at flags node true None is h = some_is_none node h
@@ -662,14 +662,14 @@ pub has_node : (flags : FlagSet) (node : Node) → flags_node flags ≡ Some nod
 unfolding flags_node
 has_node flags node h = has_node_at flags node (has_effect flags) flags.position refl h
 
-node_at_place : (flags : FlagSet) (position : Option Pos) → flags.position ≡ position → has_effect flags ≡ true →
-    (position ≡ None → has_effect flags ≡ false) → (p : Pos) × (flags_node flags ≡ Some (flags_at p flags))
+node_at_place : (flags : FlagSet) (position : Option Position) → flags.position ≡ position → has_effect flags ≡ true →
+    (position ≡ None → has_effect flags ≡ false) → (p : Position) × (flags_node flags ≡ Some (flags_at p flags))
 unfolding flags_node
 node_at_place flags None is e none = absurd (false≢true (sym (none refl) ∙ e))
 node_at_place flags (Some p) is e none = (
   p,
   ap (λ (t : Bool). if t then elim flags.position [ None ↦ None | Some q ↦ Some (flags_at q flags) ] else None) e
-      ∙ ap (λ (t : Option Pos). elim t [ None ↦ None | Some q ↦ Some (flags_at q flags) ]) is,
+      ∙ ap (λ (t : Option Position). elim t [ None ↦ None | Some q ↦ Some (flags_at q flags) ]) is,
 )
 
 abbrev pub with_node : List Node → Option Node → List Node
@@ -687,7 +687,7 @@ pub record FlagsTold (is_local : Bool) (W M : List Node) (i2 o2 : List Lexeme) (
   pub alike : (V : List Node) → Front (with_flags nodes flags) V → MaybeAlike W V number (flags_number nodes flags)
 
 -- the lexemes of flags
-pub said_of_flags : (W : List Node) (n : ℕ) (p : Pos) (flags : FlagSet) → ChildrenFirst 0 W →
+pub said_of_flags : (W : List Node) (n : ℕ) (p : Position) (flags : FlagSet) → ChildrenFirst 0 W →
     slice_get W n ≡ Some (flags_at p flags) → maybe_symbols W (Some n) ≡ maybe_symbols W flags.define_scope
     ++ (annotation_symbols W (codes "Scope") flags.scope
     ++ (annotation_symbols W (codes "RunsIn") flags.runs_in
@@ -701,7 +701,7 @@ said_of_flags W n p flags first at =
     flags.is_synchronized) = whole_at W _ _ first at in
     append-nil (whole W n) ∙ said ∙ simp symbols_of_parts-append
 
-flags_are_alike : (W V : List Node) (x y : ℕ) (p q : Pos) (f g : FlagSet) → slice_get W x ≡ Some (flags_at p f) →
+flags_are_alike : (W V : List Node) (x y : ℕ) (p q : Position) (f g : FlagSet) → slice_get W x ≡ Some (flags_at p f) →
     slice_get V y ≡ Some (flags_at q g) → MaybeAlike W V f.define_scope g.define_scope →
     MaybeAlike W V f.scope g.scope → MaybeAlike W V f.runs_in g.runs_in → g.is_static ≡ f.is_static →
     g.is_abstract ≡ f.is_abstract → g.is_synchronized ≡ f.is_synchronized → Alike W V x y
@@ -716,7 +716,7 @@ flags_are_alike W V x y p q f g at here d s r a b c =
     alike at here same (optional-alike d (optional-alike s (optional-alike-last r)))
 
 some_flags_again : (is_local : Bool) (W : List Node) → ChildrenFirst 0 W →
-    (file : ℕ) (M : List Node) (b : List ℕ) (o2 : List Lexeme) (n : ℕ) (p : Pos) (flags : FlagSet) →
+    (file : ℕ) (M : List Node) (b : List ℕ) (o2 : List Lexeme) (n : ℕ) (p : Position) (flags : FlagSet) →
     FitLocal is_local flags → Facts W flags → has_effect flags ≡ true → slice_get W n ≡ Some (flags_at p flags) →
     FlagsTold is_local W M (laid file b (maybe_symbols W (Some n)) o2) o2 (Some n)
 unfolding with_flags flags_number
@@ -747,7 +747,7 @@ some_flags_again is_local W first file M b o2 n p flags fit known effect at =
     same_effect flags row.flags (there-same (row.same_define row.nodes front-none))
     (there-same (row.same_scope row.nodes front-none)) (there-same (row.same_runs_in row.nodes front-none))
     (sym row.same_static) (sym row.same_abstract) (sym row.same_synchronized) in
-    let found : (q : Pos) × (flags_node row.flags ≡ Some (flags_at q row.flags)) =
+    let found : (q : Position) × (flags_node row.flags ≡ Some (flags_at q row.flags)) =
     node_at_place row.flags row.flags.position refl (sym same ∙ effect) (bare_flags row.read) in
     record {
       nodes = row.nodes;

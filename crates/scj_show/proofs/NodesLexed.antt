@@ -1,7 +1,7 @@
 -- Nodes and parts of nodes whose lexemes a text may hold.
 use Rattle.std.proofs.Common.{◌≡◌, ℕ, ◌≤◌, nat_lt, true, List, [], ◌∷◌, ◌++◌, Option, Some, None, slice_get, refl, sym, ap, subst, ◌∙◌}
 use Rattle.std.proofs.lemmas.Bool.{ltb-true}
-use Rattle.scj_base.specs.declared.places.Pos.{Pos}
+use Rattle.scj_base.specs.declared.positions.Position.{Position}
 use Rattle.scj_base.specs.Lexeme.{AllOf, is_text_byte, is_name}
 use Rattle.scj_tree.specs.declared.nodes.Node.{Node}
 use Rattle.scj_tree.specs.declared.nodes.Node.TheVariants.{Text}
@@ -75,7 +75,7 @@ pub bare_lexed : {W : List Node} {id : ℕ} {node : Node} → ChildrenFirst 0 W 
 bare_lexed {W} {id} {node} first at parts =
     record { are = subst AreLexemes (sym (bare_at W id node first at)) (parts_are parts) }
 
-pub text_lexed : {W : List Node} {id : ℕ} {p : Pos} {w : List ℕ} → ChildrenFirst 0 W →
+pub text_lexed : {W : List Node} {id : ℕ} {p : Position} {w : List ℕ} → ChildrenFirst 0 W →
     slice_get W id ≡ Some (Text p w) → AllOf is_text_byte w → IsLexed W id
 unfolding AreLexemes IsLexeme own_symbols symbols_of_parts parts_of
 text_lexed {W} {id} {p} {w} first at h =

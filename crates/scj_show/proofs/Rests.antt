@@ -1,7 +1,7 @@
 -- What is left of the lexemes of a source behind something that is read are lexemes of a source.
 use Rattle.std.specs.Prelude.{ℕ, Bool, List, ◌∷◌, Option}
 use Rattle.scj_base.specs.Vocabulary.{word_package, sign_semicolon}
-use Rattle.scj_base.specs.declared.places.Pos.{Pos}
+use Rattle.scj_base.specs.declared.positions.Position.{Position}
 use Rattle.scj_tree.specs.declared.nodes.Node.{Node}
 use Rattle.scj_tree.specs.declared.readings.FlagSet.{FlagSet}
 use Rattle.scj_tree.specs.declared.readings.PostKind.{PostKind}
@@ -131,7 +131,7 @@ mutual
   unary1_rest (cast h d) a = unary1_rest d (behind3 a)
   unary1_rest (post_unary d) a = post_rest d a
 
-  pub post_rest : {minimum : Bool} {kind : PostKind} {p : Pos} {N N1 : List Node} {i o : List Lexeme} {id : ℕ} →
+  pub post_rest : {minimum : Bool} {kind : PostKind} {p : Position} {N N1 : List Node} {i o : List Lexeme} {id : ℕ} →
       PostRead minimum kind p N i N1 o id → AreOfSource i → AreOfSource o
   post_rest simple_name a = behind a
   post_rest (simple_call d) a = arguments_rest d (behind2 a)
@@ -240,6 +240,6 @@ classes_rest (one_class_more d e) a = class_rest e (classes_rest d a)
 
 -- a file's name of its package and its imports
 
-pub named_package_rest : {i i1 : List Lexeme} {r q : Pos} → Dotted i (a_sign sign_semicolon q ∷ i1) →
+pub named_package_rest : {i i1 : List Lexeme} {r q : Position} → Dotted i (a_sign sign_semicolon q ∷ i1) →
     AreOfSource (a_word word_package r ∷ i) → AreOfSource i1
 named_package_rest d a = behind (dotted_rest d (behind a))

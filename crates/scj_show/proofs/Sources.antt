@@ -8,7 +8,7 @@ use Rattle.scj_base.specs.declared.lexemes.Token.{Token}
 use Rattle.scj_base.specs.declared.lexemes.TokenKind.{TokenKind}
 use Rattle.scj_base.specs.declared.lexemes.TokenKind.TheVariants.{Name}
 use Rattle.std.specs.Prelude.{◌↔◌}
-use Rattle.scj_base.specs.declared.places.Pos.{Pos}
+use Rattle.scj_base.specs.declared.positions.Position.{Position}
 use Rattle.scj_base.specs.Lexeme.{is_letter, is_digit, is_name_byte, is_text_byte, AllOf, IsWordLike, IsReserved, Lexeme as Shape, Piece, is_name}
 use Rattle.scj_base.specs.Lexeme.Lexeme.{name, word, number, text, sign}
 use Rattle.scj_base.specs.Lexeme.Piece.{lexeme}
@@ -149,18 +149,18 @@ behind2 (one_more h (one_more k a)) = a
 pub behind3 : {x y z : Lexeme} {xs : List Lexeme} → AreOfSource (x ∷ y ∷ z ∷ xs) → AreOfSource xs
 behind3 (one_more h (one_more k (one_more l a))) = a
 
-pub name_first : {w : List ℕ} {p : Pos} {xs : List Lexeme} → AreOfSource (name_at w p ∷ xs) → is_name w ≡ true
+pub name_first : {w : List ℕ} {p : Position} {xs : List Lexeme} → AreOfSource (name_at w p ∷ xs) → is_name w ≡ true
 unfolding IsOfSource
 name_first (one_more h a) = h
 
-pub text_first : {w : List ℕ} {p : Pos} {xs : List Lexeme} → AreOfSource (text_at w p ∷ xs) → AllOf is_text_byte w
+pub text_first : {w : List ℕ} {p : Position} {xs : List Lexeme} → AreOfSource (text_at w p ∷ xs) → AllOf is_text_byte w
 unfolding IsOfSource
 text_first (one_more h a) = h
 
-pub number_first : {n : ℕ} {p : Pos} {xs : List Lexeme} → AreOfSource (number_at n p ∷ xs) → n ≤ 2147483648
+pub number_first : {n : ℕ} {p : Position} {xs : List Lexeme} → AreOfSource (number_at n p ∷ xs) → n ≤ 2147483648
 unfolding IsOfSource
 number_first (one_more h a) = h
 
-pub sign_first : {n : ℕ} {p : Pos} {xs : List Lexeme} → AreOfSource (sign_at n p ∷ xs) → nat_lt n 50 ≡ true
+pub sign_first : {n : ℕ} {p : Position} {xs : List Lexeme} → AreOfSource (sign_at n p ∷ xs) → nat_lt n 50 ≡ true
 unfolding IsOfSource
 sign_first (one_more h a) = h

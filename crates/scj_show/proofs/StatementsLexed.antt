@@ -1,6 +1,6 @@
 -- A text may hold the lexemes of a statement that was read from a source.
 use Rattle.std.proofs.Common.{◌≡◌, ℕ, List, Option, Some, slice_get, refl, arith}
-use Rattle.scj_base.specs.declared.places.Pos.{Pos}
+use Rattle.scj_base.specs.declared.positions.Position.{Position}
 use Rattle.scj_tree.specs.declared.nodes.Node.{Node}
 use Rattle.scj_tree.specs.declared.nodes.Node.TheVariants.{Assign}
 use Rattle.scj_tree.specs.Lexemes.{Lexeme}
@@ -26,7 +26,7 @@ pub record IsAssigned (W : List Node) (id : ℕ) : Type 0 where
   pub whole : IsLexed W id
   pub bare : IsBareLexed W id
 
-assign_lexed : {W : List Node} {id x e : ℕ} {p : Pos} → ChildrenFirst 0 W → slice_get W id ≡ Some (Assign p x e) →
+assign_lexed : {W : List Node} {id x e : ℕ} {p : Position} → ChildrenFirst 0 W → slice_get W id ≡ Some (Assign p x e) →
     IsLexed W x → IsLexed W e → IsAssigned W id
 unfolding own_symbols parts_of bare_parts
 assign_lexed first at h k =

@@ -3,14 +3,14 @@ use Rattle.std.proofs.Common.{◌≡◌, true, false, [], ◌∷◌, Some, None,
 use Rattle.std.specs.Prelude.{codes}
 use Rattle.std.specs.Fmt.{digits}
 use Rattle.scj_base.specs.Vocabulary.{words, signs, sign_plus, sign_star}
-use Rattle.scj_base.specs.declared.places.Pos.{Pos}
+use Rattle.scj_base.specs.declared.positions.Position.{Position}
 use Rattle.scj_tree.specs.declared.nodes.Node.TheVariants.{Class, Flags, DefineScope, ScopeName, Supers, SuperType, TypeArgument, IntType, VoidType, Field, Method, Constructor, Parameters, Parameter, SuperCall, Block, LocalWithValue, Assign, For, Binary, Cast, Parenthesized, SimpleName, Text, Number, Null}
 use Rattle.scj_tree.specs.Forest.{forest_of}
 use Rattle.scj_tree.specs.Recursion.{bottom_up}
 use Rattle.scj_show.specs.Parts.{maybe, each, each_behind_comma, listed, in_parentheses, word_if_set, sign_if_set, annotation, scope_definition, argument_in_brackets, brackets, extended, implemented, assigned, parameters_or_none, body_or_semicolon, body_with_call, class_parts, flag_parts, field_parts, method_parts, constructor_parts, super_call_parts, block_end, parts_of, bare_parts}
 use Rattle.scj_show.specs.Symbols.{bytes_of, separator, canonical, symbols_of_part, symbols_of_parts, own_symbols, written_node, written, symbols_of, text_of_file}
 
-abbrev p : Pos
+abbrev p : Position
 p = record { file = 0; line = 1; col = 1 }
 
 -- `/* c */ public class A{int x;}`

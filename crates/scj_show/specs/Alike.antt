@@ -1,12 +1,12 @@
 -- Trees that are the same but for the places of their nodes. Where a definition of a scope or the flags stand in
 -- another order, their nodes have other numbers, so trees are compared and not rows of nodes.
 use Rattle.std.specs.Prelude.{◌≡◌, ℕ, true, false, List, [], ◌∷◌, map, Option, Some, None, slice_get}
-use Rattle.scj_base.specs.declared.places.Pos.{Pos}
+use Rattle.scj_base.specs.declared.positions.Position.{Position}
 use Rattle.scj_tree.specs.declared.nodes.Node.{Node}
 use Rattle.scj_tree.specs.declared.nodes.Node.TheVariants.{Class, Flags, DefineScope, ScopeName, Supers, SuperType, TypeArgument, IntType, BooleanType, ClassType, VoidType, LongType, Field, Method, Constructor, Parameters, Parameter, SuperCall, Block, Empty, Local, LocalWithValue, Assign, ExpressionStatement, If, While, For, Return, Binary, Unary, Cast, Parenthesized, SimpleName, FieldAccess, Call, Element, New, NewArray, Text, Number, True, False, Null, This}
 use Rattle.scj_tree.specs.Shape.{children}
 
-abbrev pub nowhere : Pos
+abbrev pub nowhere : Position
 nowhere = record { file = 0; line = 0; col = 0 }
 
 -- that a child is there, and how many children there are

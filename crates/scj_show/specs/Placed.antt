@@ -1,6 +1,6 @@
 -- Lexemes that a text may hold, and where they stand in their canonical text.
 use Rattle.std.specs.Prelude.{◌≡◌, ℕ, ◌<◌, ◌≤◌, true, List, [], ◌∷◌, ◌++◌, length}
-use Rattle.scj_base.specs.declared.places.Pos.{Pos}
+use Rattle.scj_base.specs.declared.positions.Position.{Position}
 use Rattle.scj_base.specs.declared.lexemes.Token.{Token}
 use Rattle.scj_base.specs.declared.lexemes.TokenKind.{TokenKind}
 use Rattle.scj_base.specs.declared.lexemes.TokenKind.TheVariants.{Name, Word, Number, Text, Sign, End}
@@ -28,7 +28,7 @@ kind_of (a_word n) = Word n
 kind_of (a_sign n) = Sign n
 kind_of (a_number n) = Number n
 
-unfoldable pub lexeme_at : Symbol → Pos → Lexeme
+unfoldable pub lexeme_at : Symbol → Position → Lexeme
 lexeme_at (a_name w) p = name_at w p
 lexeme_at (a_text w) p = text_at w p
 lexeme_at (a_word n) p = word_at n p

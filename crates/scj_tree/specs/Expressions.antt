@@ -1,6 +1,6 @@
 -- The grammar, second part: expressions and the arguments of calls (JLS 15).
 use Rattle.std.specs.Prelude.{◌≡◌, ℕ, suc, Bool, true, false, List, [], ◌∷◌, ◌++◌, Some, None}
-use Rattle.scj_base.specs.declared.places.Pos.{Pos}
+use Rattle.scj_base.specs.declared.positions.Position.{Position}
 use Rattle.scj_base.specs.Lexeme.{greatest_number}
 use Rattle.scj_base.specs.Vocabulary.{word_boolean, word_false, word_int, word_new, word_null, word_this, word_true, sign_left_parenthesis, sign_right_parenthesis, sign_left_bracket, sign_right_bracket, sign_comma, sign_dot, sign_minus, sign_not, sign_tilde}
 use Rattle.scj_tree.specs.declared.nodes.Node.{Node}
@@ -43,7 +43,7 @@ mutual
     post_unary : {N N1 i o e kind p : _} → PostRead false kind p N i N1 o e → Unary1Read N i N1 o e
 
   -- what stands at p; `true` where it begins with the literal -2147483648, which stands only where a unary `-` may
-  pub data PostRead : Bool → PostKind → Pos → List Node → List Lexeme → List Node → List Lexeme → ℕ → Type 0 where
+  pub data PostRead : Bool → PostKind → Position → List Node → List Lexeme → List Node → List Lexeme → ℕ → Type 0 where
     simple_name : {N w p o : _} → PostRead false Variable p N (a_name w p ∷ o) (put N (SimpleName p w)) o (next N)
     simple_call : {N N1 i o ids w p q : _} →
         ArgumentsRead N i N1 o ids →

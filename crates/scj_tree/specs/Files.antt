@@ -2,7 +2,7 @@
 use Rattle.std.specs.Prelude.{◌≡◌, List, [], ◌∷◌, ◌++◌, ℕ, length, Some, None}
 use Rattle.scj_base.specs.declared.findings.Found.{Found}
 use Rattle.scj_base.specs.declared.findings.Rule.TheVariants.{P1, P2}
-use Rattle.scj_base.specs.declared.places.Pos.{Pos}
+use Rattle.scj_base.specs.declared.positions.Position.{Position}
 use Rattle.scj_tree.specs.declared.nodes.Node.{Node}
 use Rattle.scj_tree.specs.Forest.{Forest}
 use Rattle.scj_tree.specs.Lexemes.{Lexeme}
@@ -17,7 +17,7 @@ pub record FileRead (before : Forest) (lexemes : List Lexeme) (after : Forest) :
   pub files : after.files ≡ before.files ++ classes ∷ []
 
 -- the lexemes are a file, and the place is the name of its first method or constructor whose body is too deep
-pub record IsTooDeep (before : List Node) (lexemes : List Lexeme) (position : Pos) : Type 0 where
+pub record IsTooDeep (before : List Node) (lexemes : List Lexeme) (position : Position) : Type 0 where
   pub after : List Node
   pub classes : List ℕ
   pub tree : Tree before lexemes after classes

@@ -1,6 +1,6 @@
 -- The grammar, last part: members, classes and files (JLS 7, 8); and where a row of lexemes stops being a file's begin.
 use Rattle.std.specs.Prelude.{◌≡◌, ℕ, true, false, List, [], ◌∷◌, ◌++◌, Some, None}
-use Rattle.scj_base.specs.declared.places.Pos.{Pos}
+use Rattle.scj_base.specs.declared.positions.Position.{Position}
 use Rattle.scj_base.specs.Vocabulary.{word_class, word_false, word_null, word_package, word_super, word_true, sign_left_brace, sign_right_brace, sign_left_parenthesis, sign_semicolon, sign_assign, sign_minus}
 use Rattle.scj_tree.specs.declared.nodes.Node.{Node}
 use Rattle.scj_tree.specs.declared.nodes.Node.TheVariants.{Class, Field, Method, Constructor, SuperCall, Block, Number, True, False, Null}
@@ -91,7 +91,7 @@ pub record BeginsFile (N : List Node) (tokens : List Lexeme) : Type 0 where
   pub tree : Tree N (tokens ++ rest) nodes classes
 
 -- the first lexeme that no file has behind those before it stands at p
-pub record RefusedAt (N : List Node) (tokens : List Lexeme) (p : Pos) : Type 0 where
+pub record RefusedAt (N : List Node) (tokens : List Lexeme) (p : Position) : Type 0 where
   pub before : List Lexeme
   pub refused : Lexeme
   pub behind : List Lexeme

@@ -1,6 +1,6 @@
 -- How deep the statements and expressions of a body nest, and which body is too deep.
 use Rattle.std.specs.Prelude.{ℕ, ◌+◌, max, List, [], ◌∷◌, length, drop, Option, Some, None, slice_get, nat_lt, if◌then◌else◌}
-use Rattle.scj_base.specs.declared.places.Pos.{Pos}
+use Rattle.scj_base.specs.declared.positions.Position.{Position}
 use Rattle.scj_tree.specs.declared.nodes.Node.{Node}
 use Rattle.scj_tree.specs.declared.nodes.Node.TheVariants.{Method, Constructor, Block, Empty, Local, LocalWithValue, Assign, ExpressionStatement, If, While, For, Return, Binary, Unary, Cast, Parenthesized, SimpleName, FieldAccess, Call, Element, New, NewArray, Number, True, False, Null, This}
 use Rattle.scj_tree.specs.Recursion.{by_smaller}
@@ -63,11 +63,11 @@ body_height nodes (Constructor position name flags parameters super_call body) =
 body_height nodes _ = 0
 
 -- P2, too deep: the name of the first method or constructor among some of the nodes whose body is higher than 64
-unfoldable pub first_too_deep : List Node → List Node → Option Pos
+unfoldable pub first_too_deep : List Node → List Node → Option Position
 first_too_deep nodes [] = None
 first_too_deep nodes (node ∷ more) =
     if nat_lt 64 (body_height nodes node) then Some (position_of node) else first_too_deep nodes more
 
 -- in a file that was read from the first n nodes on
-unfoldable pub too_deep : ℕ → List Node → Option Pos
+unfoldable pub too_deep : ℕ → List Node → Option Position
 too_deep n nodes = first_too_deep nodes (drop n nodes)

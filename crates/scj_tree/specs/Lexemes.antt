@@ -1,16 +1,16 @@
 -- The lexemes of a file as the grammar reads them: each with its place, a name and a text with their bytes.
 use Rattle.std.specs.Prelude.{ℕ, ◌+◌, ◌-◌, List, take, drop, map}
-use Rattle.scj_base.specs.declared.places.Pos.{Pos}
+use Rattle.scj_base.specs.declared.positions.Position.{Position}
 use Rattle.scj_base.specs.declared.lexemes.Token.{Token}
 use Rattle.scj_base.specs.declared.lexemes.TokenKind.TheVariants.{Name, Word, Number, Text, Sign, End}
 
 pub data Lexeme : Type 0 where
-  a_name : List ℕ → Pos → Lexeme
-  a_word : ℕ → Pos → Lexeme
-  a_number : ℕ → Pos → Lexeme
-  a_text : List ℕ → Pos → Lexeme
-  a_sign : ℕ → Pos → Lexeme
-  the_end : Pos → Lexeme
+  a_name : List ℕ → Position → Lexeme
+  a_word : ℕ → Position → Lexeme
+  a_number : ℕ → Position → Lexeme
+  a_text : List ℕ → Position → Lexeme
+  a_sign : ℕ → Position → Lexeme
+  the_end : Position → Lexeme
 
 -- the bytes of a part of a file
 unfoldable pub part_of : List ℕ → ℕ → ℕ → List ℕ
@@ -31,7 +31,7 @@ unfoldable pub lexemes_of : List ℕ → List Token → List Lexeme
 lexemes_of bytes tokens = map (lexeme_of bytes) tokens
 
 -- where a lexeme begins
-unfoldable pub position_of_lexeme : Lexeme → Pos
+unfoldable pub position_of_lexeme : Lexeme → Position
 position_of_lexeme (a_name w p) = p
 position_of_lexeme (a_word w p) = p
 position_of_lexeme (a_number n p) = p

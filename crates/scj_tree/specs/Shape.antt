@@ -1,11 +1,11 @@
 -- The place of a node and its children, for each kind of node.
 use Rattle.std.specs.Prelude.{ℕ, List, [], ◌∷◌, ◌++◌, Option, Some, None}
-use Rattle.scj_base.specs.declared.places.Pos.{Pos}
+use Rattle.scj_base.specs.declared.positions.Position.{Position}
 use Rattle.scj_tree.specs.declared.nodes.Node.{Node}
 use Rattle.scj_tree.specs.declared.nodes.Node.TheVariants.{Class, Flags, DefineScope, ScopeName, Supers, SuperType, TypeArgument, IntType, BooleanType, ClassType, VoidType, LongType, Field, Method, Constructor, Parameters, Parameter, SuperCall, Block, Empty, Local, LocalWithValue, Assign, ExpressionStatement, If, While, For, Return, Binary, Unary, Cast, Parenthesized, SimpleName, FieldAccess, Call, Element, New, NewArray, Text, Number, True, False, Null, This}
 
 -- where reports name a node
-unfoldable pub position_of : Node → Pos
+unfoldable pub position_of : Node → Position
 position_of (Class position name flags header members) = position
 position_of (Flags position define_scope scope runs_in is_static is_abstract is_synchronized) = position
 position_of (DefineScope position first second parent_first) = position

@@ -1,6 +1,6 @@
 -- The grammar, third part: statements (JLS 14).
 use Rattle.std.specs.Prelude.{◌≡◌, ℕ, true, false, List, [], ◌∷◌, ◌++◌, Option, Some, None}
-use Rattle.scj_base.specs.declared.places.Pos.{Pos}
+use Rattle.scj_base.specs.declared.positions.Position.{Position}
 use Rattle.scj_base.specs.Vocabulary.{word_else, word_for, word_if, word_return, word_while, sign_left_brace, sign_right_brace, sign_left_parenthesis, sign_right_parenthesis, sign_semicolon, sign_assign}
 use Rattle.scj_tree.specs.declared.nodes.Node.{Node}
 use Rattle.scj_tree.specs.declared.nodes.Node.TheVariants.{Block, Empty, Local, LocalWithValue, Assign, ExpressionStatement, If, While, For, Return, Binary, Parenthesized, SimpleName, Number}
@@ -12,18 +12,18 @@ use Rattle.scj_tree.specs.Headers.{FlagRow, TypeRead}
 use Rattle.scj_tree.specs.Expressions.{ExpressionRead, PostRead}
 
 -- the name twice, as the target and as the left operand
-abbrev pub name_twice : List Node → Pos → List ℕ → List Node
+abbrev pub name_twice : List Node → Position → List ℕ → List Node
 name_twice N q w = put (put N (SimpleName q w)) (SimpleName q w)
 
 -- the number of the second
-abbrev pub second_name : List Node → Pos → List ℕ → ℕ
+abbrev pub second_name : List Node → Position → List ℕ → ℕ
 second_name N q w = next (put N (SimpleName q w))
 
 -- the operation on two operands, and the assignment of it
-abbrev pub operation : List Node → Pos → ℕ → ℕ → ℕ → List Node
+abbrev pub operation : List Node → Position → ℕ → ℕ → ℕ → List Node
 operation N p op left right = put N (Binary p op left right)
 
-abbrev pub operated : List Node → Pos → ℕ → ℕ → ℕ → ℕ → List Node
+abbrev pub operated : List Node → Position → ℕ → ℕ → ℕ → ℕ → List Node
 operated N p op target left right = put (operation N p op left right) (Assign p target (next N))
 
 -- an assignment (JLS 15.26); `x op= e` reads as `x = x op (e)`, `x++` as `x = x + 1`

@@ -1,6 +1,6 @@
 -- The tests on lexemes by which the grammar tells its productions apart.
 use Rattle.std.specs.Prelude.{ℕ, Bool, true, false, ◌&&◌, ◌||◌, not, List, [], ◌∷◌, Option, Some, None, ◌==◌, if◌then◌else◌, nat_le, codes}
-use Rattle.scj_base.specs.declared.places.Pos.{Pos}
+use Rattle.scj_base.specs.declared.positions.Position.{Position}
 use Rattle.scj_base.specs.Bytes.{is_one_of}
 use Rattle.scj_base.specs.Lexeme.{greatest_number}
 use Rattle.scj_base.specs.Vocabulary.{word_abstract, word_false, word_final, word_new, word_null, word_private, word_protected, word_public, word_static, word_synchronized, word_this, word_true, sign_left_parenthesis, sign_right_parenthesis, sign_at, sign_equal, sign_not_equal, sign_less, sign_greater, sign_less_equal, sign_greater_equal, sign_plus, sign_minus, sign_star, sign_slash, sign_percent, sign_not, sign_and_and, sign_or_or, sign_and, sign_or, sign_xor, sign_tilde, sign_shift_left, sign_shift_right, sign_shift_right_unsigned, sign_plus_plus, sign_minus_minus, sign_plus_assign, sign_minus_assign, sign_star_assign, sign_slash_assign, sign_percent_assign, sign_and_assign, sign_or_assign, sign_xor_assign, sign_shift_left_assign, sign_shift_right_assign, sign_shift_right_unsigned_assign}
@@ -140,7 +140,7 @@ no_flags = record {
 }
 
 -- with one that stands at p: the first gives the place
-unfoldable pub placed : Pos → FlagSet → FlagSet
+unfoldable pub placed : Position → FlagSet → FlagSet
 placed p flags = record flags { position = elim flags.position [ None ↦ Some p | Some q ↦ Some q ] }
 
 unfoldable pub with_define_scope : ℕ → FlagSet → FlagSet
@@ -182,7 +182,7 @@ has_effect flags =
     is_there None = false
     is_there (Some id) = true
 
-unfoldable pub flags_at : Pos → FlagSet → Node
+unfoldable pub flags_at : Position → FlagSet → Node
 flags_at p flags =
     Flags p flags.define_scope flags.scope flags.runs_in flags.is_static flags.is_abstract flags.is_synchronized
 

@@ -3,7 +3,7 @@
 ghost use Rattle.std.specs.Prelude.{◌≡◌};
 
 use crate::lists::{NodeList, TextBytes};
-use scj_base::{NodeId, Pos, SharedName};
+use scj_base::{NodeId, Position, SharedName};
 use std::mem::size_of;
 
 /// A node of a program's tree. Its children are nodes that were added before it, and stand in the node in the
@@ -15,7 +15,7 @@ pub enum Node {
     /// A class: `class Name ..{ .. }` (JLS 8.1). `header` is a [`Node::Supers`], there where a superclass or an
     /// interface is written.
     Class {
-        position: Pos,
+        position: Position,
         name: SharedName,
         flags: Option<NodeId>,
         header: Option<NodeId>,
@@ -24,7 +24,7 @@ pub enum Node {
     /// The annotations and modifiers with an effect before a class, a member, a parameter or a local; there where
     /// at least one is written. `place` is the first annotation or modifier, with an effect or without.
     Flags {
-        position: Pos,
+        position: Position,
         define_scope: Option<NodeId>,
         scope: Option<NodeId>,
         runs_in: Option<NodeId>,
@@ -35,72 +35,72 @@ pub enum Node {
     /// `@DefineScope(name=.., parent=..)`: the two values in the order of the source, the parent's first where
     /// `parent_first` holds. `place` is the `@`.
     DefineScope {
-        position: Pos,
+        position: Position,
         first: NodeId,
         second: NodeId,
         parent_first: bool,
     },
     /// The name of a scope in an annotation, written bare, between quotes or behind `Scope.`.
     ScopeName {
-        position: Pos,
+        position: Position,
         name: SharedName,
     },
     /// What stands after the name of a class: the [`Node::SuperType`] after `extends`, and those after `implements`.
     /// `place` is the first of the two words.
     Supers {
-        position: Pos,
+        position: Position,
         superclass: Option<NodeId>,
         interfaces: NodeList,
     },
     /// A class named after `extends` or `implements`, with its type argument if one is written.
     SuperType {
-        position: Pos,
+        position: Position,
         name: SharedName,
         argument: Option<NodeId>,
     },
     /// A type argument: the name between `<` and `>`.
     TypeArgument {
-        position: Pos,
+        position: Position,
         name: SharedName,
     },
     /// `int`, or `int[]` where `is_array` holds.
     IntType {
-        position: Pos,
+        position: Position,
         is_array: bool,
     },
     /// `boolean`, or `boolean[]` where `is_array` holds.
     BooleanType {
-        position: Pos,
+        position: Position,
         is_array: bool,
     },
     /// A class type, or an array of one where `is_array` holds.
     ClassType {
-        position: Pos,
+        position: Position,
         name: SharedName,
         argument: Option<NodeId>,
         is_array: bool,
     },
     /// The result `void`.
     VoidType {
-        position: Pos,
+        position: Position,
     },
     /// The result `long`.
     LongType {
-        position: Pos,
+        position: Position,
     },
     /// A field (JLS 8.3), with the literal after `=` if one is written; `equals` is the place of that `=`.
     Field {
-        position: Pos,
+        position: Position,
         name: SharedName,
         flags: Option<NodeId>,
         declared_type: NodeId,
-        equals: Option<Pos>,
+        equals: Option<Position>,
         value: Option<NodeId>,
     },
     /// A method (JLS 8.4); without a body where `;` stands in its place. `parameters` is a [`Node::Parameters`],
     /// there where at least one is written.
     Method {
-        position: Pos,
+        position: Position,
         name: SharedName,
         flags: Option<NodeId>,
         result_type: NodeId,
@@ -110,7 +110,7 @@ pub enum Node {
     /// A constructor (JLS 8.8). `super_call` is a [`Node::SuperCall`], there where one is written; the body is a
     /// [`Node::Block`] of the statements behind it, whose place is the `{`.
     Constructor {
-        position: Pos,
+        position: Position,
         name: SharedName,
         flags: Option<NodeId>,
         parameters: Option<NodeId>,
@@ -119,41 +119,41 @@ pub enum Node {
     },
     /// The parameters between the parentheses of a declaration, at least one. `place` is the `(`.
     Parameters {
-        position: Pos,
+        position: Position,
         list: NodeList,
     },
     /// A parameter (JLS 8.4.1).
     Parameter {
-        position: Pos,
+        position: Position,
         name: SharedName,
         flags: Option<NodeId>,
         declared_type: NodeId,
     },
     /// `super(..);` at the begin of a constructor (JLS 8.8.7.1).
     SuperCall {
-        position: Pos,
+        position: Position,
         arguments: NodeList,
     },
     /// A block of statements (JLS 14.2).
     Block {
-        position: Pos,
+        position: Position,
         statements: NodeList,
     },
     /// The statement `;`.
     Empty {
-        position: Pos,
+        position: Position,
     },
     /// A local without a value (JLS 14.4).
     Local {
-        position: Pos,
+        position: Position,
         name: SharedName,
         flags: Option<NodeId>,
         declared_type: NodeId,
     },
     /// A local with a value; `place` is the `=` and `name_position` the name.
     LocalWithValue {
-        position: Pos,
-        name_position: Pos,
+        position: Position,
+        name_position: Position,
         name: SharedName,
         flags: Option<NodeId>,
         declared_type: NodeId,
@@ -161,31 +161,31 @@ pub enum Node {
     },
     /// An assignment to a name, a field or an element (JLS 15.26).
     Assign {
-        position: Pos,
+        position: Position,
         target: NodeId,
         value: NodeId,
     },
     /// A call or a `new` as a statement; `place` is the expression's.
     ExpressionStatement {
-        position: Pos,
+        position: Position,
         expression: NodeId,
     },
     /// `if` (JLS 14.9).
     If {
-        position: Pos,
+        position: Position,
         condition: NodeId,
         then_part: NodeId,
         else_part: Option<NodeId>,
     },
     /// `while` (JLS 14.12).
     While {
-        position: Pos,
+        position: Position,
         condition: NodeId,
         body: NodeId,
     },
     /// `for` (JLS 14.14): `first` is a [`Node::LocalWithValue`] or a [`Node::Assign`], `step` a [`Node::Assign`].
     For {
-        position: Pos,
+        position: Position,
         first: NodeId,
         condition: NodeId,
         step: NodeId,
@@ -193,97 +193,97 @@ pub enum Node {
     },
     /// `return` (JLS 14.17).
     Return {
-        position: Pos,
+        position: Position,
         value: Option<NodeId>,
     },
     /// A binary operator, by its sign (JLS 15.17 to 15.24).
     Binary {
-        position: Pos,
+        position: Position,
         operator: u8,
         left: NodeId,
         right: NodeId,
     },
     /// A unary operator, by its sign (JLS 15.15).
     Unary {
-        position: Pos,
+        position: Position,
         operator: u8,
         operand: NodeId,
     },
     /// A cast to a class (JLS 15.16); `place` is the `(`.
     Cast {
-        position: Pos,
-        name_position: Pos,
+        position: Position,
+        name_position: Position,
         name: SharedName,
         operand: NodeId,
     },
     /// A parenthesised expression.
     Parenthesized {
-        position: Pos,
+        position: Position,
         inner: NodeId,
     },
     /// A name: a local, a parameter, a field, or a class before a dot.
     SimpleName {
-        position: Pos,
+        position: Position,
         name: SharedName,
     },
     /// `object.name`.
     FieldAccess {
-        position: Pos,
+        position: Position,
         name: SharedName,
         object: NodeId,
     },
     /// `object.name(..)`, or `name(..)` without an object.
     Call {
-        position: Pos,
+        position: Position,
         name: SharedName,
         object: Option<NodeId>,
         arguments: NodeList,
     },
     /// `array[index]`; `place` is the `[`.
     Element {
-        position: Pos,
+        position: Position,
         array: NodeId,
         index: NodeId,
     },
     /// `new Name(..)` (JLS 15.9); `place` is the word `new`.
     New {
-        position: Pos,
-        name_position: Pos,
+        position: Position,
+        name_position: Position,
         name: SharedName,
         arguments: NodeList,
     },
     /// `new Type[length]` (JLS 15.10): `element` is a type that is no array and has no argument.
     NewArray {
-        position: Pos,
+        position: Position,
         element: NodeId,
         length: NodeId,
     },
     /// A text as an argument: the bytes between its quotes.
     Text {
-        position: Pos,
+        position: Position,
         text: TextBytes,
     },
     /// A number; `is_negative` holds where the `-` before it belongs to the literal.
     Number {
-        position: Pos,
+        position: Position,
         value: u32,
         is_negative: bool,
     },
     /// `true`.
     True {
-        position: Pos,
+        position: Position,
     },
     /// `false`.
     False {
-        position: Pos,
+        position: Position,
     },
     /// `null`.
     Null {
-        position: Pos,
+        position: Position,
     },
     /// `this`.
     This {
-        position: Pos,
+        position: Position,
     },
 }
 
@@ -292,7 +292,7 @@ impl Node {
 
     /// Where reports name the node.
     #[tactic(auto, unfolding(crate::specs::Shape::position_of))]
-    pub fn position(&self) -> Pos
+    pub fn position(&self) -> Position
         ensures { result ≡ position_of self.now }
     {
         match self {

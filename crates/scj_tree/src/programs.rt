@@ -7,7 +7,7 @@ ghost use Rattle.scj_tree.specs.Shape.{position_of};
 use crate::arenas::Arena;
 use crate::kinds::NodeKind;
 use crate::nodes::Node;
-use scj_base::{Memory, NodeId, Pos};
+use scj_base::{Memory, NodeId, Position};
 use std::alloc::Global;
 use std::marker::Model;
 
@@ -117,7 +117,7 @@ impl Program {
     }
 
     /// Where reports name the node of a number.
-    pub fn position(&self, id: NodeId) -> Pos
+    pub fn position(&self, id: NodeId) -> Position
         requires { id < length self.now.nodes }
         ensures { option_map position_of (slice_get self.now.nodes id) ≡ Some result }
     {

@@ -1,6 +1,6 @@
 //! What is known of a part of a source while it is read.
 
-use scj_base::{NodeId, Pos};
+use scj_base::{NodeId, Position};
 
 /// What an expression of names, calls and brackets is: it decides what may stand behind it.
 #[derive(Clone, Copy, Debug)]
@@ -19,7 +19,7 @@ pub enum PostKind {
 #[derive(Clone, Copy, Debug)]
 pub struct FlagSet {
     /// The first of them.
-    pub position: Option<Pos>,
+    pub position: Option<Position>,
     /// The `@DefineScope`.
     pub define_scope: Option<NodeId>,
     /// The value of `@Scope`.

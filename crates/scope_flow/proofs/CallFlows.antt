@@ -1,7 +1,7 @@
 -- The operations of each call flow, where those of the nodes before it do.
 use Rattle.std.specs.Prelude.{Option, Some, None, is_some, slice_get, flat_map}
 use Rattle.std.proofs.Common.{◌≡◌, ℕ, List, [], ◌∷◌, ◌++◌, refl, sym, ◌∙◌, ap, subst, ◌⊎◌, inl, inr}
-use Rattle.scj_base.specs.declared.places.Pos.{Pos}
+use Rattle.scj_base.specs.declared.positions.Position.{Position}
 use Rattle.scj_tree.specs.declared.nodes.Node.{Node}
 use Rattle.scj_tree.specs.declared.nodes.Node.TheVariants.{Call}
 use Rattle.scj_rules.specs.declared.typing.Binding.{Binding}
@@ -161,7 +161,7 @@ module _ (code : Code) (b c : ℕ) (sig : Signature) (id : ℕ) (sub : ℕ → L
       (join2 code b c sig id sub hyp (flat_map sub ys) (op ∷ []) os ls s
       (arguments code b c sig id sub hyp ys ks are ls am (op ∷ os) s h))
 
-  enter_flow : (position : Pos) (name : List ℕ) (object : Option ℕ) (xs : List ℕ) (t : Target) →
+  enter_flow : (position : Position) (name : List ℕ) (object : Option ℕ) (xs : List ℕ) (t : Target) →
       slice_get code.program.nodes id ≡ Some (Call position name object xs) → binding code id ≡ Builtin t →
       EnterFact code b c sig id t.id t.on xs o → F ((flat_map sub xs ++ ENTER id ∷ []) ++ os) ls s
   unfolding pushed

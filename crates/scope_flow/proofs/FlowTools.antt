@@ -1,7 +1,7 @@
 -- What it means that the operations of a node flow, and how the operations of its children come one behind the other.
 use Rattle.std.specs.Prelude.{Option, Some, None, slice_get, flat_map}
 use Rattle.std.proofs.Common.{◌≡◌, ℕ, suc, ◌<◌, List, [], ◌∷◌, ◌++◌, true, refl, sym, ◌∙◌, ap, subst, append_assoc, length, ◌⊎◌, inl, inr}
-use Rattle.scj_base.specs.declared.places.Pos.{Pos}
+use Rattle.scj_base.specs.declared.positions.Position.{Position}
 use Rattle.scj_tree.specs.declared.nodes.Node.{Node}
 use Rattle.scj_tree.specs.declared.nodes.Node.TheVariants.{Text}
 use Rattle.scj_rules.specs.declared.typing.Scope.{Scope}
@@ -51,7 +51,7 @@ module _ (code : Code) (b c : ℕ) (sig : Signature) where
     pub statements : (x : ℕ) → x < id → StatementFlows (sub x) x
     pub literals : (x : ℕ) → x < id → (node : Node) → slice_get code.program.nodes x ≡ Some node →
         kind_of_literal node ≡ Some yes → sub x ≡ PUSH x ∷ []
-    pub texts : (x : ℕ) → x < id → (position : Pos) (text : List ℕ) →
+    pub texts : (x : ℕ) → x < id → (position : Position) (text : List ℕ) →
         slice_get code.program.nodes x ≡ Some (Text position text) → sub x ≡ []
 
 module _ (code : Code) (b c : ℕ) (sig : Signature) (id : ℕ) (sub : ℕ → List Op) (hyp : FlowsBelow code b c sig id sub) where

@@ -1,7 +1,7 @@
 -- The operations of every node flow, by induction on its number; so do what conditions put in front of the rest.
 use Rattle.std.specs.Prelude.{Option, Some, None, slice_get}
 use Rattle.std.proofs.Common.{◌≡◌, ℕ, zero, suc, ◌<◌, List, [], ◌∷◌, ◌++◌, refl, sym, ◌∙◌, ap, subst, arith, inl, inr}
-use Rattle.scj_base.specs.declared.places.Pos.{Pos}
+use Rattle.scj_base.specs.declared.positions.Position.{Position}
 use Rattle.scj_tree.specs.declared.nodes.Node.{Node}
 use Rattle.scj_tree.specs.declared.nodes.Node.TheVariants.{Binary, Unary, Cast, Parenthesized, SimpleName, FieldAccess, Call, Element, New, NewArray, Number, True, False, Null, This as ThisNode, Text}
 use Rattle.scj_tree.specs.Recursion.{below}
@@ -97,7 +97,7 @@ module _ (code : Code) where
   literal_ops id (True position) there e = ops_at id (True position) there
   literal_ops id _ there e = absurd (cc (e))
 
-  text_ops : (id : ℕ) (position : Pos) (text : List ℕ) → slice_get code.program.nodes id ≡ Some (Text position text) →
+  text_ops : (id : ℕ) (position : Position) (text : List ℕ) → slice_get code.program.nodes id ≡ Some (Text position text) →
       ops_of code id ≡ []
   unfolding node_ops
   text_ops id position text there = ops_at id (Text position text) there

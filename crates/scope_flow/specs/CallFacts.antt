@@ -1,6 +1,6 @@
 -- What each call of an accepted program has; and all expressions.
 use Rattle.std.specs.Prelude.{◌≡◌, ℕ, ◌<◌, true, false, ◌⊎◌, List, [], ◌∷◌, Option, Some, None, is_some, slice_get}
-use Rattle.scj_base.specs.declared.places.Pos.{Pos}
+use Rattle.scj_base.specs.declared.positions.Position.{Position}
 use Rattle.scj_builtins.specs.Framework.{mission_request_termination, periodic_handler_register, aperiodic_handler_register, aperiodic_handler_release, managed_memory_enter_private_memory, managed_memory_execute_in_area_of, managed_memory_alloc_in_same, services_set_ceiling, trace_print, device_read}
 use Rattle.scj_tree.specs.declared.nodes.Node.{Node}
 use Rattle.scj_tree.specs.declared.nodes.Node.TheVariants.{Binary, Unary, Cast, Parenthesized, SimpleName, FieldAccess, Call, Element, New, NewArray, Text, Number, True, False, Null, This as ThisNode}
@@ -118,7 +118,7 @@ pub record PrintFact (code : Code) (b c id method : ℕ) (arguments : List ℕ) 
   pub label : ℕ
   pub value : ℕ
   pub are : arguments ≡ label ∷ (value ∷ [])
-  pub position : Pos
+  pub position : Position
   pub text : List ℕ
   pub is_smaller : label < id
   pub is_text : slice_get code.program.nodes label ≡ Some (Text position text)

@@ -1,6 +1,6 @@
 -- What operations need and leave: of calls, of the framework, and of assignments.
 use Rattle.std.specs.Prelude.{◌≡◌, ℕ, true, false, ◌⊎◌, List, [], ◌∷◌, length, slice_get, Option, Some, None, is_some}
-use Rattle.scj_base.specs.declared.places.Pos.{Pos}
+use Rattle.scj_base.specs.declared.positions.Position.{Position}
 use Rattle.scj_tree.specs.declared.nodes.Node.{Node}
 use Rattle.scj_tree.specs.declared.nodes.Node.TheVariants.{Call as CallNode}
 use Rattle.scj_rules.specs.declared.typing.Binding.TheVariants.{Method, Builtin}
@@ -95,7 +95,7 @@ pub record CastNeeds (code : Code) (id : ℕ) (s out : List Kind) : Type 0 where
 
 -- the arguments stand in the node, and the second one is a value of the body
 pub record EnterNeeds (code : Code) (body : Body) (c : ℕ) (sig : Signature) (id : ℕ) (s out : List Kind) : Type 0 where
-  pub position : Pos
+  pub position : Position
   pub name : List ℕ
   pub object : Option ℕ
   pub size : ℕ

@@ -1,7 +1,7 @@
 -- What the bodies, classes and types of an accepted program have: what the proofs about runs ask of the rules, but for the
 -- mission sequencer.
 use Rattle.std.specs.Prelude.{◌≡◌, ℕ, ◌+◌, ◌<◌, true, false, List, [], ◌∷◌, Option, Some, None, slice_get, length}
-use Rattle.scj_base.specs.declared.places.Pos.{Pos}
+use Rattle.scj_base.specs.declared.positions.Position.{Position}
 use Rattle.scj_tree.specs.declared.nodes.Node.{Node}
 use Rattle.scj_tree.specs.declared.nodes.Node.TheVariants.{Class, Method as MethodNode, Constructor, SuperCall, New}
 use Rattle.scj_rules.specs.declared.typing.Binding.TheVariants.{Plain, Class as ClassNamed}
@@ -44,7 +44,7 @@ mutual
   pub data Numbers (code : Code) (b c : ℕ) (known : List ℕ) : ℕ → ℕ → Type 0 where
     one_number : {x : ℕ} → Inside code.program b c x → Judged code.program x (Some number) →
         Among (known_variables code.program x) known → Numbers code b c known x 1
-    form_part : {x n : ℕ} {position name_position : Pos} {name xs : List ℕ} →
+    form_part : {x n : ℕ} {position name_position : Position} {name xs : List ℕ} →
         slice_get code.program.nodes x ≡ Some (New position name_position name xs) → binding code x ≡ Plain →
         AreSmaller x xs → AllNumbers code b c known xs n → Numbers code b c known x n
 
@@ -81,7 +81,7 @@ pub record UnwrittenSuperFact (code : Code) (b c : ℕ) (sig : Signature) (node 
 -- where it is written it is that of its node
 pub record WrittenSuperFact (code : Code) (b c : ℕ) (sig : Signature) (call : ℕ) : Type 0 where
   pub smaller : call < b
-  pub position : Pos
+  pub position : Position
   pub arguments : List ℕ
   pub is_there : slice_get code.program.nodes call ≡ Some (SuperCall position arguments)
   pub are_smaller : AreSmaller call arguments

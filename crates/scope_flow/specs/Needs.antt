@@ -3,7 +3,7 @@
 use Rattle.std.specs.Prelude.{◌≡◌, ℕ, zero, suc, ◌<◌, ◌==◌, ◌||◌, Bool, true, false, ◌⊎◌, List, [], ◌∷◌, length, slice_get, Option, Some, None, if◌then◌else◌, is_some}
 use Rattle.scj_base.specs.Vocabulary.{sign_equal, sign_not_equal, sign_minus, sign_not, sign_tilde}
 use Rattle.scj_builtins.specs.Framework.{mission_sequencer, periodic_handler}
-use Rattle.scj_base.specs.declared.places.Pos.{Pos}
+use Rattle.scj_base.specs.declared.positions.Position.{Position}
 use Rattle.scj_tree.specs.declared.nodes.Node.{Node}
 use Rattle.scj_tree.specs.declared.nodes.Node.TheVariants.{Assign, Constructor, SuperCall}
 use Rattle.scj_rules.specs.declared.typing.Ty.{Ty}
@@ -138,7 +138,7 @@ LiesWithObject p class _ = ⊥
 
 -- a node is an assignment that a guard allows
 pub record IsGuardedAssign (p : Declarations) (id : ℕ) : Type 0 where
-  pub position : Pos
+  pub position : Position
   pub target : ℕ
   pub value : ℕ
   pub is_there : slice_get p.nodes id ≡ Some (Assign position target value)
@@ -327,7 +327,7 @@ pub record IsSuperCall (p : Declarations) (b id : ℕ) : Type 0 where
   pub node : Node
   pub is_body : slice_get p.nodes b ≡ Some node
   pub is_call : super_call_of node ≡ Some id
-  pub position : Pos
+  pub position : Position
   pub arguments : List ℕ
   pub is_there : slice_get p.nodes id ≡ Some (SuperCall position arguments)
 

@@ -1,6 +1,6 @@
 -- What each statement of an accepted program has, one record a kind of node.
 use Rattle.std.specs.Prelude.{◌≡◌, ℕ, ◌<◌, ◌⊎◌, List, Option, Some, None, is_some, slice_get}
-use Rattle.scj_base.specs.declared.places.Pos.{Pos}
+use Rattle.scj_base.specs.declared.positions.Position.{Position}
 use Rattle.scj_tree.specs.declared.nodes.Node.{Node}
 use Rattle.scj_tree.specs.declared.nodes.Node.TheVariants.{Block, Empty as EmptyStatement, Local as LocalNode, LocalWithValue, Assign, ExpressionStatement, If, While, For, Return, SimpleName, FieldAccess, Element}
 use Rattle.scj_rules.specs.declared.typing.Binding.TheVariants.{Plain, Local as LocalVariable, Field as InstanceField, Static}
@@ -48,7 +48,7 @@ pub record InitialValueFact (code : Code) (b c id value : ℕ) : Type 0 where
 -- ---- assignments, by the target
 
 pub record SetLocalFact (code : Code) (b c id target value : ℕ) : Type 0 where
-  pub position : Pos
+  pub position : Position
   pub name : List ℕ
   pub is_there : slice_get code.program.nodes target ≡ Some (SimpleName position name)
   pub local : ℕ
@@ -59,7 +59,7 @@ pub record SetLocalFact (code : Code) (b c id target value : ℕ) : Type 0 where
   pub fits : ValueFits code.program b c id value This is_variable.kind
 
 pub record SetOwnFieldFact (code : Code) (b c id target value : ℕ) : Type 0 where
-  pub position : Pos
+  pub position : Position
   pub name : List ℕ
   pub is_there : slice_get code.program.nodes target ≡ Some (SimpleName position name)
   pub field : ℕ
@@ -69,7 +69,7 @@ pub record SetOwnFieldFact (code : Code) (b c id target value : ℕ) : Type 0 wh
   pub fits : FieldValueFits code.program b c id value c own.home has.kind
 
 pub record SetFieldFact (code : Code) (b c id target value : ℕ) : Type 0 where
-  pub position : Pos
+  pub position : Position
   pub name : List ℕ
   pub object : ℕ
   pub is_there : slice_get code.program.nodes target ≡ Some (FieldAccess position name object)
@@ -90,7 +90,7 @@ pub record SetStaticFact (code : Code) (b c id target value : ℕ) : Type 0 wher
   pub fits : ValueFits code.program b c id value This has.kind
 
 pub record SetElementFact (code : Code) (b c id target value : ℕ) : Type 0 where
-  pub position : Pos
+  pub position : Position
   pub array : ℕ
   pub index : ℕ
   pub is_there : slice_get code.program.nodes target ≡ Some (Element position array index)

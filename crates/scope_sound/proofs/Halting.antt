@@ -1,7 +1,7 @@
 -- A fault of the sequencer, which halts the run, leaves its frames and its list of areas as they were.
 use Rattle.std.specs.Prelude.{Option, Some, None, codes, if◌then◌else◌}
 use Rattle.std.proofs.Common.{◌≡◌, ℕ, List, [], ◌∷◌, Bool, true, false, not, ◌&&◌, refl, sym, ◌∙◌, ap, subst, true≢false, ◌⊎◌, inl, inr}
-use Rattle.scj_base.specs.declared.places.Pos.{Pos}
+use Rattle.scj_base.specs.declared.positions.Position.{Position}
 use Rattle.scj_rules.specs.declared.views.Body.{Body}
 use Rattle.scj_rules.specs.Words.{◌>>=◌}
 use Rattle.scj_rules.specs.ScopeRules.{immortal_scope, defined_by_chain}
@@ -47,12 +47,12 @@ module _ (s : State) (goes_on : is_over s.phase ≡ false) where
   bound None f h = record { is = λ step e. absurd (cc (e)) }
   bound (Some x) f h = h x
 
-  opened_stays : (position : Pos) (scope bytes : ℕ) → Stays (area_opened s position scope bytes)
+  opened_stays : (position : Position) (scope bytes : ℕ) → Stays (area_opened s position scope bytes)
   unfolding area_opened opening fault_in
   opened_stays position scope bytes =
       either (has_store_for s bytes) _ _ (λ over. absurd (true≢false (sym over ∙ goes_on))) (λ over. refl)
 
-  made_stays : (code : Code) (position : Pos) (class area : ℕ) → Stays (safelet_made code s position class area)
+  made_stays : (code : Code) (position : Position) (class area : ℕ) → Stays (safelet_made code s position class area)
   unfolding safelet_made allocating fault_in
   made_stays code position class area =
       either (has_room s area _) _ _ (λ over. absurd (true≢false (sym over ∙ goes_on))) (λ over. refl)

@@ -2,7 +2,7 @@
 use Rattle.std.proofs.Common.{◌≡◌, ℕ, List, [], ◌++◌, length, refl, arith, Option, Some, None, option_map}
 use Rattle.scj_base.specs.declared.findings.Found.{Found}
 use Rattle.scj_base.specs.declared.findings.Rule.TheVariants.{S6}
-use Rattle.scj_base.specs.declared.places.Pos.{Pos}
+use Rattle.scj_base.specs.declared.positions.Position.{Position}
 use Rattle.scj_tree.specs.Recursion.{joined_below}
 use Rattle.scj_rules.specs.declared.views.Modifiers.{Modifiers}
 use Rattle.scj_rules.specs.Words.{broken, found_at}
@@ -19,7 +19,7 @@ unfolding over_classes
 classes_joined p rule = joined_all (at_class p rule) p.classes
 
 -- S6 by the parts of a class, and where there is none
-pub missing_at : (p : Declarations) (class : ℕ) (o : Option WrittenClass) (m : Modifiers) (position : Pos)
+pub missing_at : (p : Declarations) (class : ℕ) (o : Option WrittenClass) (m : Modifiers) (position : Position)
     → Some m ≡ option_map (λ (c : WrittenClass). c.modifiers) o → Some position ≡ option_map (λ (c : WrittenClass). c.position) o
     → broken (lacks_scope p class m.is_abstract) S6 position ≡ found_at o (s6 p class)
 unfolding s6

@@ -11,7 +11,7 @@ ghost use Rattle.program_facts.specs.Tables.{IsNaming, entered, scope_named};
 use class_rows::ClassTable;
 use node_views::{class_modifiers, class_position, scope_written};
 use program_facts::ScopeNames;
-use scj_base::{ClassId, Memory, Name, NodeId, Pos, ScopeId};
+use scj_base::{ClassId, Memory, Name, NodeId, Position, ScopeId};
 use scj_rules::{Definition, Modifiers};
 use scj_tree::{Node, Program};
 use std::alloc::Global;
@@ -91,7 +91,7 @@ pub fn modifiers_in(classes: &ClassTable, class: ClassId) -> Option<Modifiers>
 
 /// Where a user class is named.
 #[tactic(auto, using(class_rows::proofs::UserLemmas::written_stays))]
-pub fn position_in(classes: &ClassTable, class: ClassId) -> Option<Pos>
+pub fn position_in(classes: &ClassTable, class: ClassId) -> Option<Position>
     ensures { result ≡ option_map (λ (c : WrittenClass). c.position)
         (user_class_in (declarations_of classes.now).classes class) }
 {

@@ -1,7 +1,7 @@
 -- What is read of members, classes and files has fitting words and places.
 use Rattle.std.proofs.Common.{[]}
 use Rattle.std.specs.Prelude.{ℕ, List}
-use Rattle.scj_base.specs.declared.places.Pos.{Pos}
+use Rattle.scj_base.specs.declared.positions.Position.{Position}
 use Rattle.scj_tree.specs.declared.nodes.Node.{Node}
 use Rattle.scj_tree.specs.Lexemes.{Lexeme}
 use Rattle.scj_tree.specs.Grammar.{LiteralRead, number_literal, negative_literal, true_literal, false_literal, null_literal, MemberRead, field, field_with_value, bare_method, method, constructor, constructor_with_super, MembersRead, no_member, one_member_more, ClassRead, class, ClassesRead, no_class, one_class_more}
@@ -14,7 +14,7 @@ use Rattle.source_nodes.proofs.HeadersFine.{header_fine, imports_fine, package_f
 use Rattle.source_nodes.proofs.ExpressionsFine.{arguments_fine}
 use Rattle.source_nodes.proofs.StatementsFine.{statements_fine}
 
-literal_fine : {Q : Pos → Type 0} {N N1 : List Node} {i o : List Lexeme} {id : ℕ} → LiteralRead N i N1 o id →
+literal_fine : {Q : Position → Type 0} {N N1 : List Node} {i o : List Lexeme} {id : ℕ} → LiteralRead N i N1 o id →
     Fine Q N i → Fine Q N1 o
 unfolding position_of HasWords HasInt
 literal_fine (number_literal h) f =
@@ -25,7 +25,7 @@ literal_fine true_literal f = fine_put _ (record { place = f.lexemes.0; words = 
 literal_fine false_literal f = fine_put _ (record { place = f.lexemes.0; words = tt }) (behind f)
 literal_fine null_literal f = fine_put _ (record { place = f.lexemes.0; words = tt }) (behind f)
 
-member_fine : {Q : Pos → Type 0} {N N1 : List Node} {i o : List Lexeme} {id : ℕ} → MemberRead N i N1 o id →
+member_fine : {Q : Position → Type 0} {N N1 : List Node} {i o : List Lexeme} {id : ℕ} → MemberRead N i N1 o id →
     Fine Q N i → Fine Q N1 o
 unfolding position_of HasWords
 member_fine (field {flags = flags} d e) f =
@@ -59,12 +59,12 @@ member_fine (constructor_with_super {flags = flags} d ps a s) f =
     (fine_put _ (record { place = k.lexemes.0; words = tt })
     (behind (statements_fine s (fine_put _ (record { place = (behind k).lexemes.0; words = tt }) l))))
 
-members_fine : {Q : Pos → Type 0} {N N1 : List Node} {i o : List Lexeme} {ids : List ℕ} → MembersRead N i N1 o ids →
+members_fine : {Q : Position → Type 0} {N N1 : List Node} {i o : List Lexeme} {ids : List ℕ} → MembersRead N i N1 o ids →
     Fine Q N i → Fine Q N1 o
 members_fine no_member f = f
 members_fine (one_member_more d e) f = member_fine e (members_fine d f)
 
-class_fine : {Q : Pos → Type 0} {N N1 : List Node} {i o : List Lexeme} {id : ℕ} → ClassRead N i N1 o id →
+class_fine : {Q : Position → Type 0} {N N1 : List Node} {i o : List Lexeme} {id : ℕ} → ClassRead N i N1 o id →
     Fine Q N i → Fine Q N1 o
 unfolding position_of HasWords
 class_fine (class {flags = flags} d h m) f =
@@ -73,13 +73,13 @@ class_fine (class {flags = flags} d h m) f =
     let g = header_fine h (fine_flags flags r.fit (behind2 r.fine)) in
     fine_put _ (record { place = name.0; words = name.1 }) (behind (members_fine m g))
 
-classes_fine : {Q : Pos → Type 0} {N N1 : List Node} {i o : List Lexeme} {ids : List ℕ} → ClassesRead N i N1 o ids →
+classes_fine : {Q : Position → Type 0} {N N1 : List Node} {i o : List Lexeme} {ids : List ℕ} → ClassesRead N i N1 o ids →
     Fine Q N i → Fine Q N1 o
 classes_fine no_class f = f
 classes_fine (one_class_more d e) f = class_fine e (classes_fine d f)
 
 -- a file read from lexemes that fit, behind nodes that fit
-pub tree_fine : {Q : Pos → Type 0} {N N1 : List Node} {i : List Lexeme} {ids : List ℕ} → Tree N i N1 ids →
+pub tree_fine : {Q : Position → Type 0} {N N1 : List Node} {i : List Lexeme} {ids : List ℕ} → Tree N i N1 ids →
     Fine Q N i → Fine Q N1 []
 tree_fine (file h d) f = behind (classes_fine d (imports_fine h f))
 tree_fine (file_of_package p h d) f = behind (classes_fine d (imports_fine h (behind (package_fine p (behind f)))))

@@ -2,7 +2,7 @@
 use Rattle.std.proofs.Common.{◌≡◌, ℕ, ◌+◌, ◌≤◌, ◌<◌, ◌==◌, Bool, true, false, List, [], ◌∷◌, ◌++◌, length, cond, refl, sym, ◌∙◌, subst, arith}
 use Rattle.std.specs.Prelude.{fold, slice_get, Some}
 use Rattle.std.proofs.lemmas.List.{append_assoc}
-use Rattle.scj_base.specs.declared.places.Pos.{Pos}
+use Rattle.scj_base.specs.declared.positions.Position.{Position}
 use Rattle.scj_base.specs.declared.lexemes.Token.{Token}
 use Rattle.scj_base.specs.declared.lexemes.TokenKind.{TokenKind}
 use Rattle.scj_base.specs.declared.lexemes.TokenKind.TheVariants.{Name, Word, Number, Text, Sign, End}
@@ -20,12 +20,12 @@ use Rattle.source_nodes.proofs.FilesFine.{tree_fine}
 
 -- ---- lines
 
-record LinesFrom (p q : Pos) (count : ℕ) : Type 0 where
+record LinesFrom (p q : Position) (count : ℕ) : Type 0 where
   file : q.file ≡ p.file
   first : p.line ≤ q.line
   last : q.line ≤ p.line + count
 
-one_line : (p : Pos) (b : ℕ) → LinesFrom p (position_behind_byte p b) 1
+one_line : (p : Position) (b : ℕ) → LinesFrom p (position_behind_byte p b) 1
 unfolding position_behind_byte
 one_line p b = go (b == 10)
   where
@@ -33,7 +33,7 @@ one_line p b = go (b == 10)
     go true = record { file = refl; first = omega arith; last = omega arith }
     go false = record { file = refl; first = omega arith; last = omega arith }
 
-lines_behind : (p : Pos) (bytes : List ℕ) → LinesFrom p (fold position_behind_byte p bytes) (length bytes)
+lines_behind : (p : Position) (bytes : List ℕ) → LinesFrom p (fold position_behind_byte p bytes) (length bytes)
 lines_behind p [] = record { file = refl; first = omega arith; last = omega arith }
 lines_behind p (b ∷ bytes) =
     let one : LinesFrom p (position_behind_byte p b) 1 = one_line p b in
@@ -59,7 +59,7 @@ place_fits files longest file before l m =
 
 -- ---- tokens
 
-abbrev PlacesFit : (Pos → Type 0) → List Token → Type 0
+abbrev PlacesFit : (Position → Type 0) → List Token → Type 0
 PlacesFit Q [] = Unit {0}
 PlacesFit Q (t ∷ ts) = Q t.pos × PlacesFit Q ts
 
@@ -82,7 +82,7 @@ places_fit files longest _ _ _ _ l (takes file before w rest kind tokens p d) m 
           (subst (λ xs. length xs ≤ longest) (sym (append_assoc before w rest)) m),
     )
 
-one_fits : (Q : Pos → Type 0) (bytes : List ℕ) (t : Token) (kind : TokenKind) → Q t.pos →
+one_fits : (Q : Position → Type 0) (bytes : List ℕ) (t : Token) (kind : TokenKind) → Q t.pos →
     IsOfSource (lexeme_of bytes (record t { kind = kind })) → LexemeFits Q (lexeme_of bytes (record t { kind = kind }))
 unfolding IsOfSource lexeme_of
 one_fits Q bytes t Name h w = (h, w)
@@ -98,7 +98,7 @@ first_of (one_more h a) = h
 others_of : {x : Lexeme} {xs : List Lexeme} → AreOfSource (x ∷ xs) → AreOfSource xs
 others_of (one_more h a) = a
 
-lexemes_fit : (Q : Pos → Type 0) (bytes : List ℕ) (tokens : List Token) → PlacesFit Q tokens →
+lexemes_fit : (Q : Position → Type 0) (bytes : List ℕ) (tokens : List Token) → PlacesFit Q tokens →
     AreOfSource (lexemes_of bytes tokens) → LexemesFit Q (lexemes_of bytes tokens)
 unfolding lexemes_of
 lexemes_fit Q bytes [] h a = tt
@@ -107,7 +107,7 @@ lexemes_fit Q bytes (t ∷ ts) h a =
 
 -- ---- files
 
-abbrev AllFit : (Pos → Type 0) → List (List Lexeme) → Type 0
+abbrev AllFit : (Position → Type 0) → List (List Lexeme) → Type 0
 AllFit Q [] = Unit {0}
 AllFit Q (xs ∷ xss) = LexemesFit Q xs × AllFit Q xss
 
@@ -121,17 +121,17 @@ texts_fit files longest {file} (next_text {text = text} {texts = texts} {tokens 
   texts_fit files longest more (omega (arith, l)) s.1,
 )
 
-record AllNodes (Q : Pos → Type 0) (nodes : List Node) : Type 0 where
+record AllNodes (Q : Position → Type 0) (nodes : List Node) : Type 0 where
   are : (id : ℕ) (node : Node) → slice_get nodes id ≡ Some node → NodeFits Q node
 
-files_fit : (Q : Pos → Type 0) {before after : Forest} {lexemes : List (List Lexeme)} → FilesRead before lexemes after →
+files_fit : (Q : Position → Type 0) {before after : Forest} {lexemes : List (List Lexeme)} → FilesRead before lexemes after →
     AllFit Q lexemes → AllNodes Q before.nodes → AllNodes Q after.nodes
 files_fit Q no_file h f = f
 files_fit Q (next_file d more) h f =
     let one : Fine Q _ [] = tree_fine d.tree (record { nodes = f.are; lexemes = h.0 }) in
     files_fit Q more h.1 (record { are = one.nodes })
 
-nothing_yet : (Q : Pos → Type 0) → AllNodes Q (forest_of [] []).nodes
+nothing_yet : (Q : Position → Type 0) → AllNodes Q (forest_of [] []).nodes
 nothing_yet Q = record { are = λ id node e. absurd (cc (e)) }
 
 pub nodes_fit : (texts : List (List ℕ)) (forest : Forest) (longest : ℕ) → Reads texts forest → AreShort longest texts →

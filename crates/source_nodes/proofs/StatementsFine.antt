@@ -1,7 +1,7 @@
 -- What is read of statements has fitting words and places.
 use Rattle.std.proofs.Common.{arith}
 use Rattle.std.specs.Prelude.{ℕ, List, Option}
-use Rattle.scj_base.specs.declared.places.Pos.{Pos}
+use Rattle.scj_base.specs.declared.positions.Position.{Position}
 use Rattle.scj_tree.specs.declared.nodes.Node.{Node}
 use Rattle.scj_tree.specs.Lexemes.{Lexeme}
 use Rattle.scj_tree.specs.Statements.{AssignmentRead, assignment, compound_assignment, step_assignment, LocalTypeRead, plain_local, flagged_local, StatementRead, block, empty, local, local_with_value, assign_statement, call_statement, if_alone, if_else, while_statement, for_local, for_assignment, return_alone, return_value, StatementsRead, no_statement, one_statement_more}
@@ -13,7 +13,7 @@ use Rattle.source_nodes.proofs.HeadersFine.{row_fine, type_fine}
 use Rattle.source_nodes.proofs.ExpressionsFine.{level_fine, post_fine}
 
 -- nodes put one behind the other
-pub assignment_fine : {Q : Pos → Type 0} {N N1 : List Node} {i o : List Lexeme} {id : ℕ} → AssignmentRead N i N1 o id →
+pub assignment_fine : {Q : Position → Type 0} {N N1 : List Node} {i o : List Lexeme} {id : ℕ} → AssignmentRead N i N1 o id →
     Fine Q N i → Fine Q N1 o
 unfolding position_of HasWords HasInt
 assignment_fine (assignment d e) f =
@@ -35,7 +35,7 @@ assignment_fine (step_assignment h) f =
     (fine_put _ (record { place = sign; words = omega arith })
     (fine_put _ (record { place = name; words = tt }) (fine_put _ (record { place = name; words = tt }) (behind2 f)))))
 
-local_type_fine : {Q : Pos → Type 0} {N N1 : List Node} {i o : List Lexeme} {flags : Option ℕ} {t : ℕ} →
+local_type_fine : {Q : Position → Type 0} {N N1 : List Node} {i o : List Lexeme} {flags : Option ℕ} {t : ℕ} →
     LocalTypeRead N i N1 o flags t → Fine Q N i → Fine Q N1 o
 local_type_fine (plain_local d) f = type_fine d f
 local_type_fine (flagged_local {flags = flags} h d e) f =
@@ -44,7 +44,7 @@ local_type_fine (flagged_local {flags = flags} h d e) f =
 mutual
   unfolding position_of HasWords
 
-  pub statement_fine : {Q : Pos → Type 0} {N N1 : List Node} {i o : List Lexeme} {id : ℕ} → StatementRead N i N1 o id →
+  pub statement_fine : {Q : Position → Type 0} {N N1 : List Node} {i o : List Lexeme} {id : ℕ} → StatementRead N i N1 o id →
       Fine Q N i → Fine Q N1 o
   statement_fine (block d) f =
       fine_put _ (record { place = f.lexemes.0; words = tt }) (behind (statements_fine d (behind f)))
@@ -78,7 +78,7 @@ mutual
   statement_fine (return_value d) f =
       fine_put _ (record { place = f.lexemes.0; words = tt }) (behind (level_fine d (behind f)))
 
-  pub statements_fine : {Q : Pos → Type 0} {N N1 : List Node} {i o : List Lexeme} {ids : List ℕ} →
+  pub statements_fine : {Q : Position → Type 0} {N N1 : List Node} {i o : List Lexeme} {ids : List ℕ} →
       StatementsRead N i N1 o ids → Fine Q N i → Fine Q N1 o
   statements_fine no_statement f = f
   statements_fine (one_statement_more d e) f = statement_fine e (statements_fine d f)

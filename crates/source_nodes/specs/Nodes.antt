@@ -1,6 +1,6 @@
 -- The words and the places of nodes that were read from texts.
 use Rattle.std.specs.Prelude.{◌≡◌, ◌≤◌, ◌<◌, ℕ, ◌+◌, true, List, [], ◌∷◌, length, slice_get, Some}
-use Rattle.scj_base.specs.declared.places.Pos.{Pos}
+use Rattle.scj_base.specs.declared.positions.Position.{Position}
 use Rattle.scj_base.specs.Lexeme.{AllOf, is_name, is_text_byte}
 use Rattle.scj_tree.specs.declared.nodes.Node.{Node}
 use Rattle.scj_tree.specs.declared.nodes.Node.TheVariants.{Class, Number, Text}
@@ -15,7 +15,7 @@ HasWords (Number position value is_negative) = HasInt (Number position value is_
 HasWords _ = Unit {0}
 
 -- a place in one of so many files, of which none has more bytes than this
-pub record IsPosition (files longest : ℕ) (p : Pos) : Type 0 where
+pub record IsPosition (files longest : ℕ) (p : Position) : Type 0 where
   pub file : p.file < files
   pub first : 1 ≤ p.line
   pub last : p.line ≤ longest + 1

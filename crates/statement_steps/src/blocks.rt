@@ -20,7 +20,7 @@ use scj_base::vocabulary::{
     ASSIGN, AT, BOOLEAN, FINAL, FOR, IF, INT, LEFT_BRACE, LEFT_BRACKET, LEFT_PARENTHESIS, LESS,
     RETURN, RIGHT_BRACE, RIGHT_BRACKET, SEMICOLON, WHILE,
 };
-use scj_base::{Memory, NodeId, Pos, SharedName};
+use scj_base::{Memory, NodeId, Position, SharedName};
 use scj_tree::Node;
 use type_steps::declarations::flags_step;
 use type_steps::flags::no_flags;
@@ -91,10 +91,10 @@ pub fn first_start(
 pub fn name_first_sign(
     nodes: &mut Nodes,
     stack: &mut Stack,
-    position: Pos,
+    position: Position,
     name: &SharedName,
     sign: u8,
-    sign_position: Pos,
+    sign_position: Position,
 ) -> Result<Option<Mode>, Memory>
     ensures step { let awaited = name_first_step position name.now nodes.old.all stack.old (a_sign sign sign_position) in
         gives result nodes.new.all stack.new awaited ≡ awaited }
@@ -128,7 +128,7 @@ pub fn name_first_step(
     nodes: &mut Nodes,
     stack: &mut Stack,
     view: &View,
-    position: Pos,
+    position: Position,
     name: &SharedName,
 ) -> Result<Option<Mode>, Memory>
     ensures step { let awaited = name_first_step position name.now nodes.old.all stack.old (seen view.now) in
@@ -164,9 +164,9 @@ pub fn name_index(
     nodes: &mut Nodes,
     stack: &mut Stack,
     view: &View,
-    position: Pos,
+    position: Position,
     name: &SharedName,
-    bracket: Pos,
+    bracket: Position,
 ) -> Result<Option<Mode>, Memory>
     ensures step { let awaited = operand_start (put nodes.old.all (SimpleName position name.now))
         (IndexOpen bracket (length nodes.old.all) ∷ Target ∷ stack.old) (seen view.now) in
@@ -191,9 +191,9 @@ pub fn name_bracket_step(
     nodes: &mut Nodes,
     stack: &mut Stack,
     view: &View,
-    position: Pos,
+    position: Position,
     name: &SharedName,
-    bracket: Pos,
+    bracket: Position,
 ) -> Result<Option<Mode>, Memory>
     ensures step { let awaited = name_bracket_step position name.now bracket nodes.old.all stack.old (seen view.now) in
         gives result nodes.new.all stack.new awaited ≡ awaited }
@@ -222,7 +222,7 @@ pub fn local_ended(
     stack: &mut Stack,
     flags: Option<NodeId>,
     declared_type: NodeId,
-    position: Pos,
+    position: Position,
     name: &SharedName,
 ) -> Result<Option<Mode>, Memory>
     ensures step { let awaited = local_ended flags declared_type position name.now nodes.old.all stack.old in
@@ -254,7 +254,7 @@ pub fn local_named_step(
     view: &View,
     flags: Option<NodeId>,
     declared_type: NodeId,
-    position: Pos,
+    position: Position,
     name: &SharedName,
 ) -> Result<Option<Mode>, Memory>
     ensures step { let awaited = local_named_step flags declared_type position name.now nodes.old.all stack.old
@@ -308,7 +308,7 @@ pub fn if_open_step(
     nodes: &mut Nodes,
     stack: &mut Stack,
     view: &View,
-    position: Pos,
+    position: Position,
 ) -> Result<Option<Mode>, Memory>
     ensures step { let awaited = test_open_step Operand (IfTest position) nodes.old.all stack.old (seen view.now) in
         gives result nodes.new.all stack.new awaited ≡ awaited }
@@ -322,7 +322,7 @@ pub fn while_open_step(
     nodes: &mut Nodes,
     stack: &mut Stack,
     view: &View,
-    position: Pos,
+    position: Position,
 ) -> Result<Option<Mode>, Memory>
     ensures step { let awaited = test_open_step Operand (WhileTest position) nodes.old.all stack.old (seen view.now) in
         gives result nodes.new.all stack.new awaited ≡ awaited }
@@ -342,7 +342,7 @@ pub fn for_open_step(
     nodes: &mut Nodes,
     stack: &mut Stack,
     view: &View,
-    position: Pos,
+    position: Position,
 ) -> Result<Option<Mode>, Memory>
     ensures step { let awaited = test_open_step ForFirst (ForHead position) nodes.old.all stack.old (seen view.now) in
         gives result nodes.new.all stack.new awaited ≡ awaited }
@@ -357,7 +357,7 @@ pub fn return_step(
     nodes: &mut Nodes,
     stack: &mut Stack,
     view: &View,
-    position: Pos,
+    position: Position,
 ) -> Result<Option<Mode>, Memory>
     ensures step { let awaited = return_step position nodes.old.all stack.old (seen view.now) in
         gives result nodes.new.all stack.new awaited ≡ awaited }
@@ -381,7 +381,7 @@ pub fn statement_word(
     nodes: &mut Nodes,
     stack: &mut Stack,
     word: u8,
-    position: Pos,
+    position: Position,
 ) -> Result<Option<Mode>, Memory>
     ensures step { let awaited = statement_word word position nodes.old.all stack.old in
         gives result nodes.new.all stack.new awaited ≡ awaited }
@@ -408,7 +408,7 @@ pub fn statement_sign(
     nodes: &mut Nodes,
     stack: &mut Stack,
     sign: u8,
-    position: Pos,
+    position: Position,
 ) -> Result<Option<Mode>, Memory>
     ensures step { let awaited = statement_sign sign position nodes.old.all stack.old in
         gives result nodes.new.all stack.new awaited ≡ awaited }

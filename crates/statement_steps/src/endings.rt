@@ -15,7 +15,7 @@ use parser_nodes::items::with_item;
 use parser_nodes::stacks::Stack;
 use parser_nodes::views::View;
 use scj_base::vocabulary::RIGHT_BRACE;
-use scj_base::{Memory, NodeId, Pos, SharedName};
+use scj_base::{Memory, NodeId, Position, SharedName};
 use scj_tree::{Node, NodeList};
 use type_steps::declarations::flags_step;
 use type_steps::flags::no_flags;
@@ -48,7 +48,7 @@ pub fn class_read(
     nodes: &mut Nodes,
     stack: &mut Stack,
     flags: Option<NodeId>,
-    position: Pos,
+    position: Position,
     name: SharedName,
     header: Option<NodeId>,
     members: NodeList,
@@ -143,7 +143,7 @@ pub fn method_ended(
     id: NodeId,
     flags: Option<NodeId>,
     result_type: NodeId,
-    position: Pos,
+    position: Position,
     name: SharedName,
     parameters: Option<NodeId>,
 ) -> Result<Option<Mode>, Memory>
@@ -170,7 +170,7 @@ pub fn constructor_ended(
     view: &View,
     id: NodeId,
     flags: Option<NodeId>,
-    position: Pos,
+    position: Position,
     name: SharedName,
     parameters: Option<NodeId>,
     super_call: Option<NodeId>,
@@ -198,7 +198,7 @@ pub fn block_statement_ended(
     stack: &mut Stack,
     view: &View,
     id: NodeId,
-    position: Pos,
+    position: Position,
     statements: NodeList,
 ) -> Result<Option<Mode>, Memory>
     ensures step { let awaited = statement_ended id nodes.old.all (BlockOpen position statements ∷ stack.old)

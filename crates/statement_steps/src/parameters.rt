@@ -19,7 +19,7 @@ use parser_nodes::views::View;
 use scj_base::vocabulary::{
     COMMA, LEFT_BRACE, LEFT_PARENTHESIS, RIGHT_PARENTHESIS, SEMICOLON, SUPER,
 };
-use scj_base::{Memory, NodeId, Pos, SharedName};
+use scj_base::{Memory, NodeId, Position, SharedName};
 use scj_tree::Node;
 use type_steps::declarations::flags_step;
 use type_steps::flags::no_flags;
@@ -30,7 +30,7 @@ pub fn parameters_first(
     nodes: &mut Nodes,
     stack: &mut Stack,
     view: &View,
-    position: Pos,
+    position: Position,
 ) -> Result<Option<Mode>, Memory>
     ensures step { let awaited = flags_step false no_flags nodes.old.all (ParametersOpen position [] ∷ stack.old)
         (seen view.now) in gives result nodes.new.all stack.new awaited ≡ awaited }
@@ -49,7 +49,7 @@ pub fn parameters_first_step(
     nodes: &mut Nodes,
     stack: &mut Stack,
     view: &View,
-    position: Pos,
+    position: Position,
 ) -> Result<Option<Mode>, Memory>
     ensures step { let awaited = parameters_first_step position nodes.old.all stack.old (seen view.now) in
         gives result nodes.new.all stack.new awaited ≡ awaited }
@@ -126,10 +126,10 @@ pub fn method_body_step(
     stack: &mut Stack,
     parameters: Option<NodeId>,
     sign: u8,
-    sign_position: Pos,
+    sign_position: Position,
     flags: Option<NodeId>,
     result_type: NodeId,
-    position: Pos,
+    position: Position,
     name: SharedName,
 ) -> Result<Option<Mode>, Memory>
     ensures step { let awaited = body_step parameters nodes.old.all (MethodOpen flags result_type position name
@@ -171,7 +171,7 @@ pub fn body_step(
     stack: &mut Stack,
     parameters: Option<NodeId>,
     sign: u8,
-    sign_position: Pos,
+    sign_position: Position,
 ) -> Result<Option<Mode>, Memory>
     ensures step { let awaited = body_step parameters nodes.old.all stack.old sign sign_position in
         gives result nodes.new.all stack.new awaited ≡ awaited }
@@ -239,7 +239,7 @@ pub fn block_start(
     nodes: &mut Nodes,
     stack: &mut Stack,
     view: &View,
-    position: Pos,
+    position: Position,
 ) -> Result<Option<Mode>, Memory>
     ensures step { let awaited = statements_step nodes.old.all (BlockOpen position [] ∷ stack.old) (seen view.now) in
         gives result nodes.new.all stack.new awaited ≡ awaited }
@@ -258,7 +258,7 @@ pub fn constructor_start_step(
     nodes: &mut Nodes,
     stack: &mut Stack,
     view: &View,
-    block_position: Pos,
+    block_position: Position,
 ) -> Result<Option<Mode>, Memory>
     ensures step { let awaited = constructor_start_step block_position nodes.old.all stack.old (seen view.now) in
         gives result nodes.new.all stack.new awaited ≡ awaited }
@@ -282,8 +282,8 @@ pub fn super_open_step(
     nodes: &mut Nodes,
     stack: &mut Stack,
     view: &View,
-    block_position: Pos,
-    position: Pos,
+    block_position: Position,
+    position: Position,
 ) -> Result<Option<Mode>, Memory>
     ensures step { let awaited = super_open_step block_position position nodes.old.all stack.old (seen view.now) in
         gives result nodes.new.all stack.new awaited ≡ awaited }
@@ -308,7 +308,7 @@ pub fn super_end_step(
     nodes: &mut Nodes,
     stack: &mut Stack,
     view: &View,
-    block_position: Pos,
+    block_position: Position,
 ) -> Result<Option<Mode>, Memory>
     ensures step { let awaited = super_end_step block_position nodes.old.all stack.old (seen view.now) in
         gives result nodes.new.all stack.new awaited ≡ awaited }

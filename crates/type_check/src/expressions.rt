@@ -12,7 +12,7 @@ ghost use Rattle.program_facts.specs.Told.{declared, types};
 use crate::rows::keep;
 use program_facts::meanings::{denotes_no_declaration, is_instance_field};
 use program_facts::{At, NodeMeaning};
-use scj_base::{Found, Memory, Name, NodeId, Pos, Rule};
+use scj_base::{Found, Memory, Name, NodeId, Position, Rule};
 use scj_rules::{Ty, report_if};
 use type_rules::expressions::{lacks_field, lacks_object_of_field, misfits_index};
 use type_rules::members::{field_in, field_row};
@@ -24,7 +24,7 @@ use type_words::{element_type, is_no_reference, unary_type};
 pub fn judge_binary(
     found: &mut Vec<Found>,
     at: &At<'_>,
-    position: Pos,
+    position: Position,
     operator: u8,
     left: NodeId,
     right: NodeId,
@@ -46,7 +46,7 @@ pub fn judge_binary(
 pub fn judge_unary(
     found: &mut Vec<Found>,
     at: &At<'_>,
-    position: Pos,
+    position: Position,
     operator: u8,
     operand: NodeId,
 ) -> Result<Option<Ty>, Memory>
@@ -66,7 +66,7 @@ pub fn judge_unary(
 pub fn judge_element(
     found: &mut Vec<Found>,
     at: &At<'_>,
-    position: Pos,
+    position: Position,
     array: NodeId,
     index: NodeId,
 ) -> Result<Option<Ty>, Memory>
@@ -89,7 +89,7 @@ pub fn judge_name(
     found: &mut Vec<Found>,
     at: &At<'_>,
     rows: &mut Vec<NodeMeaning>,
-    position: Pos,
+    position: Position,
     name: &Name,
 ) -> Result<Option<Ty>, Memory>
     requires there { slice_get at.now.facts.now.nodes at.now.id ≡ Some (a_name position name.now) }
@@ -114,7 +114,7 @@ pub fn judge_name(
 pub fn judge_access(
     found: &mut Vec<Found>,
     at: &At<'_>,
-    position: Pos,
+    position: Position,
     name: &Name,
     object: NodeId,
 ) -> Result<(Option<Ty>, NodeMeaning), Memory>

@@ -2,7 +2,7 @@
 use Rattle.std.proofs.Common.{◌≡◌, ℕ, Bool, true, false, not, ◌&&◌, List, [], ◌++◌, Option, Some, None, is_some, option_and_then, if◌then◌else◌, refl, append-nil}
 use Rattle.scj_base.specs.declared.findings.Found.{Found}
 use Rattle.scj_base.specs.declared.findings.Rule.TheVariants.{T3, T5, T6, T13}
-use Rattle.scj_base.specs.declared.places.Pos.{Pos}
+use Rattle.scj_base.specs.declared.positions.Position.{Position}
 use Rattle.scj_tree.specs.declared.nodes.Node.TheVariants.{Call}
 use Rattle.scj_rules.specs.declared.typing.Receiver.{Receiver}
 use Rattle.scj_rules.specs.Words.{broken, holds}
@@ -23,7 +23,7 @@ pub typed_then : {A B : Type 0} (o : Option A) (x : Option B) →
 typed_then None x = refl
 typed_then (Some y) x = refl
 
-module _ (p : Declarations) (types : Types) (id : ℕ) (position : Pos) (name : List ℕ) (object : Option ℕ)
+module _ (p : Declarations) (types : Types) (id : ℕ) (position : Position) (name : List ℕ) (object : Option ℕ)
     (arguments : List ℕ) where
   none : (n l t : Bool) → broken (n && t) T3 position ++ (broken ((not n && true) && t) T5 position
       ++ (broken (not (not n && true) && false) T6 position

@@ -2,7 +2,7 @@
 use Rattle.std.specs.Prelude.{ℕ, suc, nat_lt, Bool, not, ◌&&◌, List, [], ◌∷◌, ◌++◌, length, slice_get, Option, None, Some, is_some, option_map}
 use Rattle.scj_base.specs.declared.findings.Found.{Found}
 use Rattle.scj_base.specs.declared.findings.Rule.TheVariants.{T3, T5, T6, T13}
-use Rattle.scj_base.specs.declared.places.Pos.{Pos}
+use Rattle.scj_base.specs.declared.positions.Position.{Position}
 use Rattle.scj_tree.specs.declared.nodes.Node.{Node}
 use Rattle.scj_rules.specs.declared.views.Declared.{Declared}
 use Rattle.scj_rules.specs.declared.views.WrittenType.{WrittenType}
@@ -40,7 +40,7 @@ all_fit p types ds i [] = not (nat_lt i (length ds))
 all_fit p types ds i (id ∷ ids) = fits p types ds i id && all_fit p types ds (suc i) ids
 
 -- what is broken at a call on a receiver, by the method that is found for it
-unfoldable pub breaks_on : Declarations → Types → ℕ → Pos → Receiver → Option FoundMethod → List ℕ → List Found
+unfoldable pub breaks_on : Declarations → Types → ℕ → Position → Receiver → Option FoundMethod → List ℕ → List Found
 breaks_on p types id position r None arguments =
     let typed = is_some (all_types types arguments) in
     broken (is_no_reference r && typed) T3 position ++ (broken (not (is_no_reference r) && typed) T5 position ++ [])

@@ -24,7 +24,7 @@ use crate::statements::has_framework_size;
 use method_rows::{MethodRef, is_callable_row, is_static, result_type};
 use program_facts::{At, Facts, NodeMeaning};
 use scj_base::ids::{OBJECT, SAFELET};
-use scj_base::{ClassId, Found, Memory, Name, NodeId, Pos, Rule};
+use scj_base::{ClassId, Found, Memory, Name, NodeId, Position, Rule};
 use scj_builtins::{ClassKind, FRAMEWORK_CLASS_COUNT};
 use scj_rules::{Receiver, Ty, report_if};
 use type_words::{is_long, is_no_reference, is_value};
@@ -48,7 +48,7 @@ fn cannot_be_called(facts: &Facts<'_>, receiver: &Receiver, method: &MethodRef) 
 fn note_called(
     found: &mut Vec<Found>,
     at: &At<'_>,
-    position: Pos,
+    position: Position,
     receiver: &Receiver,
     method: &Option<MethodRef>,
     arguments: &[NodeId],
@@ -79,7 +79,7 @@ fn note_called(
 pub fn judge_call(
     found: &mut Vec<Found>,
     at: &At<'_>,
-    position: Pos,
+    position: Position,
     name: &Name,
     object: &Option<NodeId>,
     arguments: &[NodeId],

@@ -13,7 +13,7 @@ use parser_nodes::growing_nodes::Nodes;
 use parser_nodes::stacks::Stack;
 use parser_nodes::views::View;
 use scj_base::vocabulary::{AT, CLASS, LONG, VOID};
-use scj_base::{Memory, NodeId, Pos};
+use scj_base::{Memory, NodeId, Position};
 use scj_tree::{FlagSet, Node};
 
 /// A word where a member is due.
@@ -23,7 +23,7 @@ pub fn member_word(
     stack: &mut Stack,
     flags: Option<NodeId>,
     word: u8,
-    position: Pos,
+    position: Position,
 ) -> Result<Option<Mode>, Memory>
     ensures step { let awaited = member_word flags word position nodes.old.all stack.old in
         gives result nodes.new.all stack.new awaited ≡ awaited }
@@ -45,7 +45,7 @@ pub fn member_type(
     stack: &mut Stack,
     flags: Option<NodeId>,
     word: u8,
-    position: Pos,
+    position: Position,
 ) -> Result<Option<Mode>, Memory>
     ensures step { let awaited = type_start nodes.old.all (MemberOpen flags ∷ stack.old) (a_word word position) in
         gives result nodes.new.all stack.new awaited ≡ awaited }

@@ -4,7 +4,7 @@ ghost use Rattle.std.specs.Prelude.{◌≡◌};
 ghost use Rattle.scj_tree.specs.Terminals.{no_flags as none_of_them, placed as placed_at, with_define_scope as with_defined, with_scope as with_scoped, with_runs_in as with_run, with_modifier as with_word, add_modifier as add_word, has_effect as is_effective, flags_node as node_of_flags};
 
 use scj_base::vocabulary::{ABSTRACT, FINAL, PRIVATE, PROTECTED, PUBLIC, STATIC, SYNCHRONIZED};
-use scj_base::{NodeId, Pos};
+use scj_base::{NodeId, Position};
 use scj_tree::{FlagSet, Node};
 
 /// No annotation and no modifier.
@@ -28,7 +28,7 @@ pub fn no_flags() -> FlagSet
 
 /// With one that stands at the place: the first gives the place of all.
 #[tactic(auto, unfolding(scj_tree::specs::Terminals::placed))]
-pub fn placed(position: Pos, flags: FlagSet) -> FlagSet
+pub fn placed(position: Position, flags: FlagSet) -> FlagSet
     ensures { result ≡ placed_at position flags }
 {
     match flags.position {

@@ -14,7 +14,7 @@ use parser_nodes::views::View;
 use scj_base::vocabulary::{
     BOOLEAN, GREATER, INT, LEFT_BRACKET, LEFT_PARENTHESIS, LESS, RIGHT_BRACKET,
 };
-use scj_base::{Memory, NodeId, Pos, SharedName};
+use scj_base::{Memory, NodeId, Position, SharedName};
 use scj_tree::Node;
 
 /// Behind a type.
@@ -67,7 +67,7 @@ pub fn type_end_step(
     nodes: &mut Nodes,
     stack: &mut Stack,
     view: &View,
-    position: Pos,
+    position: Position,
     element: &ElementType,
 ) -> Result<Option<Mode>, Memory>
     ensures step { let awaited = type_end_step position element.now nodes.old.all stack.old (seen view.now) in
@@ -94,7 +94,7 @@ pub fn type_bracket_step(
     nodes: &mut Nodes,
     stack: &mut Stack,
     view: &View,
-    position: Pos,
+    position: Position,
     element: &ElementType,
 ) -> Result<Option<Mode>, Memory>
     ensures step { let awaited = type_bracket_step position element.now nodes.old.all stack.old (seen view.now) in
@@ -117,9 +117,9 @@ pub fn type_bracket_step(
 pub fn constructor_step(
     nodes: &mut Nodes,
     stack: &mut Stack,
-    position: Pos,
+    position: Position,
     name: &SharedName,
-    parenthesis: Pos,
+    parenthesis: Position,
 ) -> Result<Option<Mode>, Memory>
     ensures step { let awaited = constructor_step position name.now parenthesis nodes.old.all stack.old in
         gives result nodes.new.all stack.new awaited ≡ awaited }
@@ -146,10 +146,10 @@ pub fn constructor_step(
 pub fn type_name_sign(
     nodes: &mut Nodes,
     stack: &mut Stack,
-    position: Pos,
+    position: Position,
     name: &SharedName,
     sign: u8,
-    sign_position: Pos,
+    sign_position: Position,
 ) -> Result<Option<Mode>, Memory>
     ensures step { let awaited = type_name_step position name.now nodes.old.all stack.old (a_sign sign sign_position) in
         gives result nodes.new.all stack.new awaited ≡ awaited }
@@ -185,7 +185,7 @@ pub fn type_name_step(
     nodes: &mut Nodes,
     stack: &mut Stack,
     view: &View,
-    position: Pos,
+    position: Position,
     name: &SharedName,
 ) -> Result<Option<Mode>, Memory>
     ensures step { let awaited = type_name_step position name.now nodes.old.all stack.old (seen view.now) in
@@ -210,7 +210,7 @@ pub fn type_argument_name_step(
     nodes: &mut Nodes,
     stack: &mut Stack,
     view: &View,
-    position: Pos,
+    position: Position,
     name: &SharedName,
 ) -> Result<Option<Mode>, Memory>
     ensures step { let awaited = type_argument_name_step position name.now nodes.old.all stack.old (seen view.now) in
@@ -237,7 +237,7 @@ pub fn type_argument_end_step(
     nodes: &mut Nodes,
     stack: &mut Stack,
     view: &View,
-    position: Pos,
+    position: Position,
     name: &SharedName,
     argument: NodeId,
 ) -> Result<Option<Mode>, Memory>

@@ -4,7 +4,7 @@ use Rattle.std.specs.Prelude.{Option, Some, None, if◌then◌else◌, slice_get
 use Rattle.std.proofs.Common.{◌≡◌, ℕ, List, [], ◌∷◌, length, refl, ◌∙◌, ap}
 use Rattle.scj_base.specs.declared.faults.RunFault.{RunFault}
 use Rattle.scj_base.specs.declared.faults.RunFault.TheVariants.{CeilingViolation, DepthFull, MemoryFull, NotInitializing, ScopedCycle, StoreFull, TooManyHandlers}
-use Rattle.scj_base.specs.declared.places.Pos.{Pos}
+use Rattle.scj_base.specs.declared.positions.Position.{Position}
 use Rattle.scj_base.specs.declared.values.Value.{Value}
 use Rattle.scj_rules.specs.Words.{holds}
 use Rattle.scj_model.specs.Code.{Code}
@@ -38,7 +38,7 @@ module _ (code : Code) (s : State) (x : Activity) where
   closed_beside None = refl
   closed_beside (Some a) = refl
 
-  broken : (activity : Activity) (position : Pos) (fault : RunFault) →
+  broken : (activity : Activity) (position : Position) (fault : RunFault) →
       IsAlikeStep (fault_in s TheSequencer activity position fault) (fault_in t TheSequencer activity position fault)
   unfolding fault_in is_over
   broken activity position fault = record { states = over x refl refl; events = refl }
@@ -47,7 +47,7 @@ module _ (code : Code) (s : State) (x : Activity) where
   seq = TheSequencer
 
   -- a frame that is called: the ceiling of its monitor is asked of the objects
-  called_alike : (activity : Activity) (frames : List Frame) (position : Pos) (g : Frame) →
+  called_alike : (activity : Activity) (frames : List Frame) (position : Position) (g : Frame) →
       IsAlikeStep (called code s seq activity frames position g) (called code t seq activity frames position g)
   unfolding called ceiling_entered with_activity
   called_alike activity frames position g =
@@ -81,7 +81,7 @@ module _ (code : Code) (s : State) (x : Activity) where
       entered (Some ceiling) =
           each_way (nat_lt ceiling activity.priority) (broken activity position CeilingViolation) stays
 
-  opened_alike : (activity : Activity) (frames : List Frame) (position : Pos) (g : Frame) (scope bytes : ℕ) →
+  opened_alike : (activity : Activity) (frames : List Frame) (position : Position) (g : Frame) (scope bytes : ℕ) →
       IsAlikeStep (opened_in s seq activity frames position g scope bytes)
       (opened_in t seq activity frames position g scope bytes)
   unfolding opened_in opening has_store_for reserved with_activity
@@ -105,7 +105,7 @@ module _ (code : Code) (s : State) (x : Activity) where
       go (Some a) [] = stays
       go (Some a) (g ∷ gs) = stays
 
-  registered_alike : (activity : Activity) (f : Frame) (below : List Frame) (position : Pos) (r : ℕ) (o : Object) →
+  registered_alike : (activity : Activity) (f : Frame) (below : List Frame) (position : Position) (r : ℕ) (o : Object) →
       IsAlikeStep (registered code s seq activity position r o (with_frame s seq activity f below))
       (registered code t seq activity position r o (with_frame t seq activity f below))
   unfolding registered with_activity
@@ -114,7 +114,7 @@ module _ (code : Code) (s : State) (x : Activity) where
       (each_way (is_some (handler_number s.registry r)) stays
       (each_way (not (nat_lt (length s.registry) most_handlers)) (broken activity position TooManyHandlers) stays))
 
-  pub sequencer_unseen : (activity : Activity) (below : List Frame) (position : Pos) (e : Effect) →
+  pub sequencer_unseen : (activity : Activity) (below : List Frame) (position : Position) (e : Effect) →
       IsAlikeTry (applied code s seq activity below position e) (applied code t seq activity below position e)
   unfolding applied allocating has_room used with_activity
   sequencer_unseen activity below position (Goes f) = some stays

@@ -4,7 +4,7 @@ use Rattle.std.specs.Prelude.{Option, Some, None, if◌then◌else◌, ◌==◌,
 use Rattle.std.proofs.Common.{◌≡◌, ℕ, Bool, List, [], ◌∷◌, length, refl, ◌∙◌, ap}
 use Rattle.scj_base.specs.declared.faults.RunFault.{RunFault}
 use Rattle.scj_base.specs.declared.faults.RunFault.TheVariants.{CeilingViolation, DepthFull, MemoryFull, NotInitializing, ScopedCycle, StoreFull, TooManyHandlers}
-use Rattle.scj_base.specs.declared.places.Pos.{Pos}
+use Rattle.scj_base.specs.declared.positions.Position.{Position}
 use Rattle.scj_base.specs.declared.values.Value.{Value}
 use Rattle.scj_base.specs.declared.values.Value.TheVariants.{At}
 use Rattle.scj_model.specs.declared.events.Event.{Event}
@@ -51,7 +51,7 @@ module _ (code : Code) (s : State) (n : ℕ) (x : Activity) where
       ap (λ v. closed_all v fs) (closed_there u f.opened) ∙ all_closed_there (closed u f.opened) fs
 
   -- a fault ends the release
-  broken : (activity : Activity) (position : Pos) (fault : RunFault) →
+  broken : (activity : Activity) (position : Position) (fault : RunFault) →
       fault_in t job activity position fault ≡ fault_in s job activity position fault
   unfolding fault_in
   broken activity position fault =
@@ -78,7 +78,7 @@ module _ (code : Code) (s : State) (n : ℕ) (x : Activity) where
       silently (with_activity (with_status u n (Started x)) job activity) ≡ silently (with_activity u job activity)
   goes_on u activity = ap (λ v. silently v) (put_back u activity)
 
-  called_there : (activity : Activity) (frames : List Frame) (position : Pos) (g : Frame) →
+  called_there : (activity : Activity) (frames : List Frame) (position : Position) (g : Frame) →
       called code t job activity frames position g ≡ called code s job activity frames position g
   unfolding called ceiling_entered
   called_there activity frames position g =
@@ -119,7 +119,7 @@ module _ (code : Code) (s : State) (n : ℕ) (x : Activity) where
           ap (λ v. telling v (tell_priority t job activity.priority ceiling)) (put_back s raised)
           ∙ ap (λ events. telling (with_activity s job raised) events) (told_priority activity.priority ceiling))
 
-  opened_there : (activity : Activity) (frames : List Frame) (position : Pos) (g : Frame) (scope bytes : ℕ) →
+  opened_there : (activity : Activity) (frames : List Frame) (position : Position) (g : Frame) (scope bytes : ℕ) →
       opened_in t job activity frames position g scope bytes ≡ opened_in s job activity frames position g scope bytes
   unfolding opened_in opening has_store_for reserved
   opened_there activity frames position g scope bytes =
@@ -173,7 +173,7 @@ module _ (code : Code) (s : State) (n : ℕ) (x : Activity) where
       last_there after [] = ended_there (closed s f.opened) after value
       last_there after (g ∷ gs) = goes_on (closed s f.opened) after
 
-  registered_there : (activity : Activity) (f : Frame) (below : List Frame) (position : Pos) (r : ℕ) (o : Object) →
+  registered_there : (activity : Activity) (f : Frame) (below : List Frame) (position : Position) (r : ℕ) (o : Object) →
       registered code t job activity position r o (with_frame t job activity f below)
       ≡ registered code s job activity position r o (with_frame s job activity f below)
   unfolding registered
@@ -189,7 +189,7 @@ module _ (code : Code) (s : State) (n : ℕ) (x : Activity) where
       (Register s.unit (length s.registry + 1) (class_name code o.class) (new_row code.program r o).priority ∷ []))
       back)))
 
-  pub release_unseen : (activity : Activity) (below : List Frame) (position : Pos) (e : Effect) →
+  pub release_unseen : (activity : Activity) (below : List Frame) (position : Position) (e : Effect) →
       applied code t job activity below position e ≡ applied code s job activity below position e
   unfolding applied allocating has_room used
   release_unseen activity below position (Goes f) = ap (λ v. Some v) (goes_on s (record activity { frames = f ∷ below }))

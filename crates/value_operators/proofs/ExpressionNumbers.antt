@@ -1,6 +1,6 @@
 -- Reading an expression keeps what fits: 2147483648 is read only behind a `-`.
 use Rattle.std.proofs.Common.{ℕ, Bool, List}
-use Rattle.scj_base.specs.declared.places.Pos.{Pos}
+use Rattle.scj_base.specs.declared.positions.Position.{Position}
 use Rattle.scj_tree.specs.declared.nodes.Node.{Node}
 use Rattle.scj_tree.specs.declared.readings.PostKind.{PostKind}
 use Rattle.scj_tree.specs.Lexemes.{Lexeme}
@@ -27,7 +27,7 @@ mutual
   unary1_fits (cast e d) h = made _ (unary1_fits d (behind3 h)) tt
   unary1_fits (post_unary d) h = post_fits d h
 
-  pub post_fits : {minimum : Bool} {kind : PostKind} {p : Pos} {N N1 : List Node} {i o : List Lexeme} {id : ℕ} →
+  pub post_fits : {minimum : Bool} {kind : PostKind} {p : Position} {N N1 : List Node} {i o : List Lexeme} {id : ℕ} →
       PostRead minimum kind p N i N1 o id → Fits N i → Fits N1 o
   post_fits simple_name h = made _ (behind h) tt
   post_fits (simple_call d) h = made _ (arguments_fit d (behind2 h)) tt

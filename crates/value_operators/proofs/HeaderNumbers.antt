@@ -1,6 +1,6 @@
 -- Reading imports, annotations and modifiers, types, parameters and the heads of classes keeps what fits.
 use Rattle.std.proofs.Common.{ℕ, Bool, true, false, List, Option, Some, None, if◌then◌else◌}
-use Rattle.scj_base.specs.declared.places.Pos.{Pos}
+use Rattle.scj_base.specs.declared.positions.Position.{Position}
 use Rattle.scj_tree.specs.declared.nodes.Node.{Node}
 use Rattle.scj_tree.specs.declared.readings.FlagSet.{FlagSet}
 use Rattle.scj_tree.specs.Lexemes.{Lexeme}
@@ -70,13 +70,13 @@ pub flags_fit : {N : List Node} {i : List Lexeme} (flags : FlagSet) → Fits N i
 unfolding with_flags flags_node flags_at HasInt
 flags_fit {N} {i} flags h = go (has_effect flags) flags.position
   where
-    row : Pos → Node
+    row : Position → Node
     row p = flags_at p flags
 
-    flag_node : Bool → Option Pos → Option Node
+    flag_node : Bool → Option Position → Option Node
     flag_node t o = if t then (elim o as (λ _. Option Node) [ None ↦ None | Some p ↦ Some (row p) ]) else None
 
-    go : (t : Bool) (o : Option Pos) →
+    go : (t : Bool) (o : Option Position) →
         Fits (elim (flag_node t o) as (λ _. List Node) [ None ↦ N | Some node ↦ put N node ]) i
     go false o = h
     go true None = h

@@ -4,7 +4,7 @@ use Rattle.std.specs.Prelude.{is_some, option_map, slice_get, unwrap_or}
 use Rattle.std.specs.List.{list_all}
 use Rattle.std.proofs.lemmas.Bool.{or_parts}
 use Rattle.std.proofs.lemmas.List.Elements.{All-append}
-use Rattle.scj_base.specs.declared.places.Pos.{Pos}
+use Rattle.scj_base.specs.declared.positions.Position.{Position}
 use Rattle.scj_base.specs.declared.values.Value.{Value}
 use Rattle.scj_base.specs.Lexeme.{is_name, is_text_byte}
 use Rattle.scj_rules.specs.Bodies.{class_position, safelet_class}
@@ -125,7 +125,7 @@ module _ (code : Code) (plan : Plan) (spares : SparesPriorities code)
 
   -- ---- all operations
 
-  module _ (F : Pos → Type 0)
+  module _ (F : Position → Type 0)
       (places : (job : Job) (a : Activity) (f : Frame) (below : List Frame) (op : Op) (rest : List Op) →
       activity_of s job ≡ Some a → a.frames ≡ f ∷ below → f.rest ≡ op ∷ rest →
       ((h : Frame) (value : Option Value) → effect_at code plan.readings s f op rest ≡ Leaves h value → ⊥) →
@@ -186,7 +186,7 @@ module _ (code : Code) (plan : Plan) (spares : SparesPriorities code)
 -- ---- all units
 
 -- what is known of the places of faults, and of the names of missions
-pub record Placed (F : Pos → Type 0) (code : Code) (plan : Plan) : Type 0 where
+pub record Placed (F : Position → Type 0) (code : Code) (plan : Plan) : Type 0 where
   pub operations : (s : State) → Reached code plan by_priority Arrived s → (job : Job) (a : Activity) (f : Frame)
       (below : List Frame) (op : Op) (rest : List Op) →
       activity_of s job ≡ Some a → a.frames ≡ f ∷ below → f.rest ≡ op ∷ rest →
@@ -202,7 +202,7 @@ pub record Placed (F : Pos → Type 0) (code : Code) (plan : Plan) : Type 0 wher
   pub opens : (s : State) → Reached code plan by_priority Operated s → (r : ℕ) → s.operation ≡ OpenMission r →
       is_name (class_name_at code s r) ≡ true
 
-module _ (nodes : List Node) (F : Pos → Type 0) (code : Code) (plan : Plan) (spares : SparesPriorities code)
+module _ (nodes : List Node) (F : Position → Type 0) (code : Code) (plan : Plan) (spares : SparesPriorities code)
     (names : (class : ℕ) → class < length code.program.classes → is_name (class_name code class) ≡ true)
     (labels : (id : ℕ) → list_all is_text_byte (label nodes id) ≡ true) (placed : Placed F code plan) where
   backed : (s : State) → Reached code plan by_priority Arrived s → Backed F code plan.readings s

@@ -1,6 +1,6 @@
 -- What the events of an effect need to have proper parts.
 use Rattle.std.specs.Prelude.{◌≡◌, ℕ, true, List, slice_get, Some, unwrap_or}
-use Rattle.scj_base.specs.declared.places.Pos.{Pos}
+use Rattle.scj_base.specs.declared.positions.Position.{Position}
 use Rattle.scj_base.specs.Lexeme.{is_name}
 use Rattle.scj_model.specs.Apply.{class_name}
 use Rattle.scj_model.specs.Code.{Code}
@@ -15,7 +15,7 @@ pub record RegistersWell (code : Code) (r : ℕ) (o : Object) : Type 0 where
   pub priority : IsPriority (new_row code.program r o).priority
 
 -- a place for a fault, where the effect may have one; the priority that comes back to a release that a frame leaves
-abbrev pub Backs : (Pos → Type 0) → Code → List Object → Job → Activity → Pos → Effect → Type 0
+abbrev pub Backs : (Position → Type 0) → Code → List Object → Job → Activity → Position → Effect → Type 0
 Backs F code objects job a position (Goes f) = Unit {0}
 Backs F code objects job a position (Prints f label value) = Unit {0}
 Backs F code objects job a position (Leaves f value) =

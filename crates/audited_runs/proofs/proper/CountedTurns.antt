@@ -1,7 +1,7 @@
 -- How many lines an operation tells, and how many releases it leaves, by how many there were.
 use Rattle.std.proofs.Common.{ℕ, ◌≤◌, List, [], ◌∷◌, length, None}
 use Rattle.std.specs.Prelude.{codes, slice_get}
-use Rattle.scj_base.specs.declared.places.Pos.{Pos}
+use Rattle.scj_base.specs.declared.positions.Position.{Position}
 use Rattle.scj_rules.specs.declared.views.Body.{Body}
 use Rattle.scj_rules.specs.Bodies.{body_named, class_position, constructor_body, safelet_class, size_of}
 use Rattle.scj_rules.specs.ScopeRules.{defined_by_chain, immortal_scope}
@@ -76,13 +76,13 @@ module _ (n : ℕ) where
         go r Ended = nothing_good (S n)
         go r Dropped = nothing_good (S n)
 
-    short_area : (position : Pos) (scope bytes : ℕ) → (S n) (area_opened s position scope bytes)
+    short_area : (position : Position) (scope bytes : ℕ) → (S n) (area_opened s position scope bytes)
     unfolding area_opened
     short_area position scope bytes =
         short_opening n s TheSequencer s.activity position scope (innermost s.activity.areas) bytes _ h
         (λ t k m. silent n _ m)
 
-    short_safelet : (position : Pos) (class area : ℕ) → (S n) (safelet_made code s position class area)
+    short_safelet : (position : Position) (class area : ℕ) → (S n) (safelet_made code s position class area)
     unfolding safelet_made
     short_safelet position class area =
         short_made n s TheSequencer s.activity position class area (new_slots code.program class) _ h (λ t k m. silent n _ m)

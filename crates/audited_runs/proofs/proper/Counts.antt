@@ -3,7 +3,7 @@ use Rattle.std.proofs.Common.{◌≡◌, ℕ, suc, ◌+◌, ◌≤◌, ◌==◌,
 use Rattle.std.specs.Prelude.{filter, is_some, slice_get, unwrap_or}
 use Rattle.std.proofs.lemmas.List.{length-append, length_push}
 use Rattle.accepted_laws.proofs.Positions.{length_map}
-use Rattle.scj_base.specs.declared.places.Pos.{Pos}
+use Rattle.scj_base.specs.declared.positions.Position.{Position}
 use Rattle.scj_base.specs.declared.faults.RunFault.{RunFault}
 use Rattle.scj_base.specs.declared.values.Value.{Value}
 use Rattle.scj_model.specs.declared.events.Event.{Event}
@@ -89,7 +89,7 @@ module _ (n : ℕ) where
   two_lines : (s : State) (es : List Event) → length es ≤ 2 → length s.releases ≤ n → S (telling s es)
   two_lines s es l h = record { told = omega (arith, l); more = omega (arith, h) }
 
-  short_fault : (s : State) (job : Job) (a : Activity) (position : Pos) (fault : RunFault) → length s.releases ≤ n →
+  short_fault : (s : State) (job : Job) (a : Activity) (position : Position) (fault : RunFault) → length s.releases ≤ n →
       S (fault_in s job a position fault)
   unfolding fault_in
   short_fault s TheSequencer a position fault h = two_lines (record s { phase = _; operation = _; outcome = _ }) _ (omega arith) h
@@ -129,7 +129,7 @@ module _ (n : ℕ) where
       go true h = omega arith
       go false h = h
 
-  pub short_opening : (s : State) (job : Job) (a : Activity) (position : Pos) (scope : ℕ) (parent : Option ℕ) (bytes : ℕ)
+  pub short_opening : (s : State) (job : Job) (a : Activity) (position : Position) (scope : ℕ) (parent : Option ℕ) (bytes : ℕ)
       (next : State → ℕ → Step) → length s.releases ≤ n →
       ((t : State) (k : ℕ) → length t.releases ≤ n → S (next t k)) →
       S (opening s job a position scope parent bytes next)
@@ -138,7 +138,7 @@ module _ (n : ℕ) where
       good_if S (has_store_for s bytes) _ _ (λ e. more (with_area s scope parent bytes) (length s.areas) h)
       (λ e. short_fault s job a position _ h)
 
-  pub short_made : (s : State) (job : Job) (a : Activity) (position : Pos) (class area : ℕ) (slots : List Value)
+  pub short_made : (s : State) (job : Job) (a : Activity) (position : Position) (class area : ℕ) (slots : List Value)
       (next : State → ℕ → Step) → length s.releases ≤ n →
       ((t : State) (k : ℕ) → length t.releases ≤ n → S (next t k)) →
       S (allocating s job a position class area slots next)
@@ -179,7 +179,7 @@ module _ (n : ℕ) where
       kept = let e = length_map dropped_release s.releases in omega (arith, e, h)
 
   module _ (code : Code) (s : State) (h : length s.releases ≤ n) (job : Job) (a : Activity) (below : List Frame)
-      (position : Pos) where
+      (position : Position) where
     framed : (t : State) (f : Frame) → length t.releases ≤ n → S (silently (with_frame t job a f below))
     framed t f k = silent _ (many_with n t job (record a { frames = f ∷ below }) k)
 

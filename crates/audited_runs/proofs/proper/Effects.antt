@@ -6,7 +6,7 @@ use Rattle.std.proofs.lemmas.Bool.Decides.{nat_tests}
 use Rattle.std.proofs.lemmas.List.{length_push}
 use Rattle.std.proofs.lemmas.List.Elements.{All-cons, All-map}
 use Rattle.accepted_laws.proofs.Lists.{get_within}
-use Rattle.scj_base.specs.declared.places.Pos.{Pos}
+use Rattle.scj_base.specs.declared.positions.Position.{Position}
 use Rattle.scj_base.specs.declared.faults.RunFault.{RunFault}
 use Rattle.scj_base.specs.declared.values.Value.{Value}
 use Rattle.scj_base.specs.Lexeme.{is_text_byte}
@@ -58,10 +58,10 @@ row_number registry handler h few =
     let l = get_within registry h.k h.row h.there in
     let e = h.is_next in (omega (arith, e), omega (arith, e, l, few))
 
-module _ (nodes : List Node) (F : Pos → Type 0) where
+module _ (nodes : List Node) (F : Position → Type 0) where
   -- ---- what every effect may do
 
-  pub good_fault : (s : State) (job : Job) (a : Activity) (position : Pos) (fault : RunFault) → length s.registry ≤ 64 →
+  pub good_fault : (s : State) (job : Job) (a : Activity) (position : Position) (fault : RunFault) → length s.registry ≤ 64 →
       F position → Good nodes F (fault_in s job a position fault)
   unfolding fault_in
   good_fault s TheSequencer a position fault few h =
@@ -97,7 +97,7 @@ module _ (nodes : List Node) (F : Pos → Type 0) where
       (elim_proper nodes F (slice_get s.releases p) (λ (r : Release). event.Prio s.unit r.handler after ∷ [])
       (λ r. one_proper nodes F (event.Prio s.unit r.handler after) (h p refl)))
 
-  pub good_opening : (s : State) (job : Job) (a : Activity) (position : Pos) (scope : ℕ) (parent : Option ℕ) (bytes : ℕ)
+  pub good_opening : (s : State) (job : Job) (a : Activity) (position : Position) (scope : ℕ) (parent : Option ℕ) (bytes : ℕ)
       (next : State → ℕ → Step) → length s.registry ≤ 64 → F position →
       ((t : State) (n : ℕ) → length t.registry ≤ 64 → Good nodes F (next t n)) →
       Good nodes F (opening s job a position scope parent bytes next)
@@ -106,7 +106,7 @@ module _ (nodes : List Node) (F : Pos → Type 0) where
       good_if (Good nodes F) (has_store_for s bytes) _ _ (λ e. more (with_area s scope parent bytes) (length s.areas) few)
       (λ e. good_fault s job a position _ few h)
 
-  pub good_made : (s : State) (job : Job) (a : Activity) (position : Pos) (class area : ℕ) (slots : List Value)
+  pub good_made : (s : State) (job : Job) (a : Activity) (position : Position) (class area : ℕ) (slots : List Value)
       (next : State → ℕ → Step) → length s.registry ≤ 64 → F position →
       ((t : State) (n : ℕ) → length t.registry ≤ 64 → Good nodes F (next t n)) →
       Good nodes F (allocating s job a position class area slots next)
@@ -156,7 +156,7 @@ module _ (nodes : List Node) (F : Pos → Type 0) where
 
   module _ (code : Code) (s : State) (few : length s.registry ≤ 64)
       (labels : (id : ℕ) → list_all is_text_byte (label nodes id) ≡ true)
-      (ceilings : CeilingsArePriorities s.objects) (job : Job) (a : Activity) (below : List Frame) (position : Pos) where
+      (ceilings : CeilingsArePriorities s.objects) (job : Job) (a : Activity) (below : List Frame) (position : Position) where
     good_frame : (t : State) (f : Frame) → length t.registry ≤ 64 → Good nodes F (silently (with_frame t job a f below))
     good_frame t f few_t = good_silent nodes F _ (few_with t job (record a { frames = f ∷ below }) few_t)
 

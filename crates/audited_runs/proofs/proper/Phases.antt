@@ -1,7 +1,7 @@
 -- What arrivals tell, and what follows an operation, has proper parts.
 use Rattle.std.proofs.Common.{◌≡◌, ℕ, ◌+◌, ◌++◌, ◌≤◌, Bool, true, false, not, ◌&&◌, ◌||◌, List, [], ◌∷◌, length, Option, Some, None, if◌then◌else◌, refl, sym, subst, arith}
 use Rattle.std.specs.Prelude.{nat_lt, option_map, slice_get}
-use Rattle.scj_base.specs.declared.places.Pos.{Pos}
+use Rattle.scj_base.specs.declared.positions.Position.{Position}
 use Rattle.scj_base.specs.declared.values.Value.{Value}
 use Rattle.scj_base.specs.declared.values.Value.TheVariants.{Int, Bool as Truth, Null, At}
 use Rattle.scj_base.specs.Lexeme.{is_name}
@@ -26,7 +26,7 @@ use Rattle.audited_runs.proofs.Due.{AllAre, due_have_rows}
 use Rattle.audited_runs.proofs.proper.Effects.{few_as, good_fault, good_taken}
 use Rattle.audited_runs.proofs.proper.Steps.{Good, GoodIf, either_good, good_silent, good_then, none_proper, nothing_good, one_proper, some_good, two_proper}
 
-module _ (nodes : List Node) (F : Pos → Type 0) where
+module _ (nodes : List Node) (F : Position → Type 0) where
   -- ---- arrivals
 
   taken_registry : (s : State) (handler : ℕ) → (release_taken s handler).state.registry ≡ s.registry

@@ -2,7 +2,7 @@
 use Rattle.std.proofs.Common.{◌≡◌, ℕ, zero, suc, true, List, ◌∷◌, Option, Some, None, inl, inr, refl, sym, ap, ◌∙◌, subst, arith}
 use Rattle.std.specs.Prelude.{is_some, slice_get}
 use Rattle.scj_rules.proofs.ChainLemmas.{or_cases}
-use Rattle.scj_base.specs.declared.places.Pos.{Pos}
+use Rattle.scj_base.specs.declared.positions.Position.{Position}
 use Rattle.scj_base.specs.declared.values.Value.{Value}
 use Rattle.scj_builtins.specs.Framework.{aperiodic_handler, mission, periodic_handler, safelet}
 use Rattle.scj_tree.specs.Forest.{Forest}
@@ -66,7 +66,7 @@ module _ (forest : Forest) (accepted : IsAcceptedProgram forest) (files longest 
   abbrev code : Code
   code = code_of forest
 
-  abbrev F : Pos → Type 0
+  abbrev F : Position → Type 0
   F = IsPosition files longest
 
   sorted : IsWellSorted forest.nodes
@@ -80,8 +80,8 @@ module _ (forest : Forest) (accepted : IsAcceptedProgram forest) (files longest 
       let at : IsAt forest.nodes w.declared = written_at forest accepted.is_accepted class w.row w.declared w.stands w.is in
       subst F
       (at.placed
-      ∙ sym (ap (λ (o : Option ClassRow). elim (o >>= (λ (row : ClassRow). row.written)) as (λ _. Pos) [ None ↦ nowhere | Some c ↦ c.position ]) w.stands
-      ∙ ap (λ (o : Option WrittenClass). elim o as (λ _. Pos) [ None ↦ nowhere | Some c ↦ c.position ]) w.is))
+      ∙ sym (ap (λ (o : Option ClassRow). elim (o >>= (λ (row : ClassRow). row.written)) as (λ _. Position) [ None ↦ nowhere | Some c ↦ c.position ]) w.stands
+      ∙ ap (λ (o : Option WrittenClass). elim o as (λ _. Position) [ None ↦ nowhere | Some c ↦ c.position ]) w.is))
       (fit.places w.declared.node at.node at.there)
 
   handler_position : (class : ℕ) → IsConcrete p class → is_handler p class ≡ true → F (class_position p class)
@@ -116,7 +116,7 @@ module _ (forest : Forest) (accepted : IsAcceptedProgram forest) (files longest 
   node_position : (id : ℕ) (node : Node) → slice_get forest.nodes id ≡ Some node → F (position_of_node code id)
   unfolding code_of declarations_of
   node_position id node e =
-      subst F (sym (ap (λ (o : Option Node). elim o as (λ _. Pos) [ None ↦ nowhere | Some n ↦ position_of n ]) e))
+      subst F (sym (ap (λ (o : Option Node). elim o as (λ _. Position) [ None ↦ nowhere | Some n ↦ position_of n ]) e))
       (fit.places id node e)
 
   standing_place : (id : ℕ) → is_some (slice_get forest.nodes id) ≡ true → F (position_of_node code id)
@@ -166,7 +166,7 @@ module _ (forest : Forest) (accepted : IsAcceptedProgram forest) (files longest 
           leaves e = ap (λ (o : Op). effect_at code plan.readings s f o rest) e
 
           go : (o : Option ℕ) → node_of op ≡ o →
-              F (elim o as (λ _. Pos) [ None ↦ nowhere | Some node ↦ position_of_node code node ])
+              F (elim o as (λ _. Position) [ None ↦ nowhere | Some node ↦ position_of_node code node ])
           go None e = absurd (other (record f { rest = rest }) None (leaves (leave_alone op e)))
           go (Some id) e = standing_place id (stand job a f below op rest is frames ops id e)
 
@@ -205,5 +205,5 @@ module _ (forest : Forest) (accepted : IsAcceptedProgram forest) (files longest 
         let m : IsImmortalOf code.program (world_of s) safelet r =
         q.safelet r (subst (λ (op : SeqOp). OperandThere s op) e q.there) in
         subst F
-        (sym (ap (λ (o : Option Object). elim o as (λ _. Pos) [ None ↦ nowhere | Some x ↦ class_position p x.class ]) m.found))
+        (sym (ap (λ (o : Option Object). elim o as (λ _. Position) [ None ↦ nowhere | Some x ↦ class_position p x.class ]) m.found))
         (safelet_position m.object.class m.concrete m.is_under)

@@ -4,7 +4,7 @@ use Rattle.std.proofs.Common.{◌≡◌, ◌≤◌, Bool, true, false, All, List
 use Rattle.std.specs.Prelude.{option_map}
 use Rattle.std.specs.List.{list_all}
 use Rattle.std.proofs.lemmas.List.Elements.{All-append, All-cons, All-nil}
-use Rattle.scj_base.specs.declared.places.Pos.{Pos}
+use Rattle.scj_base.specs.declared.positions.Position.{Position}
 use Rattle.scj_base.specs.Lexeme.{is_name, is_text_byte}
 use Rattle.scj_tree.specs.declared.nodes.Node.{Node}
 use Rattle.scj_model.specs.declared.events.Event.{Event}
@@ -17,7 +17,7 @@ pub use Rattle.int_values.proofs.Steps.{GoodIf, bind_good, either_good, good_if,
 
 -- names are names, texts texts, and the numbers of handlers and priorities as large as they may be; F is asked of the
 -- places of faults
-abbrev pub IsProper : List Node → (Pos → Type 0) → Event → Type 0
+abbrev pub IsProper : List Node → (Position → Type 0) → Event → Type 0
 IsProper nodes F (event.Mission unit class) = is_name class ≡ true
 IsProper nodes F (event.Register unit handler class priority) =
     (handler ≤ 64) × (is_name class ≡ true) × IsPriorityNumber priority
@@ -27,7 +27,7 @@ IsProper nodes F (event.Print unit text value) = list_all is_text_byte (label no
 IsProper nodes F (event.Fault unit fault place) = F place
 IsProper nodes F e = Unit {0}
 
-module _ (nodes : List Node) (F : Pos → Type 0) where
+module _ (nodes : List Node) (F : Position → Type 0) where
   pub record Good (x : Step) : Type 0 where
     pub events : All (IsProper nodes F) x.events
     pub few : length x.state.registry ≤ 64

@@ -2,7 +2,7 @@
 use Rattle.std.proofs.Common.{◌≡◌, ℕ, ◌≤◌, Bool, true, false, not, ◌&&◌, All, List, [], ◌∷◌, length, Option, Some, None, refl, sym, subst}
 use Rattle.std.specs.Prelude.{slice_get, codes}
 use Rattle.std.specs.List.{list_all}
-use Rattle.scj_base.specs.declared.places.Pos.{Pos}
+use Rattle.scj_base.specs.declared.positions.Position.{Position}
 use Rattle.scj_base.specs.Lexeme.{is_text_byte}
 use Rattle.scj_rules.specs.declared.views.Body.{Body}
 use Rattle.scj_rules.specs.Bodies.{body_named, class_position, constructor_body, safelet_class, size_of}
@@ -34,7 +34,7 @@ use Rattle.audited_runs.proofs.proper.Effects.{few_with, good_applied, good_made
 use Rattle.audited_runs.proofs.proper.Steps.{Good, GoodIf, IsProper, bind_good, either_good, elim_proper, good_silent, if_proper, none_proper, nothing_good, one_proper, some_good, tried_good}
 
 -- what the operations of a state need
-pub record Backed (F : Pos → Type 0) (code : Code) (rows : List ReadingRow) (s : State) : Type 0 where
+pub record Backed (F : Position → Type 0) (code : Code) (rows : List ReadingRow) (s : State) : Type 0 where
   pub ceilings : CeilingsArePriorities s.objects
   pub effects : (job : Job) (a : Activity) (f : Frame) (below : List Frame) (op : Op) (rest : List Op) →
       job_may_act s job ≡ true → activity_of s job ≡ Some a → a.frames ≡ f ∷ below → f.rest ≡ op ∷ rest →
@@ -45,7 +45,7 @@ pub record Backed (F : Pos → Type 0) (code : Code) (rows : List ReadingRow) (s
   pub mission : (r : ℕ) (o : Object) → s.operation ≡ OpenMission r → object_at s r ≡ Some o →
       F (class_position code.program o.class)
 
-module _ (nodes : List Node) (F : Pos → Type 0) (code : Code) (rows : List ReadingRow)
+module _ (nodes : List Node) (F : Position → Type 0) (code : Code) (rows : List ReadingRow)
     (labels : (id : ℕ) → list_all is_text_byte (label nodes id) ≡ true) where
   module _ (s : State) (few : length s.registry ≤ 64) (b : Backed F code rows s) where
     frame_good : (job : Job) (a : Activity) → job_may_act s job ≡ true → activity_of s job ≡ Some a →
@@ -115,13 +115,13 @@ module _ (nodes : List Node) (F : Pos → Type 0) (code : Code) (rows : List Rea
 
     -- ---- the sequencer
 
-    area_good : (position : Pos) (scope bytes : ℕ) → F position → Good nodes F (area_opened s position scope bytes)
+    area_good : (position : Position) (scope bytes : ℕ) → F position → Good nodes F (area_opened s position scope bytes)
     unfolding area_opened
     area_good position scope bytes h =
         good_opening nodes F s TheSequencer s.activity position scope (innermost s.activity.areas) bytes _ few h
         (λ t n few_t. good_silent nodes F _ few_t)
 
-    safelet_good : (position : Pos) (class area : ℕ) → F position → Good nodes F (safelet_made code s position class area)
+    safelet_good : (position : Position) (class area : ℕ) → F position → Good nodes F (safelet_made code s position class area)
     unfolding safelet_made
     safelet_good position class area h =
         good_made nodes F s TheSequencer s.activity position class area (new_slots code.program class) _ few h

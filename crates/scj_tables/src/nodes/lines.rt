@@ -2,7 +2,7 @@
 
 use Field::{Child, Flag, List, Named, Number, Optional, OptionalPosition, Position};
 use case_tables::Stop;
-use scj_base::{NodeId, Pos};
+use scj_base::{NodeId, Position};
 use scj_tree::{Node, NodeList};
 use std::io::Write;
 
@@ -13,8 +13,8 @@ enum Field<'a> {
     Optional(Option<NodeId>),
     List(&'a NodeList),
     Named(&'a [u8]),
-    Position(Pos),
-    OptionalPosition(Option<Pos>),
+    Position(Position),
+    OptionalPosition(Option<Position>),
     Flag(bool),
     Number(u32),
 }
@@ -369,7 +369,7 @@ pub fn print_node<W: Write>(node: &Node, out: &mut W) -> Result<(), Stop> {
     }
 }
 
-fn print_line<W: Write>(out: &mut W, kind: &str, position: Pos, fields: &[Field]) -> Result<(), Stop> {
+fn print_line<W: Write>(out: &mut W, kind: &str, position: Position, fields: &[Field]) -> Result<(), Stop> {
     write!(out, "{kind} ")?;
     print_position(position, out)?;
     for field in fields {
@@ -421,7 +421,7 @@ fn print_bytes<W: Write>(bytes: &[u8], out: &mut W) -> Result<(), Stop> {
     Ok(())
 }
 
-fn print_position<W: Write>(position: Pos, out: &mut W) -> Result<(), Stop> {
+fn print_position<W: Write>(position: Position, out: &mut W) -> Result<(), Stop> {
     write!(out, "(at {} {} {})", position.file, position.line, position.col)?;
     Ok(())
 }

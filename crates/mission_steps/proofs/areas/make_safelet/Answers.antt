@@ -1,5 +1,5 @@
 use Rattle.std.proofs.Common.{Some, None, subst, sym}
-use Rattle.scj_base.specs.declared.places.Pos.{Pos}
+use Rattle.scj_base.specs.declared.positions.Position.{Position}
 use Rattle.scj_base.specs.declared.faults.RunFault.TheVariants.{MemoryFull}
 use Rattle.scj_rules.specs.Bodies.{class_position}
 use Rattle.scj_model.specs.Code.{code_of}
@@ -37,7 +37,7 @@ returns c =
     (c.make_object.ensures.made c.args.code.now TheSequencer
     (state_of c.args.code.now c.args.state.now).activity
     (class_position (code_of c.args.code.now.program).program c.args.class)))
-    (subst (λ (position : Pos). IsStep c.args.code.now
+    (subst (λ (position : Position). IsStep c.args.code.now
     (fault_in (state_of c.args.code.now c.make_object.new.state) TheSequencer
     (state_of c.args.code.now c.args.state.now).activity position MemoryFull) c.halted.new.state
     c.args.told.now.items c.halted.new.told.items) c.class_position.ensures

@@ -1,5 +1,5 @@
 use Rattle.std.proofs.Common.{subst, sym}
-use Rattle.scj_base.specs.declared.places.Pos.{Pos}
+use Rattle.scj_base.specs.declared.positions.Position.{Position}
 use Rattle.scj_rules.specs.ScopeRules.{immortal_scope}
 use Rattle.scj_model.specs.Sequencer.{area_opened}
 use Rattle.run_state.specs.Seen.{state_of}
@@ -30,7 +30,7 @@ returns c =
     try_of c.args.code.now c.open_inside.new.state c.args.told.now.items c.open_inside.new.told.items _ _
     (immortal_opened c.args.code.now (state_of c.args.code.now c.args.state.now) c.in-Some.class
     c.in-Some-size_of.bytes (sym c.in-Some.ensures) (sym c.in-Some-size_of.ensures))
-    (subst (λ (position : Pos). IsStep c.args.code.now
+    (subst (λ (position : Position). IsStep c.args.code.now
     (area_opened (state_of c.args.code.now c.args.state.now) position immortal_scope c.in-Some-size_of.bytes)
     c.open_inside.new.state c.args.told.now.items c.open_inside.new.told.items) c.class_position.ensures
     (c.in_ok-open_inside.ensures c.args.code.now))

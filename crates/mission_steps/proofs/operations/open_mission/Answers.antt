@@ -1,5 +1,5 @@
 use Rattle.std.proofs.Common.{subst, sym}
-use Rattle.scj_base.specs.declared.places.Pos.{Pos}
+use Rattle.scj_base.specs.declared.positions.Position.{Position}
 use Rattle.scj_model.specs.Sequencer.{area_opened}
 use Rattle.run_state.specs.Seen.{state_of}
 use Rattle.run_state.specs.Steps.{IsStep}
@@ -38,7 +38,7 @@ returns c =
     (mission_opened c.args.code.now (state_of c.args.code.now c.args.state.now) c.args.r
     c.in-Some.class c.in-Some-private_scope.scope c.in-Some-size_of.bytes c.in-Some.ensures
     (sym c.in-Some-private_scope.ensures) (sym c.in-Some-size_of.ensures))
-    (subst (λ (position : Pos). IsStep c.args.code.now
+    (subst (λ (position : Position). IsStep c.args.code.now
     (area_opened (state_of c.args.code.now c.args.state.now) position c.in-Some-private_scope.scope
     c.in-Some-size_of.bytes) c.open_inside.new.state c.args.told.now.items c.open_inside.new.told.items)
     c.class_position.ensures (c.in_ok-open_inside.ensures c.args.code.now))

@@ -1,5 +1,5 @@
 use Rattle.std.proofs.Common.{Some, None, subst, sym}
-use Rattle.scj_base.specs.declared.places.Pos.{Pos}
+use Rattle.scj_base.specs.declared.positions.Position.{Position}
 use Rattle.scj_base.specs.declared.faults.RunFault.TheVariants.{StoreFull}
 use Rattle.scj_rules.specs.Bodies.{class_position}
 use Rattle.scj_model.specs.Code.{code_of}
@@ -42,7 +42,7 @@ returns-in_ok-fault_in-in-None c =
     (state_of c.args.code.now c.open_area.new.state) c.innermost-parent.ensures c.in-None.is
     (c.open_area.ensures.opened c.args.code.now (ReleaseAt c.args.start.now.index) no_activity
     (class_position (code_of c.args.code.now.program).program c.args.start.now.row.class)))
-    (subst (λ (position : Pos). IsStep c.args.code.now
+    (subst (λ (position : Position). IsStep c.args.code.now
     (fault_in (state_of c.args.code.now c.open_area.new.state) (ReleaseAt c.args.start.now.index) no_activity
     position StoreFull) c.fault_in.new.state c.args.told.now.items c.fault_in.new.told.items) c.class_position.ensures
     (subst (λ (activity : StoredActivity). IsStep c.args.code.now

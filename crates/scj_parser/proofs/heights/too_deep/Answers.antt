@@ -1,5 +1,5 @@
 use Rattle.std.proofs.Common.{◌≡◌, ℕ, ◌+◌, List, Some, None, drop, sym, ap, ◌∙◌, subst, arith}
-use Rattle.scj_base.specs.declared.places.Pos.{Pos}
+use Rattle.scj_base.specs.declared.positions.Position.{Position}
 use Rattle.scj_tree.specs.Heights.{first_too_deep, too_deep}
 use Rattle.scj_tree.specs.Shape.{position_of}
 use Rattle.scj_parser.proofs.HeightLemmas.{Gone, gone_all, gone_deep, gone_next, gone_small_child, light}
@@ -10,7 +10,7 @@ unfolding too_deep
 returns-then-body_height-gt-HIGHEST c =
     let P : ℕ → Type 0 = λ f. first_too_deep c.args.nodes.now (drop f c.args.nodes.now) ≡ Some
     (position_of c.index-nodes-next.result) in
-    ap (λ (p : Pos). Some p) c.position.ensures ∙ sym (subst P c.loop-next.invariant.first (gone_deep c.args.nodes.now _ _
+    ap (λ (p : Position). Some p) c.position.ensures ∙ sym (subst P c.loop-next.invariant.first (gone_deep c.args.nodes.now _ _
     c.loop-next.next c.loop-next.invariant.gone c.index-nodes-next.result (omega arith) c.index-nodes-next.is
     (omega (arith, c.body_height.ensures))))
 

@@ -6,7 +6,7 @@ ghost use Rattle.std.specs.Prelude.{◌≡◌};
 /// from 1 by line feeds, and the column counted from 1 by bytes. Places are ordered by file, then line,
 /// then column.
 #[derive(Clone, Copy, Debug, PartialEq, Eq, PartialOrd, Ord)]
-pub struct Pos {
+pub struct Position {
     /// The file's number, counted from 0 in the order of the words.
     pub file: u8,
     /// The line, from 1.
