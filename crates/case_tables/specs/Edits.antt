@@ -2,8 +2,8 @@
 use Rattle.std.specs.Prelude.{ℕ, ◌==◌, ◌<◌, ◌≤◌, ◌⊎◌, List, ◌++◌, length, take, drop}
 use Rattle.std.specs.List.{before_first, after_first}
 use Rattle.std.specs.Str.Parse.{digits_value, without_leading_plus}
-use Rattle.case_tables.specs.declared.stops.Stop.{Stop}
-use Rattle.case_tables.specs.declared.stops.Stop.TheVariants.{Memory, BadLine}
+use Rattle.case_tables.specs.declared.stops.TableError.{TableError}
+use Rattle.case_tables.specs.declared.stops.TableError.TheVariants.{Memory, BadLine}
 use Rattle.case_tables.specs.Lines.{text_bytes}
 
 -- what stands before the first blank, and what behind it
@@ -26,7 +26,7 @@ abbrev pub LiesWithin : List ℕ → ℕ → ℕ → Type 0
 LiesWithin source from to = (from ≤ length source) × (to ≤ length source)
 
 -- a change is refused where one of the places lies behind the source, or for want of memory
-unfoldable pub RefusesPlaces : List ℕ → ℕ → ℕ → Stop → Type 0
+unfoldable pub RefusesPlaces : List ℕ → ℕ → ℕ → TableError → Type 0
 RefusesPlaces source from to BadLine = (length source < from) ⊎ (length source < to)
 RefusesPlaces source from to Memory = Unit {0}
 RefusesPlaces source from to _ = ⊥

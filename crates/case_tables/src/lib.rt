@@ -7,4 +7,4 @@ pub mod stops;
 
 pub use edits::Edit;
 pub use lines::add_line;
-pub use stops::Stop;
+pub use stops::TableError;

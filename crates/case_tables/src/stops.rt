@@ -5,7 +5,7 @@ use std::alloc::{AllocError, AllocFailed};
 use std::io;
 
 #[derive(Debug, Drop)]
-pub enum Stop {
+pub enum TableError {
     /// There was no memory.
     Memory,
     /// The table couldn't be read, or an answer couldn't be printed.
@@ -16,41 +16,41 @@ pub enum Stop {
     NoFile,
 }
 
-impl From<AllocError> for Stop {
+impl From<AllocError> for TableError {
     ghost use Rattle.std.specs.Prelude.{◌≡◌};
-    ghost use Rattle.case_tables.specs.declared.stops.Stop.TheVariants.{Memory as NoMemory};
+    ghost use Rattle.case_tables.specs.declared.stops.TableError.TheVariants.{Memory as NoMemory};
 
     ghost from_gives = { λ _ stop. stop ≡ NoMemory };
 
-    fn from(_error: AllocError) -> Stop {
-        Stop::Memory
+    fn from(_error: AllocError) -> TableError {
+        TableError::Memory
     }
 }
 
-impl<T: Drop> From<AllocFailed<T>> for Stop {
+impl<T: Drop> From<AllocFailed<T>> for TableError {
     ghost use Rattle.std.specs.Prelude.{◌≡◌};
-    ghost use Rattle.case_tables.specs.declared.stops.Stop.TheVariants.{Memory as NoMemory};
+    ghost use Rattle.case_tables.specs.declared.stops.TableError.TheVariants.{Memory as NoMemory};
 
     ghost from_gives = { λ _ stop. stop ≡ NoMemory };
 
-    fn from(_error: AllocFailed<T>) -> Stop {
-        Stop::Memory
+    fn from(_error: AllocFailed<T>) -> TableError {
+        TableError::Memory
     }
 }
 
-impl From<Memory> for Stop {
+impl From<Memory> for TableError {
     ghost use Rattle.std.specs.Prelude.{◌≡◌};
-    ghost use Rattle.case_tables.specs.declared.stops.Stop.TheVariants.{Memory as NoMemory};
+    ghost use Rattle.case_tables.specs.declared.stops.TableError.TheVariants.{Memory as NoMemory};
 
     ghost from_gives = { λ _ stop. stop ≡ NoMemory };
 
-    fn from(_error: Memory) -> Stop {
-        Stop::Memory
+    fn from(_error: Memory) -> TableError {
+        TableError::Memory
     }
 }
 
-impl From<io::Error> for Stop {
-    fn from(error: io::Error) -> Stop {
-        Stop::Stream(error)
+impl From<io::Error> for TableError {
+    fn from(error: io::Error) -> TableError {
+        TableError::Stream(error)
     }
 }

@@ -7,8 +7,8 @@ use Rattle.clap.specs.declared.error.Error.{Error}
 use Rattle.clap.specs.declared.error.kind.ErrorKind.TheVariants.{OutOfMemory}
 use Rattle.clap.proofs.OnLiterals.{clap_on_literals}
 use Rattle.command_line.specs.Command.{bare_command, command, mode_rule, plan_rule, size_rule, source_rule}
-use Rattle.command_line.specs.declared.jobs.WordsAnswer.{WordsAnswer}
-use Rattle.command_line.specs.declared.jobs.WordsAnswer.TheVariants.{Usage, Memory}
+use Rattle.command_line.specs.declared.jobs.WordsError.{WordsError}
+use Rattle.command_line.specs.declared.jobs.WordsError.TheVariants.{Usage, Memory}
 
 command_is_free : is_simple_and_free command ≡ true
 unfolding clap_on_literals command bare_command mode_rule plan_rule size_rule source_rule
@@ -25,7 +25,7 @@ pub simple_as : (a : App) → a ≡ command → is_simple a ≡ true
 simple_as a same = ap is_simple same ∙ command_is_simple
 
 -- an error that is no want of memory is one of the kinds, so there are some
-pub refused_by_kind : (kinds : Kinds) (e : Error) (r : WordsAnswer) → HasKind kinds e →
+pub refused_by_kind : (kinds : Kinds) (e : Error) (r : WordsError) → HasKind kinds e →
     ((r ≡ Memory) ↔ (kind_of e ≡ OutOfMemory))
     → r ≡ Usage → is_empty kinds ≡ false
 refused_by_kind [] e r (inl out) tells is = let both : Usage ≡ Memory = sym is ∙ tells.1 out in cc

@@ -5,8 +5,8 @@ use Rattle.command_line.specs.Sizes.{IsSize}
 use Rattle.command_line.specs.declared.given.Given.{Given}
 use Rattle.command_line.specs.declared.jobs.Job.{Job}
 use Rattle.command_line.specs.declared.jobs.Job.TheVariants as job
-use Rattle.command_line.specs.declared.jobs.WordsAnswer.{WordsAnswer}
-use Rattle.command_line.specs.declared.jobs.WordsAnswer.TheVariants as answer
+use Rattle.command_line.specs.declared.jobs.WordsError.{WordsError}
+use Rattle.command_line.specs.declared.jobs.WordsError.TheVariants as answer
 
 -- the job that a value of the code is
 abbrev pub job_seen : Job → JobOfWords
@@ -23,7 +23,7 @@ job_seen (job.Migrate plan) = Migrate (string_bytes plan)
 job_seen (job.Bounds sources) = Bounds (map string_bytes sources.items)
 
 -- the job that is wanted is answered, and `Usage` only where none is; memory may run out in both
-abbrev pub AnswersJob : Option JobOfWords → Result Job WordsAnswer → Type 0
+abbrev pub AnswersJob : Option JobOfWords → Result Job WordsError → Type 0
 AnswersJob wanted r =
     MatchResult r (λ j. wanted ≡ Some (job_seen j)) (λ e. e ≡ answer.Usage → wanted ≡ None)
 

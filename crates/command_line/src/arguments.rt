@@ -5,7 +5,7 @@ ghost use Rattle.clap.specs.Walk.{is_empty};
 ghost use Rattle.clap.specs.Words.{app_of, fault_of, found_of, kind_of, matches_of, rows_of, rule_of};
 ghost use Rattle.command_line.specs.Command.{bare_command, command, mode_rule, plan_rule, size_rule, source_rule};
 
-use crate::jobs::WordsAnswer;
+use crate::jobs::WordsError;
 use clap::error::ErrorKind;
 use clap::{Arg, ArgAction, ArgMatches, Command, Error};
 use std::alloc::{AllocError, Global};
@@ -70,13 +70,13 @@ pub(crate) fn command<'a>(alloc: Global) -> Result<Command<'a>, AllocError>
 }
 
 /// Why the command refuses words, by the error that it gives.
-fn refusal(error: &Error) -> WordsAnswer
-    ensures { (result ≡ WordsAnswer.Memory) ↔ (kind_of error.now ≡ ErrorKind.OutOfMemory) }
+fn refusal(error: &Error) -> WordsError
+    ensures { (result ≡ WordsError.Memory) ↔ (kind_of error.now ≡ ErrorKind.OutOfMemory) }
 {
     if error.kind() == ErrorKind::OutOfMemory {
-        WordsAnswer::Memory
+        WordsError::Memory
     } else {
-        WordsAnswer::Usage
+        WordsError::Usage
     }
 }
 
@@ -84,10 +84,10 @@ fn refusal(error: &Error) -> WordsAnswer
 pub(crate) fn matches_in<'a>(
     alloc: Global,
     words: &'a [String],
-) -> Result<ArgMatches<'a>, WordsAnswer>
+) -> Result<ArgMatches<'a>, WordsError>
     ensures taken { OnOk result (fault_of command (map string_bytes words.now) ≡ []) }
     ensures rows { IfOk result (λ m. rows_of (found_of m) ≡ matches_of command (map string_bytes words.now)) }
-    ensures usage { result ≡ Err WordsAnswer.Usage → is_empty (fault_of command (map string_bytes words.now)) ≡ false }
+    ensures usage { result ≡ Err WordsError.Usage → is_empty (fault_of command (map string_bytes words.now)) ≡ false }
 {
     match command(alloc)?.try_get_matches_from(words) {
         Ok(matches) => Ok(matches),

@@ -33,19 +33,19 @@ pub enum Job {
 
 /// Why words give no job.
 #[derive(Clone, Copy, Debug, PartialEq, Eq)]
-pub enum WordsAnswer {
+pub enum WordsError {
     /// The words are not those of a command.
     Usage,
     /// There was no memory for a growth.
     Memory,
 }
 
-impl From<AllocError> for WordsAnswer {
-    ghost use Rattle.command_line.specs.declared.jobs.WordsAnswer.TheVariants.{Memory};
+impl From<AllocError> for WordsError {
+    ghost use Rattle.command_line.specs.declared.jobs.WordsError.TheVariants.{Memory};
 
     ghost from_gives = { λ _ e. e ≡ Memory };
 
-    fn from(_error: AllocError) -> WordsAnswer {
-        WordsAnswer::Memory
+    fn from(_error: AllocError) -> WordsError {
+        WordsError::Memory
     }
 }

@@ -11,5 +11,5 @@ mod modes;
 mod sizes;
 pub mod words;
 
-pub use jobs::{Job, WordsAnswer};
+pub use jobs::{Job, WordsError};
 pub use words::read_words;

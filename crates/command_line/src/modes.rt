@@ -7,12 +7,12 @@ ghost use Rattle.command_line.specs.Job.{areas_job, audit_job, bounds_job, check
 use crate::given::{
     Given, only_source, plan_alone, plan_and_sources, plan_in, size_alone, sources_alone,
 };
-use crate::jobs::{Job, WordsAnswer};
+use crate::jobs::{Job, WordsError};
 use std::alloc::{AllocError, Global};
 
 /// The job of the mode.
 #[tactic(auto, unfolding(crate::specs::Job::job_by_mode))]
-pub(crate) fn job_by_mode(alloc: Global, given: &Given<'_, '_>) -> Result<Job, WordsAnswer>
+pub(crate) fn job_by_mode(alloc: Global, given: &Given<'_, '_>) -> Result<Job, WordsError>
     ensures job { AnswersJob (job_by_mode (texts_of given.now)) result }
     ensures limits { IfOk result KeepsLimits }
 {
@@ -28,18 +28,18 @@ pub(crate) fn job_by_mode(alloc: Global, given: &Given<'_, '_>) -> Result<Job, W
         "audit" => audit_job(alloc, given),
         "migrate" => migrate_job(alloc, given),
         "bounds" => bounds_job(alloc, given),
-        _ => Err(WordsAnswer::Usage),
+        _ => Err(WordsError::Usage),
     }
 }
 
 /// `check`: sources alone.
 #[tactic(auto, unfolding(crate::specs::Job::check_job))]
-fn check_job(alloc: Global, given: &Given<'_, '_>) -> Result<Job, WordsAnswer>
+fn check_job(alloc: Global, given: &Given<'_, '_>) -> Result<Job, WordsError>
     ensures job { AnswersJob (check_job (texts_of given.now)) result }
     ensures limits { IfOk result KeepsLimits }
 {
     let Some(sources) = sources_alone(given) else {
-        return Err(WordsAnswer::Usage);
+        return Err(WordsError::Usage);
     };
     let sources = to_strings(alloc, sources)?;
     Ok(Job::Check { sources })
@@ -47,12 +47,12 @@ fn check_job(alloc: Global, given: &Given<'_, '_>) -> Result<Job, WordsAnswer>
 
 /// `run`: a plan and sources.
 #[tactic(auto, unfolding(crate::specs::Job::run_job))]
-fn run_job(alloc: Global, given: &Given<'_, '_>) -> Result<Job, WordsAnswer>
+fn run_job(alloc: Global, given: &Given<'_, '_>) -> Result<Job, WordsError>
     ensures job { AnswersJob (run_job (texts_of given.now)) result }
     ensures limits { IfOk result KeepsLimits }
 {
     let Some((plan, sources)) = plan_and_sources(given) else {
-        return Err(WordsAnswer::Usage);
+        return Err(WordsError::Usage);
     };
     let plan = String::from_str(alloc, plan)?;
     let sources = to_strings(alloc, sources)?;
@@ -61,12 +61,12 @@ fn run_job(alloc: Global, given: &Given<'_, '_>) -> Result<Job, WordsAnswer>
 
 /// `areas`: a plan and sources.
 #[tactic(auto, unfolding(crate::specs::Job::areas_job))]
-fn areas_job(alloc: Global, given: &Given<'_, '_>) -> Result<Job, WordsAnswer>
+fn areas_job(alloc: Global, given: &Given<'_, '_>) -> Result<Job, WordsError>
     ensures job { AnswersJob (areas_job (texts_of given.now)) result }
     ensures limits { IfOk result KeepsLimits }
 {
     let Some((plan, sources)) = plan_and_sources(given) else {
-        return Err(WordsAnswer::Usage);
+        return Err(WordsError::Usage);
     };
     let plan = String::from_str(alloc, plan)?;
     let sources = to_strings(alloc, sources)?;
@@ -75,12 +75,12 @@ fn areas_job(alloc: Global, given: &Given<'_, '_>) -> Result<Job, WordsAnswer>
 
 /// `show`: sources alone.
 #[tactic(auto, unfolding(crate::specs::Job::show_job))]
-fn show_job(alloc: Global, given: &Given<'_, '_>) -> Result<Job, WordsAnswer>
+fn show_job(alloc: Global, given: &Given<'_, '_>) -> Result<Job, WordsError>
     ensures job { AnswersJob (show_job (texts_of given.now)) result }
     ensures limits { IfOk result KeepsLimits }
 {
     let Some(sources) = sources_alone(given) else {
-        return Err(WordsAnswer::Usage);
+        return Err(WordsError::Usage);
     };
     let sources = to_strings(alloc, sources)?;
     Ok(Job::Show { sources })
@@ -88,24 +88,24 @@ fn show_job(alloc: Global, given: &Given<'_, '_>) -> Result<Job, WordsAnswer>
 
 /// `gen`: a size alone.
 #[tactic(auto, unfolding(crate::specs::Job::gen_job))]
-fn gen_job(given: &Given<'_, '_>) -> Result<Job, WordsAnswer>
+fn gen_job(given: &Given<'_, '_>) -> Result<Job, WordsError>
     ensures job { AnswersJob (gen_job (texts_of given.now)) result }
     ensures limits { IfOk result KeepsLimits }
 {
     match size_alone(given) {
         Some(size) => Ok(Job::Gen { size }),
-        None => Err(WordsAnswer::Usage),
+        None => Err(WordsError::Usage),
     }
 }
 
 /// `respond`: a plan alone.
 #[tactic(auto, unfolding(crate::specs::Job::respond_job))]
-fn respond_job(alloc: Global, given: &Given<'_, '_>) -> Result<Job, WordsAnswer>
+fn respond_job(alloc: Global, given: &Given<'_, '_>) -> Result<Job, WordsError>
     ensures job { AnswersJob (respond_job (texts_of given.now)) result }
     ensures limits { IfOk result KeepsLimits }
 {
     let Some(plan) = plan_alone(given) else {
-        return Err(WordsAnswer::Usage);
+        return Err(WordsError::Usage);
     };
     let plan = String::from_str(alloc, plan)?;
     Ok(Job::Respond { plan })
@@ -113,12 +113,12 @@ fn respond_job(alloc: Global, given: &Given<'_, '_>) -> Result<Job, WordsAnswer>
 
 /// `confirm`: a plan alone.
 #[tactic(auto, unfolding(crate::specs::Job::confirm_job))]
-fn confirm_job(alloc: Global, given: &Given<'_, '_>) -> Result<Job, WordsAnswer>
+fn confirm_job(alloc: Global, given: &Given<'_, '_>) -> Result<Job, WordsError>
     ensures job { AnswersJob (confirm_job (texts_of given.now)) result }
     ensures limits { IfOk result KeepsLimits }
 {
     let Some(plan) = plan_alone(given) else {
-        return Err(WordsAnswer::Usage);
+        return Err(WordsError::Usage);
     };
     let plan = String::from_str(alloc, plan)?;
     Ok(Job::Confirm { plan })
@@ -126,12 +126,12 @@ fn confirm_job(alloc: Global, given: &Given<'_, '_>) -> Result<Job, WordsAnswer>
 
 /// `faults`: sources alone.
 #[tactic(auto, unfolding(crate::specs::Job::faults_job))]
-fn faults_job(alloc: Global, given: &Given<'_, '_>) -> Result<Job, WordsAnswer>
+fn faults_job(alloc: Global, given: &Given<'_, '_>) -> Result<Job, WordsError>
     ensures job { AnswersJob (faults_job (texts_of given.now)) result }
     ensures limits { IfOk result KeepsLimits }
 {
     let Some(sources) = sources_alone(given) else {
-        return Err(WordsAnswer::Usage);
+        return Err(WordsError::Usage);
     };
     let sources = to_strings(alloc, sources)?;
     Ok(Job::Faults { sources })
@@ -139,18 +139,18 @@ fn faults_job(alloc: Global, given: &Given<'_, '_>) -> Result<Job, WordsAnswer>
 
 /// `audit`: a plan and one source.
 #[tactic(auto, unfolding(crate::specs::Job::audit_job))]
-fn audit_job(alloc: Global, given: &Given<'_, '_>) -> Result<Job, WordsAnswer>
+fn audit_job(alloc: Global, given: &Given<'_, '_>) -> Result<Job, WordsError>
     ensures job { AnswersJob (audit_job (texts_of given.now)) result }
     ensures limits { IfOk result KeepsLimits }
 {
     if given.size.is_some() {
-        return Err(WordsAnswer::Usage);
+        return Err(WordsError::Usage);
     }
     let Some(plan) = plan_in(given) else {
-        return Err(WordsAnswer::Usage);
+        return Err(WordsError::Usage);
     };
     let Some(trace) = only_source(given) else {
-        return Err(WordsAnswer::Usage);
+        return Err(WordsError::Usage);
     };
     let plan = String::from_str(alloc, plan)?;
     let trace = String::from_str(alloc, trace)?;
@@ -159,12 +159,12 @@ fn audit_job(alloc: Global, given: &Given<'_, '_>) -> Result<Job, WordsAnswer>
 
 /// `migrate`: a plan alone.
 #[tactic(auto, unfolding(crate::specs::Job::migrate_job))]
-fn migrate_job(alloc: Global, given: &Given<'_, '_>) -> Result<Job, WordsAnswer>
+fn migrate_job(alloc: Global, given: &Given<'_, '_>) -> Result<Job, WordsError>
     ensures job { AnswersJob (migrate_job (texts_of given.now)) result }
     ensures limits { IfOk result KeepsLimits }
 {
     let Some(plan) = plan_alone(given) else {
-        return Err(WordsAnswer::Usage);
+        return Err(WordsError::Usage);
     };
     let plan = String::from_str(alloc, plan)?;
     Ok(Job::Migrate { plan })
@@ -172,12 +172,12 @@ fn migrate_job(alloc: Global, given: &Given<'_, '_>) -> Result<Job, WordsAnswer>
 
 /// `bounds`: sources alone.
 #[tactic(auto, unfolding(crate::specs::Job::bounds_job))]
-fn bounds_job(alloc: Global, given: &Given<'_, '_>) -> Result<Job, WordsAnswer>
+fn bounds_job(alloc: Global, given: &Given<'_, '_>) -> Result<Job, WordsError>
     ensures job { AnswersJob (bounds_job (texts_of given.now)) result }
     ensures limits { IfOk result KeepsLimits }
 {
     let Some(sources) = sources_alone(given) else {
-        return Err(WordsAnswer::Usage);
+        return Err(WordsError::Usage);
     };
     let sources = to_strings(alloc, sources)?;
     Ok(Job::Bounds { sources })

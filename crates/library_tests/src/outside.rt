@@ -1,7 +1,7 @@
 //! What the outside gives and takes.
 
 use scj_base::Failed;
-use scj_io::{FileShelf, LoadAnswer, Shelf, StdSink, put_all};
+use scj_io::{FileShelf, LoadError, Shelf, StdSink, put_all};
 use std::alloc::Global;
 use std::test::Fail;
 use std::{env, fs, process};
@@ -12,7 +12,7 @@ fn loaded<H: Shelf>(
     alloc: Global,
     name: &str,
     limit: usize,
-) -> Result<(usize, u64), LoadAnswer> {
+) -> Result<(usize, u64), LoadError> {
     let bytes = shelf.load(alloc, name, limit)?;
     let mut sum: u64 = 0;
     for byte in &bytes {
@@ -33,11 +33,11 @@ fn a_file_is_loaded_up_to_the_limit(rt: HostRuntime) -> Result<(), Fail> {
     let longer = loaded(&mut shelf, rt.alloc(), path, 2);
     fs::remove_file(&rt, path)?;
     assert_eq!(rt; whole, Ok((3, 0x61_62_63)));
-    assert_eq!(rt; longer, Err(LoadAnswer::TooLong { taken: 3 }));
+    assert_eq!(rt; longer, Err(LoadError::TooLong { taken: 3 }));
     let missing = loaded(&mut shelf, rt.alloc(), path, 3);
-    assert_eq!(rt; missing, Err(LoadAnswer::Failed));
+    assert_eq!(rt; missing, Err(LoadError::Failed));
     let folder = loaded(&mut shelf, rt.alloc(), "/", 3);
-    assert_eq!(rt; folder, Err(LoadAnswer::Failed));
+    assert_eq!(rt; folder, Err(LoadError::Failed));
     Ok(())
 }
 

@@ -15,8 +15,8 @@ use Rattle.plain_machine.specs.Printing.{BreaksOffIn}
 use Rattle.plain_machine.specs.Runs.{PutPart, trace_of}
 use Rattle.plain_machine.specs.Watched.{HasEndedWith}
 use Rattle.plain_machine.specs.declared.runs.RunEnd.{RunEnd}
-use Rattle.plain_machine.specs.declared.runs.RunStop.{RunStop}
-use Rattle.plain_machine.specs.declared.runs.RunStop.TheVariants.{Memory, Failed}
+use Rattle.plain_machine.specs.declared.runs.RunError.{RunError}
+use Rattle.plain_machine.specs.declared.runs.RunError.TheVariants.{Memory, Failed}
 use Rattle.plain_machine.specs.declared.watched.Watched.{Watched}
 use Rattle.plain_machine.proofs.PartLaws.{PutPart-then}
 
@@ -66,7 +66,7 @@ module _ (forest : Forest) (plan : Plan) (names : List (List ℕ)) (run : Watche
           ends = trace_ends;
         }
 
-    pub breaks_behind : PutWhole (sink_run t u k l) rows → (stop : RunStop) →
+    pub breaks_behind : PutWhole (sink_run t u k l) rows → (stop : RunError) →
         BreaksOffIn (text forest.nodes names events) (sink_run u v l m) stop →
         BreaksOffIn (areas_text forest plan names) (sink_run t v k m) stop
     breaks_behind first Memory second =

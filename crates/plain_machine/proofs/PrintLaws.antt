@@ -7,8 +7,8 @@ use Rattle.scj_io.specs.Puts.{sink_run, PutWhole, PutFront}
 use Rattle.scj_io.proofs.PutLaws.{PutWhole-then-front, PutFront-more}
 use Rattle.plain_machine.specs.Printing.{BreaksOffIn}
 use Rattle.plain_machine.specs.Runs.{PutPart}
-use Rattle.plain_machine.specs.declared.runs.RunStop.{RunStop}
-use Rattle.plain_machine.specs.declared.runs.RunStop.TheVariants.{Memory, Failed}
+use Rattle.plain_machine.specs.declared.runs.RunError.{RunError}
+use Rattle.plain_machine.specs.declared.runs.RunError.TheVariants.{Memory, Failed}
 use Rattle.plain_machine.proofs.PartLaws.{PutPart-more, PutPart-then}
 
 -- what stands before a place, at it and behind it
@@ -22,7 +22,7 @@ parted f xs k d within =
 
 -- it breaks off at one of the elements
 pub breaks_at : {X : Type 0} (f : X → List ℕ) (xs : List X) (k : ℕ) (d : X) (t u v : Option (List ℕ)) (n m o : ℕ) →
-    k < length xs → PutWhole (sink_run t u n m) (flat_map f (take k xs)) → (stop : RunStop) →
+    k < length xs → PutWhole (sink_run t u n m) (flat_map f (take k xs)) → (stop : RunError) →
     BreaksOffIn (f (get_or xs k d)) (sink_run u v m o) stop → BreaksOffIn (flat_map f xs) (sink_run t v n o) stop
 breaks_at f xs k d t u v n m o within put Memory part =
     subst (λ (bytes : List ℕ). PutPart (sink_run t v n o) bytes) (sym (parted f xs k d within))

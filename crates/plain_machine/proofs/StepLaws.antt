@@ -16,7 +16,7 @@ use Rattle.plain_machine.specs.Told.{BreaksOffFrom, told_text}
 use Rattle.plain_machine.specs.UnderWay.{EndedIn, GoesTo, HasSpent, IsBetween, none_left, one_spent, StepsTo, run_at}
 use Rattle.plain_machine.specs.declared.runs.RunEnd.{RunEnd}
 use Rattle.plain_machine.specs.declared.runs.RunEnd.TheVariants.{Stopped as StoppedEnd}
-use Rattle.plain_machine.specs.declared.runs.RunStop.{RunStop}
+use Rattle.plain_machine.specs.declared.runs.RunError.{RunError}
 use Rattle.plain_machine.specs.declared.steps.Progress.{Progress}
 use Rattle.plain_machine.specs.declared.steps.Progress.TheVariants.{Went, Finished}
 use Rattle.plain_machine.specs.declared.under_way.UnderWay.{UnderWay}
@@ -52,7 +52,7 @@ module _ (code : Listing) (program : Forest) (plan : Plan) (names : List (List �
         };
       }
 
-  pub stops_broken : (stop : RunStop) → BreaksOffIn (line program) out stop →
+  pub stops_broken : (stop : RunError) → BreaksOffIn (line program) out stop →
       BreaksOffFrom code.program plan names at.state.unit out stop
   stops_broken stop broke =
       breaks_in code.program plan names at.state.unit out (line program) between.within
@@ -72,7 +72,7 @@ module _ (code : Listing) (program : Forest) (plan : Plan) (names : List (List �
       ∙ (ap (λ (events : List Event). told_text code.program plan names n ++ text code.program.nodes names events) (sym same)
       ∙ ap (λ (f : Forest). told_text code.program plan names n ++ text f.nodes names told) (sym printed))
 
-  pub unit_broken : (stop : RunStop) → BreaksOffIn lines out stop → BreaksOffFrom code.program plan names n out stop
+  pub unit_broken : (stop : RunError) → BreaksOffIn lines out stop → BreaksOffFrom code.program plan names n out stop
   unit_broken stop broke =
       breaks_in code.program plan names n out lines (omega arith) (next_more code.program plan names n within ∙ behind) stop broke
 

@@ -13,7 +13,7 @@ use Rattle.plain_machine.specs.Printing.{PrinterSeen}
 use Rattle.plain_machine.specs.Told.{BreaksOffFrom, PutsRest, PutsUnit}
 use Rattle.plain_machine.specs.UnderWay.{IsBetween, IsLast, IsNeverStuck, run_at}
 use Rattle.plain_machine.specs.declared.runs.RunEnd.{RunEnd}
-use Rattle.plain_machine.specs.declared.runs.RunStop.{RunStop}
+use Rattle.plain_machine.specs.declared.runs.RunError.{RunError}
 use Rattle.plain_machine.specs.declared.steps.Progress.{Progress}
 use Rattle.plain_machine.specs.declared.steps.Progress.TheVariants.{Went, Finished}
 use Rattle.plain_machine.specs.declared.under_way.UnderWay.{UnderWay}
@@ -74,6 +74,6 @@ Steps before after out Went = IsFurther before after out
 Steps before after out (Finished end) = IsFinished before after out end
 
 -- the run broke off
-pub record IsBroken (before after : MachineSeen) (out : SinkRun) (stop : RunStop) : Type 0 where
+pub record IsBroken (before after : MachineSeen) (out : SinkRun) (stop : RunError) : Type 0 where
   pub machine : after ≡ over_after after.spent before
   pub broke : BreaksOffFrom before.program before.plan before.names before.spent out stop

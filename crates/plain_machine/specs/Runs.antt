@@ -9,8 +9,8 @@ use Rattle.scj_model.specs.Run.{trace}
 use Rattle.scj_model.specs.TraceText.{text}
 use Rattle.plain_machine.specs.Ends.{end_of}
 use Rattle.plain_machine.specs.declared.runs.RunEnd.{RunEnd}
-use Rattle.plain_machine.specs.declared.runs.RunStop.{RunStop}
-use Rattle.plain_machine.specs.declared.runs.RunStop.TheVariants.{Memory, Failed}
+use Rattle.plain_machine.specs.declared.runs.RunError.{RunError}
+use Rattle.plain_machine.specs.declared.runs.RunError.TheVariants.{Memory, Failed}
 
 -- what the reference machine tells of a program in all units of a plan
 unfoldable pub trace_of : Forest → Plan → List Event
@@ -34,6 +34,6 @@ pub record RunsTo (forest : Forest) (plan : Plan) (names : List (List ℕ)) (out
   pub ends : end_of (trace_of forest plan) ≡ Some end
 
 -- the run broke off: for want of memory, with a front of the trace put, or at a put that failed
-abbrev pub BreaksOff : Forest → Plan → List (List ℕ) → SinkRun → RunStop → Type 0
+abbrev pub BreaksOff : Forest → Plan → List (List ℕ) → SinkRun → RunError → Type 0
 BreaksOff forest plan names out Memory = PutPart out (trace_text forest plan names)
 BreaksOff forest plan names out Failed = PutFront out (trace_text forest plan names)

@@ -11,7 +11,7 @@ use Rattle.plain_machine.specs.Ends.{end_of}
 use Rattle.plain_machine.specs.Printing.{BreaksOffIn}
 use Rattle.plain_machine.specs.Runs.{trace_of, trace_text}
 use Rattle.plain_machine.specs.declared.runs.RunEnd.{RunEnd}
-use Rattle.plain_machine.specs.declared.runs.RunStop.{RunStop}
+use Rattle.plain_machine.specs.declared.runs.RunError.{RunError}
 
 -- what the reference machine has told in so many units; the names are those of the program's files
 unfoldable pub told_text : Forest → Plan → List (List ℕ) → ℕ → List ℕ
@@ -41,7 +41,7 @@ next_text forest plan names n =
 
 -- a step from unit n broke off: for want of memory, with a front put of what it puts, or at a put that failed
 pub record BreaksOffFrom (forest : Forest) (plan : Plan) (names : List (List ℕ)) (n : ℕ) (out : SinkRun)
-    (stop : RunStop) : Type 0 where
+    (stop : RunError) : Type 0 where
   pub within : n ≤ plan.units
   pub broke : Behind (λ bytes. BreaksOffIn bytes out stop) (told_text forest plan names n)
       (next_text forest plan names n)

@@ -10,7 +10,7 @@ use crate::area_texts::{end_events, rows_text};
 use crate::ends::end_told;
 use crate::laws::keep_laws;
 use crate::printers::Printer;
-use crate::runs::{RunEnd, RunStop};
+use crate::runs::{RunEnd, RunError};
 use crate::under_way::begin;
 use crate::watched::{Watched, watch};
 use area_tables::AreaTable;
@@ -48,7 +48,7 @@ fn put_watched<K: Sink>(
     run: &Watched,
     last: Event,
     out: &mut K,
-) -> Result<RunEnd, RunStop>
+) -> Result<RunEnd, RunError>
     requires same { setting.classes.now ≡ setting.code.now.program }
     requires printed { printer.old.program ≡ setting.code.now.program }
     requires ended { HasEndedWith setting.code.now.program setting.plan.now run.now last }
@@ -74,7 +74,7 @@ fn run_watched<K: Sink>(
     setting: Setting<'_>,
     files: &Files,
     out: &mut K,
-) -> Result<RunEnd, RunStop>
+) -> Result<RunEnd, RunError>
     requires same { setting.classes.now ≡ setting.code.now.program }
     requires named { length setting.code.now.program.files ≡ length files.now }
     ensures ok { IfOk result (λ end. TellsAreas setting.entry.code.now.program setting.entry.plan.now files.now
@@ -99,7 +99,7 @@ fn run_areas_by_table<K: Sink>(
     files: &Files,
     plan: &Plan,
     out: &mut K,
-) -> Result<RunEnd, RunStop>
+) -> Result<RunEnd, RunError>
     requires table { table.now ≡ checked.now.program }
     requires named { length checked.now.program.files ≡ length files.now }
     ensures ok { IfOk result (λ end. TellsAreas checked.now.program plan.now files.now
@@ -130,7 +130,7 @@ pub fn run_areas<K: Sink>(
     files: &Files,
     plan: &Plan,
     out: &mut K,
-) -> Result<RunEnd, RunStop>
+) -> Result<RunEnd, RunError>
     requires named { length checked.now.program.files ≡ length files.now }
     ensures ok { IfOk result (λ end. TellsAreas checked.now.program plan.now files.now
         (sink_run (K.taken out.old) (K.taken out.new) (K.faults out.old) (K.faults out.new)) end) }

@@ -15,6 +15,6 @@ mod watched;
 
 pub use area_runs::run_areas;
 pub use machines::Machine;
-pub use runs::{RunEnd, RunStop, run};
+pub use runs::{RunEnd, RunError, run};
 pub use steps::Progress;
 pub use unit_steps::Setting;

@@ -7,7 +7,7 @@ ghost use Rattle.plain_machine.specs.UnderWay.{run_at};
 
 use crate::laws::keep_laws;
 use crate::printers::Printer;
-use crate::runs::RunStop;
+use crate::runs::RunError;
 use crate::steps::{Progress, one_step};
 use crate::under_way::{UnderWay, begin};
 use region_heap::Area;
@@ -105,7 +105,7 @@ impl<'a> Machine<'a> {
     /// # Errors
     ///
     /// `Memory` where there was no memory for a growth, and `Failed` where a put failed; nothing is put after either.
-    pub fn step<K: Sink>(&mut self, alloc: Global, out: &mut K) -> Result<Progress, RunStop>
+    pub fn step<K: Sink>(&mut self, alloc: Global, out: &mut K) -> Result<Progress, RunError>
         requires live { self.old.is_live ≡ true }
         ensures ok { IfOk result (λ progress. Steps self.old self.new
             (sink_run (K.taken out.old) (K.taken out.new) (K.faults out.old) (K.faults out.new)) progress) }

@@ -6,7 +6,7 @@ ghost use Rattle.scj_model.specs.TraceText.{line_of, text};
 ghost use Rattle.trace_print.specs.Room.{StandsInFile};
 ghost use Rattle.plain_machine.specs.Printing.{BreaksOffIn};
 
-use crate::runs::RunStop;
+use crate::runs::RunError;
 use scj_base::{Files, Memory};
 use scj_io::Sink;
 use scj_model::Event;
@@ -64,7 +64,7 @@ impl<'a> Printer<'a> {
 
     /// Puts the line of an event. `Memory` comes only where a fault stands in no file of the program; that none does
     /// isn't proved.
-    pub(crate) fn put<K: Sink>(&mut self, out: &mut K, event: &Event) -> Result<(), RunStop>
+    pub(crate) fn put<K: Sink>(&mut self, out: &mut K, event: &Event) -> Result<(), RunError>
         ensures same { self.new ≡ self.old }
         ensures ok { OnOk result (PutWhole
             (sink_run (K.taken out.old) (K.taken out.new) (K.faults out.old) (K.faults out.new))
@@ -74,7 +74,7 @@ impl<'a> Printer<'a> {
     {
         let count = self.checked.program().file_count();
         if !stands_in_file(self.files, count, event) {
-            return Err(RunStop::Memory);
+            return Err(RunError::Memory);
         }
         put_event(out, &mut self.line, self.checked, self.files, event)?;
         Ok(())
@@ -82,7 +82,7 @@ impl<'a> Printer<'a> {
 
     /// Puts the lines of events one after the other.
     #[tactic(auto, unfolding(scj_model::specs::TraceText::text))]
-    pub(crate) fn put_all<K: Sink>(&mut self, out: &mut K, events: &[Event]) -> Result<(), RunStop>
+    pub(crate) fn put_all<K: Sink>(&mut self, out: &mut K, events: &[Event]) -> Result<(), RunError>
         ensures same { self.new ≡ self.old }
         ensures ok { OnOk result (PutWhole
             (sink_run (K.taken out.old) (K.taken out.new) (K.faults out.old) (K.faults out.new))

@@ -30,30 +30,30 @@ pub enum RunEnd {
 
 /// Why a run breaks off.
 #[derive(Clone, Copy, Debug, PartialEq, Eq)]
-pub enum RunStop {
+pub enum RunError {
     /// There was no memory for a growth.
     Memory,
     /// A put failed.
     Failed,
 }
 
-impl From<Memory> for RunStop {
-    ghost use Rattle.plain_machine.specs.declared.runs.RunStop.TheVariants as stop;
+impl From<Memory> for RunError {
+    ghost use Rattle.plain_machine.specs.declared.runs.RunError.TheVariants as stop;
 
     ghost from_gives = { λ _ e. e ≡ stop.Memory };
 
-    fn from(_error: Memory) -> RunStop {
-        RunStop::Memory
+    fn from(_error: Memory) -> RunError {
+        RunError::Memory
     }
 }
 
-impl From<Failed> for RunStop {
-    ghost use Rattle.plain_machine.specs.declared.runs.RunStop.TheVariants as stop;
+impl From<Failed> for RunError {
+    ghost use Rattle.plain_machine.specs.declared.runs.RunError.TheVariants as stop;
 
     ghost from_gives = { λ _ e. e ≡ stop.Failed };
 
-    fn from(_error: Failed) -> RunStop {
-        RunStop::Failed
+    fn from(_error: Failed) -> RunError {
+        RunError::Failed
     }
 }
 
@@ -62,7 +62,7 @@ fn run_to_end<K: Sink>(
     alloc: Global,
     machine: &mut Machine<'_>,
     out: &mut K,
-) -> Result<RunEnd, RunStop>
+) -> Result<RunEnd, RunError>
     requires live { machine.old.is_live ≡ true }
     requires first { machine.old.spent ≡ 0 }
     ensures ok { IfOk result (λ end. RunsTo machine.old.program machine.old.plan machine.old.names
@@ -86,7 +86,7 @@ fn run_by_table<K: Sink>(
     files: &Files,
     plan: &Plan,
     out: &mut K,
-) -> Result<RunEnd, RunStop>
+) -> Result<RunEnd, RunError>
     requires table { table.now ≡ checked.now.program }
     requires named { length checked.now.program.files ≡ length files.now }
     ensures ok { IfOk result (λ end. RunsTo checked.now.program plan.now files.now
@@ -119,7 +119,7 @@ pub fn run<K: Sink>(
     files: &Files,
     plan: &Plan,
     out: &mut K,
-) -> Result<RunEnd, RunStop>
+) -> Result<RunEnd, RunError>
     requires named { length checked.now.program.files ≡ length files.now }
     ensures ok { IfOk result (λ end. RunsTo checked.now.program plan.now files.now
         (sink_run (K.taken out.old) (K.taken out.new) (K.faults out.old) (K.faults out.new)) end) }

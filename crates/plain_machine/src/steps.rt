@@ -13,7 +13,7 @@ ghost use Rattle.plain_machine.specs.UnderWay.{GoesTo, IsBetween, IsNeverStuck, 
 
 use crate::ends::end_of;
 use crate::printers::Printer;
-use crate::runs::{RunEnd, RunStop};
+use crate::runs::{RunEnd, RunError};
 use crate::under_way::{UnderWay, spend};
 use scj_io::Sink;
 use scj_model::{Event, Phase};
@@ -55,7 +55,7 @@ fn progress_after(at: &UnderWay) -> Progress
 }
 
 /// Puts the line that the run is stopped.
-fn stop<K: Sink>(printer: &mut Printer<'_>, unit: u64, out: &mut K) -> Result<RunEnd, RunStop>
+fn stop<K: Sink>(printer: &mut Printer<'_>, unit: u64, out: &mut K) -> Result<RunEnd, RunError>
     ensures same { printer.new ≡ printer.old }
     ensures end { IfOk result (λ end. end ≡ RunEnd.Stopped) }
     ensures ok { IfOk result (λ _. PutWhole
@@ -76,7 +76,7 @@ pub(crate) fn one_step<K: Sink>(
     printer: &mut Printer<'_>,
     at: &mut UnderWay,
     out: &mut K,
-) -> Result<Progress, RunStop>
+) -> Result<Progress, RunError>
     requires same { setting.classes.now ≡ setting.code.now.program }
     requires printed { printer.old.program ≡ setting.code.now.program }
     requires never { IsNeverStuck setting.code.now.program setting.plan.now }

@@ -8,8 +8,8 @@ use Rattle.toml.specs.Errors.{IsMemory}
 use Rattle.toml.specs.declared.de.error.Error.{Error}
 use Rattle.toml.specs.Parse.{parse_document}
 use Rattle.run_plan.specs.Answers.{TellsError, TellsMeaning}
-use Rattle.run_plan.specs.declared.answers.PlanAnswer.{PlanAnswer}
-use Rattle.run_plan.specs.declared.answers.PlanAnswer.TheVariants as answer
+use Rattle.run_plan.specs.declared.answers.PlanError.{PlanError}
+use Rattle.run_plan.specs.declared.answers.PlanError.TheVariants as answer
 use Rattle.run_plan.specs.PlanOf.{refused, not_toml, meaning_of, meaning_of_text}
 
 pub read_text : (text : List ℕ) (table : Members) → IsUtf8 text → parse_document text ≡ Some table → meaning_of_text text ≡ meaning_of table
@@ -24,7 +24,7 @@ unread_text text unread = elim (cases_Bool (is_utf8 text)) [
 ]
 
 -- the refusal of a text that `toml` refuses
-pub refused_text : (text : List ℕ) (error : Error) (e : PlanAnswer) → (¬ IsMemory error → IsUtf8 text → parse_document text ≡ None) → TellsError error e → TellsMeaning (meaning_of_text text) (Err e)
+pub refused_text : (text : List ℕ) (error : Error) (e : PlanError) → (¬ IsMemory error → IsUtf8 text → parse_document text ≡ None) → TellsError error e → TellsMeaning (meaning_of_text text) (Err e)
 refused_text text error answer.NotToml unread tells = unread_text text (unread tells)
 refused_text text error answer.Memory unread tells = tt
 refused_text text error (answer.BadKey key) unread tells = absurd tells

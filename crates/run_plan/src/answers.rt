@@ -22,7 +22,7 @@ impl Model for KeyText {
 
 /// Why a text gives no plan.
 #[derive(Drop, Debug)]
-pub enum PlanAnswer {
+pub enum PlanError {
     /// The text isn't TOML.
     NotToml,
     /// No plan has this key, or the plan lacks it.
@@ -33,42 +33,42 @@ pub enum PlanAnswer {
     Memory,
 }
 
-impl From<AllocError> for PlanAnswer {
-    ghost use Rattle.run_plan.specs.declared.answers.PlanAnswer.TheVariants as answer;
+impl From<AllocError> for PlanError {
+    ghost use Rattle.run_plan.specs.declared.answers.PlanError.TheVariants as answer;
 
     ghost from_gives = { λ _ e. e ≡ answer.Memory };
 
-    fn from(_error: AllocError) -> PlanAnswer {
-        PlanAnswer::Memory
+    fn from(_error: AllocError) -> PlanError {
+        PlanError::Memory
     }
 }
 
-impl From<Memory> for PlanAnswer {
-    ghost use Rattle.run_plan.specs.declared.answers.PlanAnswer.TheVariants as answer;
+impl From<Memory> for PlanError {
+    ghost use Rattle.run_plan.specs.declared.answers.PlanError.TheVariants as answer;
 
     ghost from_gives = { λ _ e. e ≡ answer.Memory };
 
-    fn from(_error: Memory) -> PlanAnswer {
-        PlanAnswer::Memory
+    fn from(_error: Memory) -> PlanError {
+        PlanError::Memory
     }
 }
 
 /// The answer that a key is wrong or missing.
-pub(crate) fn bad_key(alloc: Global, key: &str) -> PlanAnswer
+pub(crate) fn bad_key(alloc: Global, key: &str) -> PlanError
     ensures { Tells (bad_key key.now) result }
 {
     match String::from_str(alloc, key) {
-        Ok(text) => PlanAnswer::BadKey(KeyText(text)),
-        Err(_) => PlanAnswer::Memory,
+        Ok(text) => PlanError::BadKey(KeyText(text)),
+        Err(_) => PlanError::Memory,
     }
 }
 
 /// The answer that the value of a key is wrong.
-pub(crate) fn bad_value(alloc: Global, key: &str) -> PlanAnswer
+pub(crate) fn bad_value(alloc: Global, key: &str) -> PlanError
     ensures { Tells (bad_value key.now) result }
 {
     match String::from_str(alloc, key) {
-        Ok(text) => PlanAnswer::BadValue(KeyText(text)),
-        Err(_) => PlanAnswer::Memory,
+        Ok(text) => PlanError::BadValue(KeyText(text)),
+        Err(_) => PlanError::Memory,
     }
 }

@@ -10,7 +10,7 @@ pub mod port_readings;
 mod rows;
 pub mod values;
 
-pub use answers::{KeyText, PlanAnswer};
+pub use answers::{KeyText, PlanError};
 pub use migration::{law_migrate, migrate};
 pub use plan_texts::read_plan;
 pub use plans::Plan;

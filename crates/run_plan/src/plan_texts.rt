@@ -6,7 +6,7 @@ ghost use Rattle.run_plan.specs.Limits.{KeepsLimits, largest_store, most_units};
 ghost use Rattle.run_plan.specs.Answers.{TellsError, TellsMeaning, TellsWhether};
 ghost use Rattle.run_plan.specs.PlanOf.{completed, first_refusal, is_second, meaning_of, meaning_of_text, plan_with, refusal_at, suits};
 
-use crate::answers::{PlanAnswer, bad_key, bad_value};
+use crate::answers::{PlanError, bad_key, bad_value};
 use crate::plans::Plan;
 use crate::rows::{fires_at, fires_in, readings_at, readings_in};
 use crate::values::{number_at, number_in};
@@ -44,7 +44,7 @@ fn suits(alloc: Global, second: bool, key: &str, value: &Value) -> Result<Option
 }
 
 /// Refuses an unknown key, and a value that doesn't suit its key.
-fn judge(alloc: Global, second: bool, key: &str, value: &Value) -> Result<(), PlanAnswer>
+fn judge(alloc: Global, second: bool, key: &str, value: &Value) -> Result<(), PlanError>
     ensures { TellsWhether (refusal_at key.now (suits second key.now (view value.now))) result }
 {
     match suits(alloc, second, key, value)? {
@@ -55,7 +55,7 @@ fn judge(alloc: Global, second: bool, key: &str, value: &Value) -> Result<(), Pl
 }
 
 /// Refuses the first entry of the table that is wrong.
-fn judge_all(alloc: Global, second: bool, table: &Table) -> Result<(), PlanAnswer>
+fn judge_all(alloc: Global, second: bool, table: &Table) -> Result<(), PlanError>
     ensures { TellsWhether (first_refusal second (table_view table.now)) result }
 {
     for (key, value) in table.iter() {
@@ -65,7 +65,7 @@ fn judge_all(alloc: Global, second: bool, table: &Table) -> Result<(), PlanAnswe
 }
 
 /// The plan of a table whose entries are right, or the first key that it lacks.
-fn completed(alloc: Global, table: &Table) -> Result<Plan, PlanAnswer>
+fn completed(alloc: Global, table: &Table) -> Result<Plan, PlanError>
     ensures meaning { TellsMeaning (completed (table_view table.now)) result }
     ensures limits { IfOk result KeepsLimits }
 {
@@ -96,7 +96,7 @@ fn plan_with(alloc: Global, units: u64, store: u64, table: &Table) -> Result<Pla
 
 /// The plan of a table.
 #[tactic(auto, unfolding(crate::specs::PlanOf::meaning_of))]
-fn plan_of(alloc: Global, table: &Table) -> Result<Plan, PlanAnswer>
+fn plan_of(alloc: Global, table: &Table) -> Result<Plan, PlanError>
     ensures meaning { TellsMeaning (meaning_of (table_view table.now)) result }
     ensures limits { IfOk result KeepsLimits }
 {
@@ -111,7 +111,7 @@ fn plan_of(alloc: Global, table: &Table) -> Result<Plan, PlanAnswer>
 /// `NotToml` where the bytes aren't the UTF-8 of a TOML text. `BadKey` and `BadValue` tell the first key, by the bytes
 /// of the keys, that no plan has or whose value isn't one that it may have. Where there is none, `BadKey` tells the
 /// first of `version`, `units` and `store` that is missing. `Memory` may come at any text.
-pub fn read_plan(alloc: Global, bytes: &[u8]) -> Result<Plan, PlanAnswer>
+pub fn read_plan(alloc: Global, bytes: &[u8]) -> Result<Plan, PlanError>
     ensures meaning { TellsMeaning (meaning_of_text bytes.now) result }
     ensures limits { IfOk result KeepsLimits }
 {
@@ -122,12 +122,12 @@ pub fn read_plan(alloc: Global, bytes: &[u8]) -> Result<Plan, PlanAnswer>
 }
 
 /// Why `toml` refuses a text.
-fn refusal(error: &Error) -> PlanAnswer
+fn refusal(error: &Error) -> PlanError
     ensures { TellsError error.now result }
 {
     if error.is_memory() {
-        PlanAnswer::Memory
+        PlanError::Memory
     } else {
-        PlanAnswer::NotToml
+        PlanError::NotToml
     }
 }

@@ -7,8 +7,8 @@ use Rattle.scj_tree.specs.Forest.{Forest}
 use Rattle.scj_tree.specs.Lexemes.{Lexeme, lexemes_of}
 use Rattle.scj_rules.specs.Syntax.{Reads, ReadsFrom, BreaksSyntax, BreaksFrom, BreaksLexemes, FirstBreakOfLexemes, HaveLexemes}
 use Rattle.scj_tree.specs.Files.{BreaksGrammar, FileRead}
-use Rattle.scj_lexer.specs.declared.texts.LexAnswer.{LexAnswer}
-use Rattle.scj_lexer.specs.declared.texts.LexAnswer.TheVariants as lexer
+use Rattle.scj_lexer.specs.declared.texts.LexError.{LexError}
+use Rattle.scj_lexer.specs.declared.texts.LexError.TheVariants as lexer
 use Rattle.scj_check.specs.declared.readings.Reading.{Reading}
 use Rattle.scj_check.specs.declared.readings.Reading.TheVariants.{Read, Broken}
 
@@ -38,7 +38,7 @@ pub record GoesOn (file : ℕ) (text : List ℕ) (before after : Reading) : Type
   pub goes : Goes (lexemes_of text tokens) before after
 
 -- a text without tokens
-abbrev pub RefusesText : ℕ → List ℕ → LexAnswer → Type 0
+abbrev pub RefusesText : ℕ → List ℕ → LexError → Type 0
 RefusesText file text (lexer.Bad found) = BreaksLexemes file text found
 RefusesText file text lexer.Memory = Unit {0}
 

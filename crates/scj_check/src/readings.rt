@@ -9,8 +9,8 @@ ghost use Rattle.scj_check.specs.declared.readings.Reading.TheVariants.{Read};
 
 use crate::sources::Sources;
 use scj_base::{Found, Memory, Tokens};
-use scj_lexer::{LexAnswer, lex};
-use scj_parser::{ParseAnswer, parse};
+use scj_lexer::{LexError, lex};
+use scj_parser::{ParseError, parse};
 use scj_tree::Program;
 use std::alloc::Global;
 
@@ -48,8 +48,8 @@ pub fn read(alloc: Global, sources: &Sources) -> Result<Reading, Memory>
     for file in 0..sources.len() {
         reading = match add_text(alloc, file as u8, sources.text(file), reading) {
             Ok(more) => more,
-            Err(LexAnswer::Bad(found)) => return Ok(Reading::Broken(found)),
-            Err(LexAnswer::Memory) => return Err(Memory),
+            Err(LexError::Bad(found)) => return Ok(Reading::Broken(found)),
+            Err(LexError::Memory) => return Err(Memory),
         };
     }
     Ok(reading)
@@ -57,7 +57,7 @@ pub fn read(alloc: Global, sources: &Sources) -> Result<Reading, Memory>
 
 /// What was read before with one more file. A break of the grammar stays, since the lexemes of later files may
 /// still have one, which is told in its place.
-fn add_text(alloc: Global, file: u8, text: &[u8], before: Reading) -> Result<Reading, LexAnswer>
+fn add_text(alloc: Global, file: u8, text: &[u8], before: Reading) -> Result<Reading, LexError>
     requires few { file < 16 }
     requires short { length text.now ≤ 1048576 }
     requires next { HasFiles file before }
@@ -89,7 +89,7 @@ fn add_tokens(
     let mut program = program;
     match parse(alloc, file, tokens, text, &mut program) {
         Ok(()) => Ok(Reading::Read(program)),
-        Err(ParseAnswer::Bad(found)) => Ok(Reading::Broken(found)),
-        Err(ParseAnswer::Memory) => Err(Memory),
+        Err(ParseError::Bad(found)) => Ok(Reading::Broken(found)),
+        Err(ParseError::Memory) => Err(Memory),
     }
 }

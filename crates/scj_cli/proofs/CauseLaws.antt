@@ -18,7 +18,7 @@ use Rattle.scj_cli.specs.Modes.Stops.{told, broken, cut_short}
 use Rattle.scj_cli.specs.Modes.Tells.{whole as put_whole, fault as put_fault}
 use Rattle.scj_cli.specs.declared.refusals.Refusal.{Refusal}
 use Rattle.scj_cli.specs.declared.refusals.Refusal.TheVariants.{Usage, Unread, Overlong, Unplanned, OutOfMemory}
-use Rattle.scj_cli.specs.declared.refusals.Stop.TheVariants.{Told, Broken}
+use Rattle.scj_cli.specs.declared.refusals.ModeError.TheVariants.{Told, Broken}
 
 -- what the loads of a job's files were refused for is the cause of a status
 pub Comes-loads : (job : Job) (shelf : ShelfRun) (refusal : Refusal) →

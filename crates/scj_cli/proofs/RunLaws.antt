@@ -29,8 +29,8 @@ use Rattle.scj_cli.specs.Modes.{IsAnswered, Stops, RefusesForm}
 use Rattle.scj_cli.specs.Modes.Stops.{broken, cut_short}
 use Rattle.scj_cli.specs.declared.refusals.Refusal.{Refusal}
 use Rattle.scj_cli.specs.declared.refusals.Refusal.TheVariants.{Usage, Unread, Overlong, Unplanned, OutOfMemory}
-use Rattle.scj_cli.specs.declared.refusals.Stop.{Stop}
-use Rattle.scj_cli.specs.declared.refusals.Stop.TheVariants.{Told, Broken}
+use Rattle.scj_cli.specs.declared.refusals.ModeError.{ModeError}
+use Rattle.scj_cli.specs.declared.refusals.ModeError.TheVariants.{Told, Broken}
 
 -- ---- accepted texts
 
@@ -92,7 +92,7 @@ answered_by_run stands count comes has =
     record { text = _; comes = rw has.told (answered stands (ran_of count comes)); put = has.put }
 
 pub stopped_by_run : {shelf : ShelfRun} {out : SinkRun} {plan plan_text : List ℕ} {names texts : List (List ℕ)}
-    {forest : Forest} {p : Plan} (stop : Stop) → MayStand shelf one_limit (names ++ plan ∷ []) (texts ++ plan_text ∷ []) →
+    {forest : Forest} {p : Plan} (stop : ModeError) → MayStand shelf one_limit (names ++ plan ∷ []) (texts ++ plan_text ∷ []) →
     length texts ≡ length names → ComesTo texts plan_text (Ran forest p) → StopsRun forest p names out stop →
     Stops (Some (Run plan names)) shelf out stop
 stopped_by_run (Told Usage) stands count comes stops = absurd stops

@@ -12,8 +12,8 @@ use Rattle.scj_cli.specs.Outcomes.{ComesTo, Reported, Unplanned, Ran, plan_line,
 use Rattle.scj_cli.specs.Reports.{report_text}
 use Rattle.scj_cli.specs.declared.refusals.Refusal.{Refusal}
 use Rattle.scj_cli.specs.declared.refusals.Refusal.TheVariants as refusal
-use Rattle.scj_cli.specs.declared.refusals.Stop.{Stop}
-use Rattle.scj_cli.specs.declared.refusals.Stop.TheVariants.{Told, Broken}
+use Rattle.scj_cli.specs.declared.refusals.ModeError.{ModeError}
+use Rattle.scj_cli.specs.declared.refusals.ModeError.TheVariants.{Told, Broken}
 use Rattle.scj_cli.specs.declared.runnables.Judged.{Judged}
 use Rattle.scj_cli.specs.declared.runnables.Judged.TheVariants as judged
 
@@ -54,7 +54,7 @@ pub record HasRun (forest : Forest) (plan : Plan) (names : List (List ℕ)) (out
     pub told : status ≡ run_status (Ran forest plan)
 
 -- or a front of the trace, where memory ran out or a put failed
-abbrev pub StopsRun : Forest → Plan → List (List ℕ) → SinkRun → Stop → Type 0
+abbrev pub StopsRun : Forest → Plan → List (List ℕ) → SinkRun → ModeError → Type 0
 StopsRun forest plan names out (Told refusal.OutOfMemory) = PutPart out (trace_text forest plan names)
 StopsRun forest plan names out (Told _) = ⊥
 StopsRun forest plan names out Broken = PutFront out (trace_text forest plan names)

@@ -11,8 +11,8 @@ use Rattle.scj_cli.specs.Endings.{Comes, MayStand, IsCutShort}
 use Rattle.scj_cli.specs.Refusals.{status_of, line_of}
 use Rattle.scj_cli.specs.declared.refusals.Refusal.{Refusal}
 use Rattle.scj_cli.specs.declared.refusals.Refusal.TheVariants.{Usage, Unread, Overlong, Unplanned, OutOfMemory}
-use Rattle.scj_cli.specs.declared.refusals.Stop.{Stop}
-use Rattle.scj_cli.specs.declared.refusals.Stop.TheVariants.{Told, Broken}
+use Rattle.scj_cli.specs.declared.refusals.ModeError.{ModeError}
+use Rattle.scj_cli.specs.declared.refusals.ModeError.TheVariants.{Told, Broken}
 
 -- the answer stands whole on `out`, and nothing is to be told on `err`
 pub record IsAnswered (job : Option Job) (shelf : ShelfRun) (out : SinkRun) (status : Status) : Type 0 where
@@ -22,7 +22,7 @@ pub record IsAnswered (job : Option Job) (shelf : ShelfRun) (out : SinkRun) (sta
 
 -- nothing stands on `out` and the refusal is to be told on `err`; or the put of the answer failed; or a run was cut
 -- short
-pub data Stops (job : Option Job) (shelf : ShelfRun) (out : SinkRun) : Stop → Type 0 where
+pub data Stops (job : Option Job) (shelf : ShelfRun) (out : SinkRun) : ModeError → Type 0 where
   told : {refusal : Refusal} →
       Comes job shelf (status_of refusal) [] (line_of refusal) → PutWhole out [] →
       Stops job shelf out (Told refusal)

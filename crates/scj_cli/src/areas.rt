@@ -12,7 +12,7 @@ ghost use Rattle.scj_cli.specs.Outcomes.{run_status, Ran};
 
 use crate::kept_traces::KeptTrace;
 use crate::loads::load_run;
-use crate::refusals::{Refusal, Stop};
+use crate::refusals::{Refusal, ModeError};
 use crate::runnables::{Judged, Runnable, judge, status_of};
 use scj_base::{Memory, Status};
 use scj_check::Sources;
@@ -27,7 +27,7 @@ pub fn areas<H: Shelf, K: Sink>(
     names: &[String],
     shelf: &mut H,
     out: &mut K,
-) -> Result<Status, Stop>
+) -> Result<Status, ModeError>
     requires { length names.now ≤ 16 }
     ensures goes { ShelfGoes (H.held shelf.old) (H.held shelf.new) (H.faults shelf.old) (H.faults shelf.new)
         (H.most shelf.old) (H.most shelf.new) }

@@ -11,7 +11,7 @@ ghost use Rattle.scj_cli.specs.Modes.{IsAnswered, Stops, RefusesForm};
 
 use crate::loads::{AuditFiles, load_audit};
 use crate::plan_refusals::plan_in;
-use crate::refusals::{Refusal, Stop};
+use crate::refusals::{Refusal, ModeError};
 use scj_base::Status;
 use scj_io::{Shelf, Sink, put_all};
 use std::alloc::{AllocError, Global};
@@ -25,7 +25,7 @@ pub fn audit<H: Shelf, K: Sink>(
     trace: &str,
     shelf: &mut H,
     out: &mut K,
-) -> Result<Status, Stop>
+) -> Result<Status, ModeError>
     ensures goes { ShelfGoes (H.held shelf.old) (H.held shelf.new) (H.faults shelf.old) (H.faults shelf.new)
         (H.most shelf.old) (H.most shelf.new) }
     ensures ok { IfOk result (λ status. IsAnswered (Some (AuditJob plan.now trace.now))

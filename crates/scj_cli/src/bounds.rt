@@ -13,7 +13,7 @@ ghost use Rattle.scj_cli.specs.Reports.{report_text};
 
 use crate::bound_lists::bound_list;
 use crate::loads::load_all;
-use crate::refusals::{Refusal, Stop};
+use crate::refusals::{Refusal, ModeError};
 use crate::reports::report;
 use class_rows::ClassTable;
 use object_layout::Layout;
@@ -37,7 +37,7 @@ pub fn bounds<H: Shelf, K: Sink>(
     names: &[String],
     shelf: &mut H,
     out: &mut K,
-) -> Result<Status, Stop>
+) -> Result<Status, ModeError>
     requires { length names.now ≤ 16 }
     ensures goes { ShelfGoes (H.held shelf.old) (H.held shelf.new) (H.faults shelf.old) (H.faults shelf.new)
         (H.most shelf.old) (H.most shelf.new) }

@@ -15,11 +15,11 @@ use crate::confirmations::confirm;
 use crate::faults::faults;
 use crate::gens::run_generated;
 use crate::migrations::migrate;
-use crate::refusals::{Refusal, Stop};
+use crate::refusals::{Refusal, ModeError};
 use crate::responses::respond;
 use crate::runs::run;
 use crate::shows::show;
-use command_line::{Job, WordsAnswer, read_words};
+use command_line::{Job, WordsError, read_words};
 use scj_base::Status;
 use scj_io::{Shelf, Sink, put_all};
 use std::alloc::Global;
@@ -74,8 +74,8 @@ fn finish<H: Shelf, K: Sink, E: Sink>(
 {
     match answer(alloc, words, shelf, out) {
         Ok(status) => status,
-        Err(Stop::Told(refusal)) => tell(&refusal, err),
-        Err(Stop::Broken) => Status::WriteFault,
+        Err(ModeError::Told(refusal)) => tell(&refusal, err),
+        Err(ModeError::Broken) => Status::WriteFault,
     }
 }
 
@@ -85,7 +85,7 @@ fn answer<H: Shelf, K: Sink>(
     words: &[String],
     shelf: &mut H,
     out: &mut K,
-) -> Result<Status, Stop>
+) -> Result<Status, ModeError>
     ensures goes { ShelfGoes (H.held shelf.old) (H.held shelf.new) (H.faults shelf.old) (H.faults shelf.new)
         (H.most shelf.old) (H.most shelf.new) }
     ensures ok { IfOk result (λ status. IsAnswered (job_of (map string_bytes words.now))
@@ -110,8 +110,8 @@ fn answer<H: Shelf, K: Sink>(
         Ok(Job::Audit { plan, trace }) => audit(alloc, &plan, &trace, shelf, out),
         Ok(Job::Migrate { plan }) => migrate(alloc, &plan, shelf, out),
         Ok(Job::Bounds { sources }) => bounds(alloc, &sources, shelf, out),
-        Err(WordsAnswer::Usage) => Err(Stop::Told(Refusal::Usage)),
-        Err(WordsAnswer::Memory) => Err(Stop::Told(Refusal::OutOfMemory)),
+        Err(WordsError::Usage) => Err(ModeError::Told(Refusal::Usage)),
+        Err(WordsError::Memory) => Err(ModeError::Told(Refusal::OutOfMemory)),
     }
 }
 

@@ -14,7 +14,7 @@ ghost use Rattle.scj_cli.specs.Modes.{IsAnswered, Stops, RefusesForm};
 
 use crate::fault_lists::fault_list;
 use crate::loads::load_all;
-use crate::refusals::{Refusal, Stop};
+use crate::refusals::{Refusal, ModeError};
 use crate::told::{Told, refused};
 use certain_faults::{CertainFault, certain_faults};
 use scj_base::{Memory, Status};
@@ -29,7 +29,7 @@ pub fn faults<H: Shelf, K: Sink>(
     names: &[String],
     shelf: &mut H,
     out: &mut K,
-) -> Result<Status, Stop>
+) -> Result<Status, ModeError>
     requires { length names.now ≤ 16 }
     ensures goes { ShelfGoes (H.held shelf.old) (H.held shelf.new) (H.faults shelf.old) (H.faults shelf.new)
         (H.most shelf.old) (H.most shelf.new) }

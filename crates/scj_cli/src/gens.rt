@@ -11,18 +11,18 @@ ghost use Rattle.scj_cli.specs.Modes.{IsAnswered, Stops, RefusesForm};
 ghost use Rattle.scj_cli.specs.Outcomes.{generated_names, run_status, gen_out, Ran};
 
 use crate::kept_traces::KeptTrace;
-use crate::refusals::{Refusal, Stop};
+use crate::refusals::{Refusal, ModeError};
 use crate::runnables::{Judged, Runnable, judge};
 use crate::summaries::summary;
 use scj_base::{Memory, Status};
 use scj_check::Sources;
 use scj_io::{Sink, put_all};
-use source_gen::{GenAnswer, generate};
+use source_gen::{GenError, generate};
 use std::alloc::Global;
 
 /// Generates the program of a size, runs it by its plan, and puts the summary of its trace on `out`; or puts the
 /// report.
-pub fn run_generated<K: Sink>(alloc: Global, size: u32, out: &mut K) -> Result<Status, Stop>
+pub fn run_generated<K: Sink>(alloc: Global, size: u32, out: &mut K) -> Result<Status, ModeError>
     requires { IsSize size }
     ensures ok { IfOk result (λ status. (shelf : ShelfRun) → IsAnswered (Some (Gen size)) shelf
         (sink_run (K.taken out.old) (K.taken out.new) (K.faults out.old) (K.faults out.new)) status) }
@@ -68,8 +68,8 @@ fn texts_of(alloc: Global, size: u32) -> Result<(Vec<u8>, Vec<u8>), Memory>
 {
     match generate(alloc, size) {
         Ok(texts) => Ok(texts),
-        Err(GenAnswer::Memory) => Err(Memory),
-        Err(GenAnswer::Size { .. }) => unreachable!(),
+        Err(GenError::Memory) => Err(Memory),
+        Err(GenError::Size { .. }) => unreachable!(),
     }
 }
 

@@ -9,7 +9,7 @@ ghost use Rattle.scj_cli.specs.Refusals.{RefusesLoad, RefusesLoads};
 
 use crate::refusals::Refusal;
 use scj_check::Sources;
-use scj_io::{LoadAnswer, Shelf};
+use scj_io::{LoadError, Shelf};
 use std::alloc::Global;
 
 /// The most bytes of a file.
@@ -158,10 +158,10 @@ fn load<H: Shelf>(
 {
     match shelf.load(alloc, name, limit) {
         Ok(bytes) => Ok(bytes),
-        Err(LoadAnswer::Failed) => Err(Refusal::Unread(format!(in alloc; "scj: read {name}\n")?)),
-        Err(LoadAnswer::TooLong { .. }) => {
+        Err(LoadError::Failed) => Err(Refusal::Unread(format!(in alloc; "scj: read {name}\n")?)),
+        Err(LoadError::TooLong { .. }) => {
             Err(Refusal::Overlong(format!(in alloc; "scj: too long {name}\n")?))
         }
-        Err(LoadAnswer::Memory) => Err(Refusal::OutOfMemory),
+        Err(LoadError::Memory) => Err(Refusal::OutOfMemory),
     }
 }

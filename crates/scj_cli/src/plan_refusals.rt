@@ -12,7 +12,7 @@ ghost use Rattle.scj_cli.specs.Outcomes.{plan_line};
 use crate::keys::key_line;
 use crate::refusals::Refusal;
 use response_times::{DeclaredError, DeclaredFile, read_declared};
-use run_plan::{Plan, PlanAnswer, read_plan};
+use run_plan::{Plan, PlanError, read_plan};
 use std::alloc::{AllocError, Global};
 
 /// The plan that a text is.
@@ -27,15 +27,15 @@ pub fn plan_in(alloc: Global, text: &[u8]) -> Result<Plan, Refusal>
 }
 
 /// What is told of a text that is no plan.
-fn refusal_of(alloc: Global, answer: &PlanAnswer) -> Result<Refusal, AllocError>
+fn refusal_of(alloc: Global, answer: &PlanError) -> Result<Refusal, AllocError>
     ensures { IfOk result
         (λ refusal. (meaning : Meaning) → TellsMeaning meaning (Err answer.now) → RefusesPlan meaning refusal) }
 {
     match answer {
-        PlanAnswer::NotToml => Ok(Refusal::Unplanned(not_toml(alloc)?)),
-        PlanAnswer::BadKey(key) => Ok(Refusal::Unplanned(bad_key(alloc, &key.0)?)),
-        PlanAnswer::BadValue(key) => Ok(Refusal::Unplanned(bad_value(alloc, &key.0)?)),
-        PlanAnswer::Memory => Ok(Refusal::OutOfMemory),
+        PlanError::NotToml => Ok(Refusal::Unplanned(not_toml(alloc)?)),
+        PlanError::BadKey(key) => Ok(Refusal::Unplanned(bad_key(alloc, &key.0)?)),
+        PlanError::BadValue(key) => Ok(Refusal::Unplanned(bad_value(alloc, &key.0)?)),
+        PlanError::Memory => Ok(Refusal::OutOfMemory),
     }
 }
 

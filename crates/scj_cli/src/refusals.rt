@@ -3,7 +3,7 @@
 ghost use Rattle.std.specs.Prelude.{◌≡◌};
 ghost use Rattle.scj_cli.specs.Refusals.{status_of, line_of};
 ghost use Rattle.scj_cli.specs.declared.refusals.Refusal.TheVariants.{OutOfMemory};
-ghost use Rattle.scj_cli.specs.declared.refusals.Stop.TheVariants.{Told, Broken};
+ghost use Rattle.scj_cli.specs.declared.refusals.ModeError.TheVariants.{Told, Broken};
 
 use scj_base::{Failed, Memory, Status};
 use std::alloc::AllocError;
@@ -69,25 +69,25 @@ impl From<Memory> for Refusal {
 
 /// Why a mode stops before its answer stands on `out`.
 #[derive(Drop)]
-pub enum Stop {
+pub enum ModeError {
     /// Nothing was put on `out`, or the trace of a run up to where memory ran out, and this is to be told on `err`.
     Told(Refusal),
     /// A put failed, and nothing may be put any more.
     Broken,
 }
 
-impl From<Refusal> for Stop {
+impl From<Refusal> for ModeError {
     ghost from_gives = { λ refusal stop. stop ≡ Told refusal };
 
-    fn from(refusal: Refusal) -> Stop {
-        Stop::Told(refusal)
+    fn from(refusal: Refusal) -> ModeError {
+        ModeError::Told(refusal)
     }
 }
 
-impl From<Failed> for Stop {
+impl From<Failed> for ModeError {
     ghost from_gives = { λ _ stop. stop ≡ Broken };
 
-    fn from(_error: Failed) -> Stop {
-        Stop::Broken
+    fn from(_error: Failed) -> ModeError {
+        ModeError::Broken
     }
 }

@@ -10,7 +10,7 @@ ghost use Rattle.scj_cli.specs.Modes.{IsAnswered, Stops, RefusesForm};
 
 use crate::loads::load_alone;
 use crate::plan_refusals::declared_in;
-use crate::refusals::{Refusal, Stop};
+use crate::refusals::{Refusal, ModeError};
 use response_times::response_text;
 use scj_base::Status;
 use scj_io::{Shelf, Sink, put_all};
@@ -22,7 +22,7 @@ pub fn respond<H: Shelf, K: Sink>(
     plan: &str,
     shelf: &mut H,
     out: &mut K,
-) -> Result<Status, Stop>
+) -> Result<Status, ModeError>
     ensures goes { ShelfGoes (H.held shelf.old) (H.held shelf.new) (H.faults shelf.old) (H.faults shelf.new)
         (H.most shelf.old) (H.most shelf.new) }
     ensures ok { IfOk result (λ status. IsAnswered (Some (Respond plan.now))

@@ -8,9 +8,9 @@ ghost use Rattle.scj_cli.specs.Outcomes.{status_of_end};
 ghost use Rattle.scj_cli.specs.Judgements.{HasRun, IsJudged, RefusesPlan, RefusesRun, StopsRun};
 
 use crate::plan_refusals::plan_in;
-use crate::refusals::{Refusal, Stop};
+use crate::refusals::{Refusal, ModeError};
 use crate::reports::report;
-use plain_machine::{RunEnd, RunStop};
+use plain_machine::{RunEnd, RunError};
 use run_plan::Plan;
 use scj_base::{Files, Memory, Status};
 use scj_check::{Sources, Verdict};
@@ -108,7 +108,7 @@ pub(crate) fn status_of(end: RunEnd) -> Status
 impl Runnable {
     /// Runs the program and puts its trace line by line. The program is dropped here, at the one exit of a short
     /// function: the proof of a drop of a whole program takes seconds at each exit.
-    pub fn run<K: Sink>(self, alloc: Global, out: &mut K) -> Result<Status, Stop>
+    pub fn run<K: Sink>(self, alloc: Global, out: &mut K) -> Result<Status, ModeError>
         requires named { length self.checked.program.files ≡ length self.files }
         ensures ok { IfOk result (λ status. HasRun self.checked.program self.plan self.files
             (sink_run (K.taken out.old) (K.taken out.new) (K.faults out.old) (K.faults out.new)) status) }
@@ -119,7 +119,7 @@ impl Runnable {
     }
 
     /// Runs the program, and puts its trace line by line.
-    fn put_trace<K: Sink>(&self, alloc: Global, out: &mut K) -> Result<Status, Stop>
+    fn put_trace<K: Sink>(&self, alloc: Global, out: &mut K) -> Result<Status, ModeError>
         requires named { length self.now.checked.program.files ≡ length self.now.files }
         ensures ok { IfOk result (λ status. HasRun self.now.checked.program self.now.plan self.now.files
             (sink_run (K.taken out.old) (K.taken out.new) (K.faults out.old) (K.faults out.new)) status) }
@@ -128,8 +128,8 @@ impl Runnable {
     {
         match plain_machine::run(alloc, &self.checked, &self.files, &self.plan, out) {
             Ok(end) => Ok(status_of(end)),
-            Err(RunStop::Memory) => Err(Stop::Told(Refusal::OutOfMemory)),
-            Err(RunStop::Failed) => Err(Stop::Broken),
+            Err(RunError::Memory) => Err(ModeError::Told(Refusal::OutOfMemory)),
+            Err(RunError::Failed) => Err(ModeError::Broken),
         }
     }
 }

@@ -7,7 +7,7 @@ ghost use Rattle.command_line.specs.Job.{Run};
 ghost use Rattle.scj_cli.specs.Modes.{IsAnswered, Stops};
 
 use crate::loads::load_run;
-use crate::refusals::Stop;
+use crate::refusals::ModeError;
 use crate::runnables::{Judged, judge};
 use scj_base::Status;
 use scj_io::{Shelf, Sink, put_all};
@@ -21,7 +21,7 @@ pub fn run<H: Shelf, K: Sink>(
     names: &[String],
     shelf: &mut H,
     out: &mut K,
-) -> Result<Status, Stop>
+) -> Result<Status, ModeError>
     requires { length names.now ≤ 16 }
     ensures goes { ShelfGoes (H.held shelf.old) (H.held shelf.new) (H.faults shelf.old) (H.faults shelf.new)
         (H.most shelf.old) (H.most shelf.new) }

@@ -9,7 +9,7 @@ ghost use Rattle.scj_cli.specs.Answers.{Answer, shown_text};
 ghost use Rattle.scj_cli.specs.Modes.{IsAnswered, Stops, RefusesForm};
 
 use crate::loads::load_all;
-use crate::refusals::{Refusal, Stop};
+use crate::refusals::{Refusal, ModeError};
 use crate::reports::report;
 use scj_base::{Failed, Memory, Status};
 use scj_check::{Reading, Sources, read};
@@ -24,7 +24,7 @@ pub fn show<H: Shelf, K: Sink>(
     names: &[String],
     shelf: &mut H,
     out: &mut K,
-) -> Result<Status, Stop>
+) -> Result<Status, ModeError>
     requires { length names.now ≤ 16 }
     ensures goes { ShelfGoes (H.held shelf.old) (H.held shelf.new) (H.faults shelf.old) (H.faults shelf.new)
         (H.most shelf.old) (H.most shelf.new) }

@@ -3,8 +3,8 @@ use Rattle.std.proofs.Common.{◌≡◌, ◌⊎◌, inl, inr, ℕ, ◌<◌, ◌�
 use Rattle.scj_io.specs.Counters.{Rose}
 use Rattle.scj_io.specs.Loads.{Held, ShelfRun, shelf_run, ShelfGoes, MayHold, MayExceed, LoadHolds, LoadExceeds, LoadRefuses, IsTooLongOrMemory}
 use Rattle.scj_io.specs.Loads.Held.{Told, Absent}
-use Rattle.scj_io.specs.declared.shelves.LoadAnswer.{LoadAnswer}
-use Rattle.scj_io.specs.declared.shelves.LoadAnswer.TheVariants.{Failed, TooLong, Memory}
+use Rattle.scj_io.specs.declared.shelves.LoadError.{LoadError}
+use Rattle.scj_io.specs.declared.shelves.LoadError.TheVariants.{Failed, TooLong, Memory}
 
 pub ShelfGoes-nothing : (h : List ℕ → Held) (f m : List ℕ → ℕ) → ShelfGoes h h f f m m
 ShelfGoes-nothing h f m = record { held = λ _. refl; faults = λ name. omega arith; most = λ name. omega arith }
@@ -38,7 +38,7 @@ LoadExceeds-within {name = name} {limit = limit} before loaded after = record {
 
 -- a load that was refused within a longer run
 pub LoadRefuses-within : {h i j l : List ℕ → Held} {f g f' g' m n m' n' : List ℕ → ℕ} (name : List ℕ) (limit : ℕ)
-    (answer : LoadAnswer) → ShelfGoes h i f g m n → LoadRefuses (shelf_run i g f' m') name limit answer →
+    (answer : LoadError) → ShelfGoes h i f g m n → LoadRefuses (shelf_run i g f' m') name limit answer →
     ShelfGoes j l f' g' m' n' → LoadRefuses (shelf_run h f g' n') name limit answer
 LoadRefuses-within name limit Failed before refused after =
     omega (arith, refused, before.faults name, after.faults name)
@@ -57,10 +57,10 @@ told_bytes {items = items} holds told = subst (λ (held : Held). MayHold held it
 
 -- where the bytes are told and are more than the limit, and no fault rises, a load is too long
 pub told_exceeds : {V : Type 0} (items_of : V → List ℕ) (run : ShelfRun) (name : List ℕ) (limit : ℕ) (bytes : List ℕ)
-    (result : Result V LoadAnswer) → run.held name ≡ Told bytes → limit < length bytes →
+    (result : Result V LoadError) → run.held name ≡ Told bytes → limit < length bytes →
     (Rose (run.faults_before name) (run.faults_after name) → ⊥) →
     IfOk result (λ v. LoadHolds run name limit (items_of v)) →
-    IfErr result (λ answer. LoadRefuses run name limit answer) → (answer : LoadAnswer) × (result ≡ Err answer) ×
+    IfErr result (λ answer. LoadRefuses run name limit answer) → (answer : LoadError) × (result ≡ Err answer) ×
     IsTooLongOrMemory answer
 told_exceeds items_of run name limit bytes (Ok v) told long calm ok err =
     absurd (too_short (told_bytes ok told) ok.within)
@@ -74,7 +74,7 @@ told_exceeds items_of run name limit bytes (Err Memory) told long calm ok err = 
 
 -- a name told as absent is answered neither with bytes nor as too long
 pub absent_refused : {V : Type 0} (items_of : V → List ℕ) (run : ShelfRun) (name : List ℕ) (limit : ℕ)
-    (result : Result V LoadAnswer) → run.held name ≡ Absent → IfOk result (λ v. LoadHolds run name limit (items_of v)) →
+    (result : Result V LoadError) → run.held name ≡ Absent → IfOk result (λ v. LoadHolds run name limit (items_of v)) →
     IfErr result (λ answer. LoadRefuses run name limit answer) → (result ≡ Err Failed) ⊎ (result ≡ Err Memory)
 absent_refused items_of run name limit (Ok v) absent ok err =
     absurd (subst (λ (held : Held). MayHold held (items_of v)) absent ok.content)

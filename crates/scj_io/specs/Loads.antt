@@ -1,8 +1,8 @@
 -- What stands on a shelf, and what a load of a name may answer.
 use Rattle.std.specs.Prelude.{◌≡◌, ℕ, ◌<◌, ◌≤◌, List, length}
 use Rattle.scj_io.specs.Counters.{Rose}
-use Rattle.scj_io.specs.declared.shelves.LoadAnswer.{LoadAnswer}
-use Rattle.scj_io.specs.declared.shelves.LoadAnswer.TheVariants.{Failed, TooLong, Memory}
+use Rattle.scj_io.specs.declared.shelves.LoadError.{LoadError}
+use Rattle.scj_io.specs.declared.shelves.LoadError.TheVariants.{Failed, TooLong, Memory}
 
 -- what a shelf tells of a name: its bytes, that it holds none, or nothing
 pub data Held : Type 0 where
@@ -58,13 +58,13 @@ pub record LoadExceeds (run : ShelfRun) (name : List ℕ) (limit taken : ℕ) : 
   pub counted : taken ≤ run.most name
 
 -- when each refusal of a load comes; want of memory is free
-abbrev pub LoadRefuses : ShelfRun → List ℕ → ℕ → LoadAnswer → Type 0
+abbrev pub LoadRefuses : ShelfRun → List ℕ → ℕ → LoadError → Type 0
 LoadRefuses run name limit Failed = Rose (run.faults_before name) (run.faults_after name)
 LoadRefuses run name limit (TooLong taken) = LoadExceeds run name limit taken
 LoadRefuses run name limit Memory = Unit {0}
 
 -- the answers that are left for a name whose bytes are more than the limit where no fault rises
-abbrev pub IsTooLongOrMemory : LoadAnswer → Type 0
+abbrev pub IsTooLongOrMemory : LoadError → Type 0
 IsTooLongOrMemory Failed = ⊥
 IsTooLongOrMemory (TooLong taken) = Unit {0}
 IsTooLongOrMemory Memory = Unit {0}

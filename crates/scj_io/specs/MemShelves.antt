@@ -4,8 +4,8 @@ use Rattle.std.specs.BTreeMap.{get_by_text}
 use Rattle.scj_io.specs.Counters.{one_more}
 use Rattle.scj_io.specs.Loads.{Held}
 use Rattle.scj_io.specs.Loads.Held.{Told, Absent}
-use Rattle.scj_io.specs.declared.shelves.LoadAnswer.{LoadAnswer}
-use Rattle.scj_io.specs.declared.shelves.LoadAnswer.TheVariants.{Failed, TooLong, Memory}
+use Rattle.scj_io.specs.declared.shelves.LoadError.{LoadError}
+use Rattle.scj_io.specs.declared.shelves.LoadError.TheVariants.{Failed, TooLong, Memory}
 use Rattle.scj_io.specs.declared.mem_shelves.Stored.{Stored}
 use Rattle.scj_io.specs.declared.mem_shelves.MemShelf.{MemShelf}
 
@@ -51,7 +51,7 @@ abbrev pub ShareCounter : MemShelf → List ℕ → List ℕ → Type 0
 ShareCounter shelf name other = (other ≡ name) ⊎ ((held_of shelf name ≡ Absent) × (held_of shelf other ≡ Absent))
 
 -- a load of these bytes that is too long took them all
-abbrev pub TakesWhole : List ℕ → LoadAnswer → Type 0
+abbrev pub TakesWhole : List ℕ → LoadError → Type 0
 TakesWhole bytes Failed = Unit {0}
 TakesWhole bytes (TooLong taken) = taken ≡ length bytes
 TakesWhole bytes Memory = Unit {0}

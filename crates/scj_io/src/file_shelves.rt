@@ -5,10 +5,10 @@ ghost use Rattle.std.specs.Io.KnownBytes.{Consumes, IsAtEnd};
 ghost use Rattle.scj_io.specs.Counters.{one_more};
 ghost use Rattle.scj_io.specs.Loads.{ShelfGoes, shelf_run, LoadHolds, LoadRefuses};
 ghost use Rattle.scj_io.specs.FileShelves.{nothing_told, faults_of, most_of};
-ghost use Rattle.scj_io.specs.declared.file_shelves.Stop.TheVariants.{Memory};
+ghost use Rattle.scj_io.specs.declared.file_shelves.ReadError.TheVariants.{Memory};
 
 use crate::counters::raised;
-use crate::shelves::{LoadAnswer, Shelf};
+use crate::shelves::{LoadError, Shelf};
 use std::alloc::{AllocError, Global};
 use std::fs;
 use std::io::Read;
@@ -48,7 +48,7 @@ impl<'r, R: Files> Shelf for FileShelf<'r, R> {
 
     ghost most = { most_of };
 
-    fn load(&mut self, alloc: Global, name: &str, limit: usize) -> Result<Vec<u8>, LoadAnswer>
+    fn load(&mut self, alloc: Global, name: &str, limit: usize) -> Result<Vec<u8>, LoadError>
         ensures goes { ShelfGoes nothing_told nothing_told (faults_of self.old) (faults_of self.new)
             (most_of self.old) (most_of self.new) }
         ensures ok { IfOk result (λ bytes. LoadHolds
@@ -57,9 +57,9 @@ impl<'r, R: Files> Shelf for FileShelf<'r, R> {
         ensures refusal { IfErr result (λ answer. LoadRefuses
             (shelf_run nothing_told (faults_of self.old) (faults_of self.new) (most_of self.new))
             name.now limit answer) }
-        ensures counted { (other : List ℕ) → IsErrOf result LoadAnswer.Failed →
+        ensures counted { (other : List ℕ) → IsErrOf result LoadError.Failed →
             faults_of self.new other ≡ one_more (faults_of self.old other) }
-        ensures calm { (other : List ℕ) → ¬ IsErrOf result LoadAnswer.Failed →
+        ensures calm { (other : List ℕ) → ¬ IsErrOf result LoadError.Failed →
             faults_of self.new other ≡ faults_of self.old other }
     {
         let mut bytes = Vec::new(alloc);
@@ -67,12 +67,12 @@ impl<'r, R: Files> Shelf for FileShelf<'r, R> {
         let taken = bytes.len() as u64;
         self.most = self.most.max(taken);
         match ended {
-            Ok(()) if bytes.len() > limit => Err(LoadAnswer::TooLong { taken }),
+            Ok(()) if bytes.len() > limit => Err(LoadError::TooLong { taken }),
             Ok(()) => Ok(bytes),
-            Err(Stop::Memory) => Err(LoadAnswer::Memory),
-            Err(Stop::Fault) => {
+            Err(ReadError::Memory) => Err(LoadError::Memory),
+            Err(ReadError::Fault) => {
                 self.faults = raised(self.faults);
-                Err(LoadAnswer::Failed)
+                Err(LoadError::Failed)
             }
         }
     }
@@ -80,30 +80,30 @@ impl<'r, R: Files> Shelf for FileShelf<'r, R> {
 
 // Why reading stopped before its end.
 #[derive(Clone, Copy)]
-enum Stop {
+enum ReadError {
     Fault,
     Memory,
 }
 
-impl From<AllocError> for Stop {
+impl From<AllocError> for ReadError {
     ghost from_gives = { λ _ stop. stop ≡ Memory };
 
-    fn from(_error: AllocError) -> Stop {
-        Stop::Memory
+    fn from(_error: AllocError) -> ReadError {
+        ReadError::Memory
     }
 }
 
-fn read_file<R: Files>(files: &R, name: &str, limit: usize, bytes: &mut Vec<u8>) -> Result<(), Stop>
+fn read_file<R: Files>(files: &R, name: &str, limit: usize, bytes: &mut Vec<u8>) -> Result<(), ReadError>
     requires { bytes.old.items ≡ [] }
 {
     let Ok(mut file) = fs::open(files, name) else {
-        return Err(Stop::Fault);
+        return Err(ReadError::Fault);
     };
     read_beyond(&mut file, limit, bytes)
 }
 
 // Reads until the source ends or has given one byte more than the limit.
-fn read_beyond<S: Read>(source: &mut S, limit: usize, bytes: &mut Vec<u8>) -> Result<(), Stop>
+fn read_beyond<S: Read>(source: &mut S, limit: usize, bytes: &mut Vec<u8>) -> Result<(), ReadError>
     requires { bytes.old.items ≡ [] }
     ensures bound { vec_len bytes.new ≤ limit + 1 }
     ensures ok { OnOk result (Consumes (S.remaining source.old) (S.remaining source.new) bytes.new.items) }
@@ -115,7 +115,7 @@ fn read_beyond<S: Read>(source: &mut S, limit: usize, bytes: &mut Vec<u8>) -> Re
         match source.read(&mut buffer[..room]) {
             Ok(0) => return Ok(()),
             Ok(count) => bytes.extend_from_slice(&buffer[..count])?,
-            Err(_) => return Err(Stop::Fault),
+            Err(_) => return Err(ReadError::Fault),
         }
     }
     Ok(())

@@ -12,6 +12,6 @@ pub mod std_sinks;
 pub use file_shelves::FileShelf;
 pub use mem_shelves::MemShelf;
 pub use mem_sinks::MemSink;
-pub use shelves::{LoadAnswer, Shelf};
+pub use shelves::{LoadError, Shelf};
 pub use sinks::{Sink, put_all};
 pub use std_sinks::StdSink;

@@ -9,7 +9,7 @@ ghost use Rattle.std.specs.BTreeMap.{get_by_text};
 ghost use Rattle.std.specs.Option.{option_map};
 
 use crate::counters::raised;
-use crate::shelves::{LoadAnswer, Shelf};
+use crate::shelves::{LoadError, Shelf};
 use scj_base::Memory;
 use std::alloc::Global;
 use std::collections::BTreeMap;
@@ -98,7 +98,7 @@ impl Shelf for MemShelf {
 
     ghost most = { λ shelf _. most_of shelf };
 
-    fn load(&mut self, alloc: Global, name: &str, limit: usize) -> Result<Vec<u8>, LoadAnswer>
+    fn load(&mut self, alloc: Global, name: &str, limit: usize) -> Result<Vec<u8>, LoadError>
         ensures goes { ShelfGoes (held_of self.old) (held_of self.new) (faults_of self.old) (faults_of self.new)
             (λ _. most_of self.old) (λ _. most_of self.new) }
         ensures ok { IfOk result (λ bytes. LoadHolds
@@ -107,18 +107,18 @@ impl Shelf for MemShelf {
         ensures refusal { IfErr result (λ answer. LoadRefuses
             (shelf_run (held_of self.old) (faults_of self.old) (faults_of self.new) (λ _. most_of self.new))
             name.now limit answer) }
-        ensures exact { IsErrOf result LoadAnswer.Failed ↔ RefusesLoad self.old name.now }
-        ensures counted { (other : List ℕ) → IsErrOf result LoadAnswer.Failed → ShareCounter self.old name.now other →
+        ensures exact { IsErrOf result LoadError.Failed ↔ RefusesLoad self.old name.now }
+        ensures counted { (other : List ℕ) → IsErrOf result LoadError.Failed → ShareCounter self.old name.now other →
             faults_of self.new other ≡ one_more (faults_of self.old other) }
         ensures spared { (other : List ℕ) → ¬ ShareCounter self.old name.now other →
             faults_of self.new other ≡ faults_of self.old other }
-        ensures calm { (other : List ℕ) → ¬ IsErrOf result LoadAnswer.Failed →
+        ensures calm { (other : List ℕ) → ¬ IsErrOf result LoadError.Failed →
             faults_of self.new other ≡ faults_of self.old other }
         ensures told { (bytes : List ℕ) → held_of self.old name.now ≡ Told bytes →
             IfErr result (λ answer. TakesWhole bytes answer) }
-        ensures most { (bytes : List ℕ) → held_of self.old name.now ≡ Told bytes → ¬ IsErrOf result LoadAnswer.Failed →
+        ensures most { (bytes : List ℕ) → held_of self.old name.now ≡ Told bytes → ¬ IsErrOf result LoadError.Failed →
             most_of self.new ≡ max (most_of self.old) (length bytes) }
-        ensures unmeasured { IsErrOf result LoadAnswer.Failed → most_of self.new ≡ most_of self.old }
+        ensures unmeasured { IsErrOf result LoadError.Failed → most_of self.new ≡ most_of self.old }
         ensures loads { loads_of self.new ≡ one_more (loads_of self.old) }
         ensures failing { failing_loads self.new ≡ failing_loads self.old }
     {
@@ -127,17 +127,17 @@ impl Shelf for MemShelf {
         match self.stored.get(name) {
             None => {
                 self.absent_faults = raised(self.absent_faults);
-                Err(LoadAnswer::Failed)
+                Err(LoadError::Failed)
             }
             Some(_) if listed => {
                 count_fault(&mut self.stored, name);
-                Err(LoadAnswer::Failed)
+                Err(LoadError::Failed)
             }
             Some(stored) => {
                 let taken = stored.bytes.len() as u64;
                 self.most = self.most.max(taken);
                 if stored.bytes.len() > limit {
-                    return Err(LoadAnswer::TooLong { taken });
+                    return Err(LoadError::TooLong { taken });
                 }
                 Ok(Vec::from_slice(alloc, &stored.bytes)?)
             }

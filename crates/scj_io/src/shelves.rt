@@ -1,14 +1,14 @@
 //! Where the bytes of named files come from.
 
 ghost use Rattle.std.specs.Prelude.{◌≡◌, ℕ, List, IfOk, IfErr};
-ghost use Rattle.scj_io.specs.declared.shelves.LoadAnswer.TheVariants.{Memory};
+ghost use Rattle.scj_io.specs.declared.shelves.LoadError.TheVariants.{Memory};
 ghost use Rattle.scj_io.specs.Loads.{Held, ShelfGoes, shelf_run, LoadHolds, LoadRefuses};
 
 use std::alloc::{AllocError, AllocFailed, Global};
 
 /// Why a load gave no bytes.
 #[derive(Clone, Copy, Debug, PartialEq, Eq)]
-pub enum LoadAnswer {
+pub enum LoadError {
     /// The name couldn't be read.
     Failed,
     /// More bytes than the limit came; `taken` of them were read.
@@ -17,11 +17,11 @@ pub enum LoadAnswer {
     Memory,
 }
 
-impl From<AllocError> for LoadAnswer {
+impl From<AllocError> for LoadError {
     ghost from_gives = { λ _ answer. answer ≡ Memory };
 
-    fn from(_error: AllocError) -> LoadAnswer {
-        LoadAnswer::Memory
+    fn from(_error: AllocError) -> LoadError {
+        LoadError::Memory
     }
 }
 
@@ -37,7 +37,7 @@ pub trait Shelf {
     ghost most: { Self → List ℕ → ℕ };
 
     /// The bytes of the file `name`, of which there may be at most `limit`.
-    fn load(&mut self, alloc: Global, name: &str, limit: usize) -> Result<Vec<u8>, LoadAnswer>
+    fn load(&mut self, alloc: Global, name: &str, limit: usize) -> Result<Vec<u8>, LoadError>
         ensures goes { ShelfGoes (held self.old) (held self.new) (faults self.old) (faults self.new)
             (most self.old) (most self.new) }
         ensures ok { IfOk result (λ bytes. LoadHolds

@@ -16,8 +16,8 @@ use Rattle.scj_base.specs.declared.lexemes.TokenKind.TheVariants.{End}
 use Rattle.scj_base.specs.declared.findings.Rule.{Rule}
 use Rattle.scj_lexer.specs.declared.pieces.Front.TheVariants.{Piece as Told, Bad}
 use Rattle.std.specs.Prelude.{Result, Ok, Err, IsErrAnd, IfErr}
-use Rattle.scj_lexer.specs.declared.texts.LexAnswer.{LexAnswer}
-use Rattle.scj_lexer.specs.declared.texts.LexAnswer.TheVariants.{Memory}
+use Rattle.scj_lexer.specs.declared.texts.LexError.{LexError}
+use Rattle.scj_lexer.specs.declared.texts.LexError.TheVariants.{Memory}
 use Rattle.scj_lexer.specs.Answer.{IsBreakOf, Tells, token_of}
 use Rattle.scj_lexer.specs.First.{first_of}
 use Rattle.scj_lexer.proofs.Decided.{Begins, piece_sound, break_sound}
@@ -225,7 +225,7 @@ piece_fits file bytes rest kind len pos tokens l h e r =
       left = small.left;
     }
 
-pub told_memory : {A : Type 0} (file : ℕ) (bytes : List ℕ) (r : Result A LexAnswer) → IsErrAnd r (λ e. e ≡ Memory) →
+pub told_memory : {A : Type 0} (file : ℕ) (bytes : List ℕ) (r : Result A LexError) → IsErrAnd r (λ e. e ≡ Memory) →
     IfErr r (λ answer. Tells file bytes answer)
 told_memory file bytes (Ok a) h = tt
 told_memory file bytes (Err e) h = subst (Tells file bytes) (sym h) tt

@@ -5,8 +5,8 @@ use Rattle.scj_base.specs.declared.findings.Found.{Found}
 use Rattle.scj_base.specs.declared.lexemes.Token.{Token}
 use Rattle.scj_base.specs.declared.lexemes.TokenKind.{TokenKind}
 use Rattle.scj_base.specs.Lex.{Lex, LexBreak, position_of}
-use Rattle.scj_lexer.specs.declared.texts.LexAnswer.{LexAnswer}
-use Rattle.scj_lexer.specs.declared.texts.LexAnswer.TheVariants.{Bad, Memory}
+use Rattle.scj_lexer.specs.declared.texts.LexError.{LexError}
+use Rattle.scj_lexer.specs.declared.texts.LexError.TheVariants.{Bad, Memory}
 
 -- the text has no tokens, and breaks this rule first, at this place
 pub record IsBreakOf (file : ℕ) (bytes : List ℕ) (found : Found) : Type 0 where
@@ -15,7 +15,7 @@ pub record IsBreakOf (file : ℕ) (bytes : List ℕ) (found : Found) : Type 0 wh
   pub place : found.pos ≡ position_of file bytes offset
   pub no_tokens : (tokens : List Token) → Lex file bytes tokens → ⊥
 
-abbrev pub Tells : ℕ → List ℕ → LexAnswer → Type 0
+abbrev pub Tells : ℕ → List ℕ → LexError → Type 0
 Tells file bytes (Bad found) = IsBreakOf file bytes found
 Tells file bytes Memory = ⊤
 

@@ -8,4 +8,4 @@ mod tables;
 pub mod texts;
 mod tries;
 
-pub use texts::{LexAnswer, lex};
+pub use texts::{LexError, lex};

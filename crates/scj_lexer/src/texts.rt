@@ -16,26 +16,26 @@ const FIRST_COLUMN: u32 = 1;
 
 /// Why a text has no tokens.
 #[derive(Clone, Copy, Debug, PartialEq, Eq)]
-pub enum LexAnswer {
+pub enum LexError {
     /// It breaks a rule, here for the first time.
     Bad(Found),
     /// There was no memory for the tokens.
     Memory,
 }
 
-impl From<Memory> for LexAnswer {
+impl From<Memory> for LexError {
     ghost use Rattle.std.specs.Prelude.{◌≡◌};
-    ghost use Rattle.scj_lexer.specs.declared.texts.LexAnswer.TheVariants.{Memory as NoMemory};
+    ghost use Rattle.scj_lexer.specs.declared.texts.LexError.TheVariants.{Memory as NoMemory};
 
     ghost from_gives = { λ _ answer. answer ≡ NoMemory };
 
-    fn from(_memory: Memory) -> LexAnswer {
-        LexAnswer::Memory
+    fn from(_memory: Memory) -> LexError {
+        LexError::Memory
     }
 }
 
 /// The tokens of a text of at most 1 MiB, in time that grows with its length alone.
-pub fn lex(alloc: Global, file: u8, bytes: &[u8]) -> Result<Tokens, LexAnswer>
+pub fn lex(alloc: Global, file: u8, bytes: &[u8]) -> Result<Tokens, LexError>
     requires { length bytes.now ≤ 1048576 }
     ensures ok { IfOk result (λ tokens. Lex file bytes.now tokens) }
     ensures bad { IfErr result (λ answer. Tells file bytes.now answer) }
@@ -62,7 +62,7 @@ pub fn lex(alloc: Global, file: u8, bytes: &[u8]) -> Result<Tokens, LexAnswer>
             continue;
         }
         match first(rest) {
-            Front::Bad(rule) => return Err(LexAnswer::Bad(Found { pos, rule })),
+            Front::Bad(rule) => return Err(LexError::Bad(Found { pos, rule })),
             Front::Piece(kind, len) => {
                 put(&mut tokens, kind, pos, bytes.len() - rest.len(), len)?;
                 let (piece, others) = rest.split_at(len);

@@ -16,8 +16,8 @@ use Rattle.scj_base.specs.declared.positions.Position.{Position}
 use Rattle.scj_parser.specs.Parsing.{EndsThere}
 use Rattle.scj_base.specs.declared.findings.Found.{Found}
 use Rattle.scj_base.specs.declared.findings.Rule.TheVariants.{P1}
-use Rattle.scj_parser.specs.declared.parse_answers.ParseAnswer.{ParseAnswer}
-use Rattle.scj_parser.specs.declared.parse_answers.ParseAnswer.TheVariants.{Bad}
+use Rattle.scj_parser.specs.declared.parse_answers.ParseError.{ParseError}
+use Rattle.scj_parser.specs.declared.parse_answers.ParseError.TheVariants.{Bad}
 use Rattle.machine_laws.proofs.GrowthOfFiles.{forest_kept}
 use Rattle.scj_tree.specs.Files.{BreaksGrammar, FileRead, not_in_the_grammar}
 use Rattle.scj_tree.specs.Forest.{IsForest, forest_of}
@@ -120,5 +120,5 @@ forest_after N N1 i files more a h room fits =
     subst P (sym a.files) (forest_kept files a.tree h room fits)
 
 -- two answers that are the same tell the same
-pub same_found : {A : Type 0} (f g : Found) → ◌≡◌ {A = Result A ParseAnswer} (Err (Bad f)) (Err (Bad g)) → f ≡ g
+pub same_found : {A : Type 0} (f g : Found) → ◌≡◌ {A = Result A ParseError} (Err (Bad f)) (Err (Bad g)) → f ≡ g
 same_found f g e = cc

@@ -5,5 +5,5 @@ mod heights;
 pub mod parse_answers;
 pub mod parses;
 
-pub use parse_answers::ParseAnswer;
+pub use parse_answers::ParseError;
 pub use parses::parse;

@@ -4,7 +4,7 @@ ghost use Rattle.std.specs.Prelude.{◌≡◌, ◌<◌, ◌^◌, List, ℕ, Ok, 
 ghost use Rattle.parser_steps.specs.Outcomes.{AllFit};
 ghost use Rattle.scj_base.specs.Lex.{Lex};
 ghost use Rattle.scj_parser.specs.Parsing.{EndsThere};
-ghost use Rattle.scj_parser.specs.declared.parse_answers.ParseAnswer.TheVariants.{Bad};
+ghost use Rattle.scj_parser.specs.declared.parse_answers.ParseError.TheVariants.{Bad};
 ghost use Rattle.scj_base.specs.declared.findings.Found.{Found as FoundRule};
 ghost use Rattle.scj_tree.specs.Files.{BreaksGrammar, FileRead as IsFileRead};
 ghost use Rattle.scj_tree.specs.Forest.{IsForest, forest_of};
@@ -12,7 +12,7 @@ ghost use Rattle.scj_tree.specs.Grammar.{Tree};
 ghost use Rattle.scj_tree.specs.Lexemes.{lexemes_of};
 
 use crate::heights::too_deep;
-use crate::parse_answers::ParseAnswer;
+use crate::parse_answers::ParseError;
 use parser_nodes::growing_nodes::Nodes;
 use parser_steps::file_reads::{FileRead, read_file};
 use scj_base::{Found, NodeId, Rule, Token, Tokens};
@@ -26,7 +26,7 @@ fn read_classes(
     nodes: &mut Nodes,
     bytes: &[u8],
     tokens: &[Token],
-) -> Result<NodeList, ParseAnswer>
+) -> Result<NodeList, ParseError>
     requires fit { AllFit bytes.now tokens.now }
     requires ends { EndsThere (lexemes_of bytes.now tokens.now) }
     ensures ok { (classes : List ℕ) → result ≡ Ok classes →
@@ -37,7 +37,7 @@ fn read_classes(
 {
     match read_file(alloc, nodes, bytes, tokens)? {
         FileRead::Whole(classes) => Ok(classes),
-        FileRead::Stopped(pos) => Err(ParseAnswer::Bad(Found {
+        FileRead::Stopped(pos) => Err(ParseError::Bad(Found {
             pos,
             rule: Rule::P1,
         })),
@@ -52,7 +52,7 @@ fn add_file(
     files: &mut Vec<Vec<NodeId>>,
     bytes: &[u8],
     tokens: &[Token],
-) -> Result<(), ParseAnswer>
+) -> Result<(), ParseError>
     requires begun { nodes.old.all ≡ nodes.old.kept }
     requires whole { IsForest (forest_of nodes.old.all (map (λ f. f.items) files.old.items)) }
     requires fit { AllFit bytes.now tokens.now }
@@ -69,7 +69,7 @@ fn add_file(
     let first = nodes.kept_len();
     let classes = read_classes(alloc, nodes, bytes, tokens)?;
     if let Some(pos) = too_deep(alloc, nodes.items(), first)? {
-        return Err(ParseAnswer::Bad(Found {
+        return Err(ParseError::Bad(Found {
             pos,
             rule: Rule::P2,
         }));
@@ -87,7 +87,7 @@ pub fn parse(
     tokens: &Tokens,
     bytes: &[u8],
     program: &mut Program,
-) -> Result<(), ParseAnswer>
+) -> Result<(), ParseError>
     requires next { file ≡ length program.old.files }
     requires few { file < 16 }
     requires lexed { Lex file bytes.now tokens.now }

@@ -1,6 +1,6 @@
 //! A whole call.
 
-use case_tables::Stop;
+use case_tables::TableError;
 use scj_base::Status;
 use scj_cli::scj;
 use scj_io::{MemShelf, MemSink};
@@ -25,10 +25,10 @@ impl Ending {
         shelf: &mut MemShelf,
         mut out: MemSink,
         mut err: MemSink,
-    ) -> Result<Ending, Stop> {
+    ) -> Result<Ending, TableError> {
         let status = scj(alloc, words, shelf, &mut out, &mut err);
         if status == Status::NoMemory {
-            return Err(Stop::Memory);
+            return Err(TableError::Memory);
         }
         Ok(Ending { status, out, err })
     }
@@ -38,7 +38,7 @@ impl Ending {
         alloc: Global,
         words: &[String],
         shelf: &mut MemShelf,
-    ) -> Result<Ending, Stop> {
+    ) -> Result<Ending, TableError> {
         let out = MemSink::with_capacity(alloc, ROOM)?;
         let err = MemSink::with_capacity(alloc, ROOM)?;
         Ending::of(alloc, words, shelf, out, err)
@@ -46,7 +46,7 @@ impl Ending {
 }
 
 /// The words of a line, parted by single blanks; none where it is empty.
-pub fn parted(alloc: Global, line: &str) -> Result<Vec<String>, Stop> {
+pub fn parted(alloc: Global, line: &str) -> Result<Vec<String>, TableError> {
     let mut words = Vec::new(alloc);
     if line.is_empty() {
         return Ok(words);

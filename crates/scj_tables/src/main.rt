@@ -11,14 +11,14 @@ mod reports;
 mod runs;
 mod tables;
 
-use case_tables::Stop;
+use case_tables::TableError;
 use scj_io::FileShelf;
 use std::alloc::Global;
 use std::io::{self, BufRead, BufReader, BufWriter, Write};
 use std::rt::Files;
 use tables::Tables;
 
-fn main(rt: HostRuntime) -> Result<(), Stop> {
+fn main(rt: HostRuntime) -> Result<(), TableError> {
     let alloc = rt.alloc();
     let lines = BufReader::new(alloc, rt.reader())?;
     let out = BufWriter::new(alloc, io::writer(&rt))?;
@@ -30,7 +30,7 @@ fn print_all<F: Files, R: BufRead + Drop, W: Write + Drop>(
     files: &F,
     input: R,
     mut out: W,
-) -> Result<(), Stop> {
+) -> Result<(), TableError> {
     let mut tables = Tables::new(alloc, FileShelf::new(files));
     for line in input.lines(alloc) {
         let line = line?;

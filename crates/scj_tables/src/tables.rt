@@ -1,7 +1,7 @@
 //! The table at which the program stands.
 
 use crate::{changed, nodes, reports, runs};
-use case_tables::Stop;
+use case_tables::TableError;
 use scj_io::Shelf;
 use std::alloc::Global;
 use std::io::Write;
@@ -34,12 +34,12 @@ impl<S: Shelf + Drop> Tables<S> {
     }
 
     /// Takes the next line of the input.
-    pub fn take_line<W: Write>(&mut self, line: &str, out: &mut W) -> Result<(), Stop> {
+    pub fn take_line<W: Write>(&mut self, line: &str, out: &mut W) -> Result<(), TableError> {
         if let Some(name) = line.strip_prefix("%% ") {
             return self.begin(name, out);
         }
         match &mut self.table {
-            Table::None => Err(Stop::BadLine),
+            Table::None => Err(TableError::BadLine),
             Table::Reports(run) => run.take_line(line, &mut self.files, out),
             Table::Changed(run) => run.take_line(line, out),
             Table::Runs(run) => run.take_line(line, out),
@@ -48,7 +48,7 @@ impl<S: Shelf + Drop> Tables<S> {
     }
 
     /// Ends the table.
-    pub fn end<W: Write>(&mut self, out: &mut W) -> Result<(), Stop> {
+    pub fn end<W: Write>(&mut self, out: &mut W) -> Result<(), TableError> {
         match &mut self.table {
             Table::Changed(run) => run.end(out),
             Table::Runs(run) => run.end(out),
@@ -56,14 +56,14 @@ impl<S: Shelf + Drop> Tables<S> {
         }
     }
 
-    fn begin<W: Write>(&mut self, name: &str, out: &mut W) -> Result<(), Stop> {
+    fn begin<W: Write>(&mut self, name: &str, out: &mut W) -> Result<(), TableError> {
         self.end(out)?;
         self.table = match name {
             "reports" => Table::Reports(reports::Run::new(self.alloc)),
             "changed" => Table::Changed(changed::Run::new(self.alloc)?),
             "runs" => Table::Runs(runs::Run::new(self.alloc)),
             "nodes" => Table::Nodes,
-            _ => return Err(Stop::BadLine),
+            _ => return Err(TableError::BadLine),
         };
         writeln!(out, "%% {name}")?;
         Ok(())

@@ -1,8 +1,8 @@
 -- The generated program of a size, and its plan (this project's profile): a periodic handler whose release makes an
 -- object of each of so many classes, and prints a number for each.
 use Rattle.std.specs.Prelude.{◌≡◌, ℕ, zero, suc, ◌+◌, ◌*◌, ◌<◌, ◌⊎◌, List, [], ◌++◌, codes, decimal}
-use Rattle.source_gen.specs.declared.sizes.GenAnswer.{GenAnswer}
-use Rattle.source_gen.specs.declared.sizes.GenAnswer.TheVariants.{Size, Memory}
+use Rattle.source_gen.specs.declared.sizes.GenError.{GenError}
+use Rattle.source_gen.specs.declared.sizes.GenError.TheVariants.{Size, Memory}
 
 -- ---- the source
 
@@ -77,6 +77,6 @@ abbrev pub IsOutside : ℕ → Type 0
 IsOutside n = (n < 1) ⊎ (250 < n)
 
 -- the size that is refused is the one that was asked for
-abbrev pub TellsOwnSize : ℕ → GenAnswer → Type 0
+abbrev pub TellsOwnSize : ℕ → GenError → Type 0
 TellsOwnSize n (Size m) = m ≡ n
 TellsOwnSize n Memory = Unit {0}

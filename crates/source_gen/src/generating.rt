@@ -3,7 +3,7 @@
 ghost use Rattle.std.specs.Prelude.{◌≡◌, ◌+◌, ◌*◌, ◌≤◌, ◌<◌, ◌↔◌, ◌++◌, IfOk, IfErr, OnOk, Err, length};
 ghost use Rattle.source_gen.specs.Generated.{safelet_lines, mission_lines, handler_head, handler_lines, print_line, class_line, up_to, source_of, plan_of, IsOutside, TellsOwnSize};
 
-use crate::sizes::GenAnswer;
+use crate::sizes::GenError;
 use scj_base::Memory;
 use std::alloc::Global;
 
@@ -140,18 +140,18 @@ fn plan(alloc: Global, n: u32) -> Result<Vec<u8>, Memory>
 /// # Errors
 ///
 /// `Size` exactly where `n` isn't within 1 to 250, and `Memory` where there was none for the texts.
-pub fn generate(alloc: Global, n: u32) -> Result<(Vec<u8>, Vec<u8>), GenAnswer>
+pub fn generate(alloc: Global, n: u32) -> Result<(Vec<u8>, Vec<u8>), GenError>
     ensures source { IfOk result (λ texts. texts.0.items ≡ source_of n) }
     ensures short { IfOk result (λ texts. length texts.0.items ≤ 1048576) }
     ensures plan { IfOk result (λ texts. texts.1.items ≡ plan_of n) }
-    ensures size { (result ≡ Err (GenAnswer.Size n)) ↔ IsOutside n }
+    ensures size { (result ≡ Err (GenError.Size n)) ↔ IsOutside n }
     ensures own_size { IfErr result (TellsOwnSize n) }
 {
     if n < 1 {
-        return Err(GenAnswer::Size { n });
+        return Err(GenError::Size { n });
     }
     if n > 250 {
-        return Err(GenAnswer::Size { n });
+        return Err(GenError::Size { n });
     }
     let source = source(alloc, n)?;
     let plan = plan(alloc, n)?;

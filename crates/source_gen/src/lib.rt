@@ -5,4 +5,4 @@ pub mod generating;
 pub mod sizes;
 
 pub use generating::generate;
-pub use sizes::GenAnswer;
+pub use sizes::GenError;

@@ -8,7 +8,7 @@
 mod cases;
 
 use crate::calls::{Ending, parted};
-use case_tables::{Edit, Stop};
+use case_tables::{Edit, TableError};
 use cases::Case;
 use scj_io::MemShelf;
 use std::alloc::Global;
@@ -24,7 +24,7 @@ pub struct Run {
 
 impl Run {
     /// A run without cases yet.
-    pub fn new(alloc: Global) -> Result<Run, Stop> {
+    pub fn new(alloc: Global) -> Result<Run, TableError> {
         let base = Case::new(alloc, "")?;
         Ok(Run {
             alloc,
@@ -34,7 +34,7 @@ impl Run {
     }
 
     /// Takes the next line of the input.
-    pub fn take_line<W: Write>(&mut self, line: &str, out: &mut W) -> Result<(), Stop> {
+    pub fn take_line<W: Write>(&mut self, line: &str, out: &mut W) -> Result<(), TableError> {
         if let Some(name) = line.strip_prefix("== ") {
             self.run_waiting(out)?;
             self.base = Case::new(self.alloc, name)?;
@@ -48,11 +48,11 @@ impl Run {
     }
 
     /// Runs what waits at the end of the table.
-    pub fn end<W: Write>(&mut self, out: &mut W) -> Result<(), Stop> {
+    pub fn end<W: Write>(&mut self, out: &mut W) -> Result<(), TableError> {
         self.run_waiting(out)
     }
 
-    fn run_waiting<W: Write>(&mut self, out: &mut W) -> Result<(), Stop> {
+    fn run_waiting<W: Write>(&mut self, out: &mut W) -> Result<(), TableError> {
         if self.waits {
             self.waits = false;
             print(self.alloc, &self.base, out)?;
@@ -60,9 +60,9 @@ impl Run {
         Ok(())
     }
 
-    fn run_edited<W: Write>(&mut self, words: &str, out: &mut W) -> Result<(), Stop> {
+    fn run_edited<W: Write>(&mut self, words: &str, out: &mut W) -> Result<(), TableError> {
         self.run_waiting(out)?;
-        let (name, words) = words.split_once(' ').ok_or(Stop::BadLine)?;
+        let (name, words) = words.split_once(' ').ok_or(TableError::BadLine)?;
         let edit = Edit::parse(words)?;
         let case = self.base.edited(self.alloc, name, edit)?;
         print(self.alloc, &case, out)
@@ -70,7 +70,7 @@ impl Run {
 }
 
 // The line for a case.
-fn print<W: Write>(alloc: Global, case: &Case, out: &mut W) -> Result<(), Stop> {
+fn print<W: Write>(alloc: Global, case: &Case, out: &mut W) -> Result<(), TableError> {
     let call = format!(in alloc; "check {}", case.name)?;
     let mut shelf = MemShelf::new(alloc);
     shelf.add(&case.name, &case.source)?;

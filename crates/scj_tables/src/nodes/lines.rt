@@ -1,7 +1,7 @@
 //! The line of a node: its kind, its place and its fields in order.
 
 use Field::{Child, Flag, List, Named, Number, Optional, OptionalPosition, Position};
-use case_tables::Stop;
+use case_tables::TableError;
 use scj_base::{NodeId, Position};
 use scj_tree::{Node, NodeList};
 use std::io::Write;
@@ -20,7 +20,7 @@ enum Field<'a> {
 }
 
 /// Prints a node.
-pub fn print_node<W: Write>(node: &Node, out: &mut W) -> Result<(), Stop> {
+pub fn print_node<W: Write>(node: &Node, out: &mut W) -> Result<(), TableError> {
     match node {
         Node::Class {
             position,
@@ -369,7 +369,7 @@ pub fn print_node<W: Write>(node: &Node, out: &mut W) -> Result<(), Stop> {
     }
 }
 
-fn print_line<W: Write>(out: &mut W, kind: &str, position: Position, fields: &[Field]) -> Result<(), Stop> {
+fn print_line<W: Write>(out: &mut W, kind: &str, position: Position, fields: &[Field]) -> Result<(), TableError> {
     write!(out, "{kind} ")?;
     print_position(position, out)?;
     for field in fields {
@@ -380,7 +380,7 @@ fn print_line<W: Write>(out: &mut W, kind: &str, position: Position, fields: &[F
     Ok(())
 }
 
-fn print_field<W: Write>(field: &Field, out: &mut W) -> Result<(), Stop> {
+fn print_field<W: Write>(field: &Field, out: &mut W) -> Result<(), TableError> {
     match field {
         Child(id) => write!(out, "{}", id.number())?,
         Optional(Some(id)) => write!(out, "(Some {})", id.number())?,
@@ -401,7 +401,7 @@ fn print_field<W: Write>(field: &Field, out: &mut W) -> Result<(), Stop> {
 }
 
 /// Prints the numbers of nodes.
-pub fn print_list<W: Write>(list: &[NodeId], out: &mut W) -> Result<(), Stop> {
+pub fn print_list<W: Write>(list: &[NodeId], out: &mut W) -> Result<(), TableError> {
     if list.is_empty() {
         write!(out, "[]")?;
         return Ok(());
@@ -414,14 +414,14 @@ pub fn print_list<W: Write>(list: &[NodeId], out: &mut W) -> Result<(), Stop> {
     Ok(())
 }
 
-fn print_bytes<W: Write>(bytes: &[u8], out: &mut W) -> Result<(), Stop> {
+fn print_bytes<W: Write>(bytes: &[u8], out: &mut W) -> Result<(), TableError> {
     write!(out, "(codes \"")?;
     out.write_all(bytes)?;
     write!(out, "\")")?;
     Ok(())
 }
 
-fn print_position<W: Write>(position: Position, out: &mut W) -> Result<(), Stop> {
+fn print_position<W: Write>(position: Position, out: &mut W) -> Result<(), TableError> {
     write!(out, "(at {} {} {})", position.file, position.line, position.col)?;
     Ok(())
 }

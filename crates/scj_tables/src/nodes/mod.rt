@@ -5,7 +5,7 @@
 
 mod lines;
 
-use case_tables::Stop;
+use case_tables::TableError;
 use lines::{print_list, print_node};
 use scj_base::NodeId;
 use scj_check::{Reading, Sources, read};
@@ -24,9 +24,9 @@ pub fn print_program<S: Shelf, W: Write>(
     shelf: &mut S,
     line: &str,
     out: &mut W,
-) -> Result<(), Stop> {
+) -> Result<(), TableError> {
     let Some((name, files)) = line.split_once(' ') else {
-        return Err(Stop::BadLine);
+        return Err(TableError::BadLine);
     };
     let mut sources = Sources::new(alloc);
     for file in files.split(' ') {
@@ -35,7 +35,7 @@ pub fn print_program<S: Shelf, W: Write>(
     }
     match read(alloc, &sources)? {
         Reading::Read(program) => print(&program, name, out),
-        Reading::Broken(_) => Err(Stop::BadLine),
+        Reading::Broken(_) => Err(TableError::BadLine),
     }
 }
 
@@ -44,18 +44,18 @@ fn add_file<S: Shelf>(
     shelf: &mut S,
     sources: &mut Sources,
     path: String,
-) -> Result<(), Stop> {
+) -> Result<(), TableError> {
     let Ok(bytes) = shelf.load(alloc, &path, LONGEST) else {
-        return Err(Stop::NoFile);
+        return Err(TableError::NoFile);
     };
     if sources.len() >= MOST_FILES || bytes.len() > LONGEST {
-        return Err(Stop::BadLine);
+        return Err(TableError::BadLine);
     }
     sources.add(path, bytes)?;
     Ok(())
 }
 
-fn print<W: Write>(program: &Program, name: &str, out: &mut W) -> Result<(), Stop> {
+fn print<W: Write>(program: &Program, name: &str, out: &mut W) -> Result<(), TableError> {
     writeln!(out, "== {name}")?;
     for number in 0..program.len() {
         if let Some(node) = program.get(NodeId::at(number as u32)) {

@@ -1,7 +1,7 @@
 //! One case: its files, and what goes wrong outside.
 
 use crate::calls::ROOM;
-use case_tables::{Edit, Stop, add_line};
+use case_tables::{Edit, TableError, add_line};
 use scj_io::{MemShelf, MemSink};
 use std::alloc::Global;
 
@@ -34,7 +34,7 @@ impl Case {
     }
 
     /// Begins a file.
-    pub fn begin_file(&mut self, name: &str) -> Result<(), Stop> {
+    pub fn begin_file(&mut self, name: &str) -> Result<(), TableError> {
         self.end_file()?;
         self.name = String::from_str(self.alloc, name)?;
         self.source = Vec::new(self.alloc);
@@ -43,7 +43,7 @@ impl Case {
     }
 
     /// Takes a line of the file that is being written; elsewhere the line is a comment.
-    pub fn add_line(&mut self, line: &str) -> Result<(), Stop> {
+    pub fn add_line(&mut self, line: &str) -> Result<(), TableError> {
         if self.is_open {
             add_line(&mut self.source, line.as_bytes())?;
         }
@@ -51,8 +51,8 @@ impl Case {
     }
 
     /// Takes a line so many times: `COUNT LINE`.
-    pub fn add_copies(&mut self, words: &str) -> Result<(), Stop> {
-        let (count, line) = words.split_once(' ').ok_or(Stop::BadLine)?;
+    pub fn add_copies(&mut self, words: &str) -> Result<(), TableError> {
+        let (count, line) = words.split_once(' ').ok_or(TableError::BadLine)?;
         let count = number(count)?;
         for _ in 0..count {
             self.add_line(line)?;
@@ -61,7 +61,7 @@ impl Case {
     }
 
     /// Puts the file that is being written on the shelf.
-    pub fn end_file(&mut self) -> Result<(), Stop> {
+    pub fn end_file(&mut self) -> Result<(), TableError> {
         if self.is_open {
             self.shelf.add(&self.name, &self.source)?;
             self.is_open = false;
@@ -70,7 +70,7 @@ impl Case {
     }
 
     /// The case of the last written file alone, changed by an edit.
-    pub fn edited(&self, edit: Edit<'_>) -> Result<Case, Stop> {
+    pub fn edited(&self, edit: Edit<'_>) -> Result<Case, TableError> {
         let source = edit.changed(self.alloc, &self.source)?;
         let mut case = Case::new(self.alloc);
         case.shelf.add(&self.name, &source)?;
@@ -78,8 +78,8 @@ impl Case {
     }
 
     /// Adds a file of blanks: `COUNT NAME`.
-    pub fn add_blanks(&mut self, words: &str) -> Result<(), Stop> {
-        let (count, name) = words.split_once(' ').ok_or(Stop::BadLine)?;
+    pub fn add_blanks(&mut self, words: &str) -> Result<(), TableError> {
+        let (count, name) = words.split_once(' ').ok_or(TableError::BadLine)?;
         let count = number(count)?;
         let blanks = vec![in self.alloc; b' '; count as usize]?;
         self.shelf.add(name, &blanks)?;
@@ -87,31 +87,31 @@ impl Case {
     }
 
     /// Lets something go wrong: `load N`, `out N`, `err N` or `room N`.
-    pub fn add_fault(&mut self, words: &str) -> Result<(), Stop> {
-        let (what, count) = words.split_once(' ').ok_or(Stop::BadLine)?;
+    pub fn add_fault(&mut self, words: &str) -> Result<(), TableError> {
+        let (what, count) = words.split_once(' ').ok_or(TableError::BadLine)?;
         let count = number(count)?;
         match what {
             "load" => self.shelf.fail_at(count)?,
             "out" => self.out_fails = Some(count),
             "err" => self.err_fails = Some(count),
             "room" => self.room = count as usize,
-            _ => return Err(Stop::BadLine),
+            _ => return Err(TableError::BadLine),
         }
         Ok(())
     }
 
     /// The output of a call.
-    pub fn out(&self) -> Result<MemSink, Stop> {
+    pub fn out(&self) -> Result<MemSink, TableError> {
         sink(self.alloc, self.room, self.out_fails)
     }
 
     /// What a call tells its errors to.
-    pub fn err(&self) -> Result<MemSink, Stop> {
+    pub fn err(&self) -> Result<MemSink, TableError> {
         sink(self.alloc, ROOM, self.err_fails)
     }
 }
 
-fn sink(alloc: Global, room: usize, fails: Option<u64>) -> Result<MemSink, Stop> {
+fn sink(alloc: Global, room: usize, fails: Option<u64>) -> Result<MemSink, TableError> {
     let mut sink = MemSink::with_capacity(alloc, room)?;
     if let Some(call) = fails {
         sink.fail_at(call)?;
@@ -119,9 +119,9 @@ fn sink(alloc: Global, room: usize, fails: Option<u64>) -> Result<MemSink, Stop>
     Ok(sink)
 }
 
-fn number(word: &str) -> Result<u64, Stop> {
+fn number(word: &str) -> Result<u64, TableError> {
     match word.parse() {
         Ok(number) => Ok(number),
-        Err(_) => Err(Stop::BadLine),
+        Err(_) => Err(TableError::BadLine),
     }
 }

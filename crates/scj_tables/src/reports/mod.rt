@@ -12,7 +12,7 @@
 mod cases;
 
 use crate::calls::{Ending, parted};
-use case_tables::{Edit, Stop};
+use case_tables::{Edit, TableError};
 use cases::Case;
 use scj_io::Shelf;
 use std::alloc::Global;
@@ -42,7 +42,7 @@ impl Run {
         line: &str,
         files: &mut S,
         out: &mut W,
-    ) -> Result<(), Stop> {
+    ) -> Result<(), TableError> {
         match line.split_once(' ') {
             Some(("==", name)) => self.begin_case(name, out),
             Some(("--", name)) => self.case.begin_file(name),
@@ -56,29 +56,29 @@ impl Run {
         }
     }
 
-    fn begin_case<W: Write>(&mut self, name: &str, out: &mut W) -> Result<(), Stop> {
+    fn begin_case<W: Write>(&mut self, name: &str, out: &mut W) -> Result<(), TableError> {
         self.case = Case::new(self.alloc);
         writeln!(out, "== {name}")?;
         Ok(())
     }
 
-    fn take_file<S: Shelf>(&mut self, name: &str, files: &mut S) -> Result<(), Stop> {
+    fn take_file<S: Shelf>(&mut self, name: &str, files: &mut S) -> Result<(), TableError> {
         self.case.end_file()?;
         let Ok(bytes) = files.load(self.alloc, name, LONGEST) else {
-            return Err(Stop::NoFile);
+            return Err(TableError::NoFile);
         };
         self.case.shelf.add(name, &bytes)?;
         Ok(())
     }
 
-    fn call<W: Write>(&mut self, words: &str, out: &mut W) -> Result<(), Stop> {
+    fn call<W: Write>(&mut self, words: &str, out: &mut W) -> Result<(), TableError> {
         self.case.end_file()?;
         let ending = ending_of(self.alloc, words, &mut self.case)?;
         writeln!(out, "$ {words}")?;
         print(&ending, out)
     }
 
-    fn change<W: Write>(&mut self, words: &str, out: &mut W) -> Result<(), Stop> {
+    fn change<W: Write>(&mut self, words: &str, out: &mut W) -> Result<(), TableError> {
         self.case.end_file()?;
         let edit = Edit::parse(words)?;
         let mut case = self.case.edited(edit)?;
@@ -90,7 +90,7 @@ impl Run {
 }
 
 // What a call of these words leaves.
-fn ending_of(alloc: Global, words: &str, case: &mut Case) -> Result<Ending, Stop> {
+fn ending_of(alloc: Global, words: &str, case: &mut Case) -> Result<Ending, TableError> {
     let words = parted(alloc, words)?;
     let out = case.out()?;
     let err = case.err()?;
@@ -98,7 +98,7 @@ fn ending_of(alloc: Global, words: &str, case: &mut Case) -> Result<Ending, Stop
 }
 
 // Prints what was put, the status, and what was told.
-fn print<W: Write>(ending: &Ending, to: &mut W) -> Result<(), Stop> {
+fn print<W: Write>(ending: &Ending, to: &mut W) -> Result<(), TableError> {
     to.write_all(ending.out.taken())?;
     let code = ending.status.code();
     if ending.err.taken().is_empty() {

@@ -1,6 +1,6 @@
 //! One case: its files, and the words of its call.
 
-use case_tables::{Stop, add_line};
+use case_tables::{TableError, add_line};
 use scj_io::MemShelf;
 use std::alloc::Global;
 
@@ -19,7 +19,7 @@ pub struct Case {
 
 impl Case {
     /// A case without files.
-    pub fn new(alloc: Global, name: &str) -> Result<Case, Stop> {
+    pub fn new(alloc: Global, name: &str) -> Result<Case, TableError> {
         let name = String::from_str(alloc, name)?;
         let mut case = Case {
             alloc,
@@ -36,7 +36,7 @@ impl Case {
     }
 
     /// Begins a file, which is a source where it isn't the plan.
-    pub fn begin_file(&mut self, name: &str) -> Result<(), Stop> {
+    pub fn begin_file(&mut self, name: &str) -> Result<(), TableError> {
         self.end_file()?;
         if name != PLAN {
             self.add_word(name)?;
@@ -47,13 +47,13 @@ impl Case {
     }
 
     /// Takes a line of the file that is being written.
-    pub fn add_line(&mut self, line: &[u8]) -> Result<(), Stop> {
+    pub fn add_line(&mut self, line: &[u8]) -> Result<(), TableError> {
         add_line(&mut self.bytes, line)?;
         Ok(())
     }
 
     /// Puts the file that is being written on the shelf.
-    pub fn end_file(&mut self) -> Result<(), Stop> {
+    pub fn end_file(&mut self) -> Result<(), TableError> {
         if let Some(name) = &self.file {
             self.shelf.add(name, &self.bytes)?;
         }
@@ -61,7 +61,7 @@ impl Case {
         Ok(())
     }
 
-    fn add_word(&mut self, word: &str) -> Result<(), Stop> {
+    fn add_word(&mut self, word: &str) -> Result<(), TableError> {
         let word = String::from_str(self.alloc, word)?;
         self.words.push(word)?;
         Ok(())

@@ -10,7 +10,7 @@ mod cases;
 mod short_forms;
 
 use crate::calls::{Ending, parted};
-use case_tables::Stop;
+use case_tables::TableError;
 use cases::Case;
 use short_forms::ShortForms;
 use std::alloc::Global;
@@ -35,14 +35,14 @@ impl Run {
     }
 
     /// Takes the next line of the input.
-    pub fn take_line<W: Write>(&mut self, line: &str, out: &mut W) -> Result<(), Stop> {
+    pub fn take_line<W: Write>(&mut self, line: &str, out: &mut W) -> Result<(), TableError> {
         if let Some(name) = line.strip_prefix("== ") {
             self.run_case(out)?;
             self.case = Some(Case::new(self.alloc, name)?);
             return Ok(());
         }
         let Some(case) = &mut self.case else {
-            let text = line.strip_prefix("$").ok_or(Stop::BadLine)?;
+            let text = line.strip_prefix("$").ok_or(TableError::BadLine)?;
             return self.short_forms.add(text);
         };
         if let Some(name) = line.strip_prefix("-- ") {
@@ -53,11 +53,11 @@ impl Run {
     }
 
     /// Runs the last case.
-    pub fn end<W: Write>(&mut self, out: &mut W) -> Result<(), Stop> {
+    pub fn end<W: Write>(&mut self, out: &mut W) -> Result<(), TableError> {
         self.run_case(out)
     }
 
-    fn run_case<W: Write>(&mut self, out: &mut W) -> Result<(), Stop> {
+    fn run_case<W: Write>(&mut self, out: &mut W) -> Result<(), TableError> {
         if let Some(case) = &mut self.case {
             case.end_file()?;
             print(self.alloc, case, out)?;
@@ -67,7 +67,7 @@ impl Run {
 }
 
 // Makes the call of a case, and prints its name, what was put, what was told, and the status.
-fn print<W: Write>(alloc: Global, case: &mut Case, to: &mut W) -> Result<(), Stop> {
+fn print<W: Write>(alloc: Global, case: &mut Case, to: &mut W) -> Result<(), TableError> {
     let ending = Ending::with_room(alloc, &case.words, &mut case.shelf)?;
     writeln!(to, "== {}", case.name)?;
     to.write_all(ending.out.taken())?;
@@ -77,7 +77,7 @@ fn print<W: Write>(alloc: Global, case: &mut Case, to: &mut W) -> Result<(), Sto
 }
 
 // Audits what the run of a case put, and prints an answer that isn't `yes`.
-fn audit<W: Write>(alloc: Global, case: &mut Case, trace: &[u8], to: &mut W) -> Result<(), Stop> {
+fn audit<W: Write>(alloc: Global, case: &mut Case, trace: &[u8], to: &mut W) -> Result<(), TableError> {
     case.shelf.add("trace", trace)?;
     let words = parted(alloc, "audit --plan plan.toml trace")?;
     let ending = Ending::with_room(alloc, &words, &mut case.shelf)?;

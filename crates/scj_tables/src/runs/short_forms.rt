@@ -1,6 +1,6 @@
 //! The texts for which short forms stand.
 
-use case_tables::Stop;
+use case_tables::TableError;
 use std::alloc::Global;
 use std::collections::BTreeMap;
 
@@ -21,10 +21,10 @@ impl ShortForms {
     }
 
     /// Takes the text of a short form: `X TEXT`, without the `$`.
-    pub fn add(&mut self, line: &str) -> Result<(), Stop> {
-        let (code, text) = line.split_once(' ').ok_or(Stop::BadLine)?;
+    pub fn add(&mut self, line: &str) -> Result<(), TableError> {
+        let (code, text) = line.split_once(' ').ok_or(TableError::BadLine)?;
         let [code] = code.as_bytes() else {
-            return Err(Stop::BadLine);
+            return Err(TableError::BadLine);
         };
         let text = Vec::from_slice(self.alloc, text.as_bytes())?;
         self.texts.insert(*code, text)?;
@@ -32,12 +32,12 @@ impl ShortForms {
     }
 
     /// The line with the texts in the place of their short forms.
-    pub fn whole(&self, line: &str) -> Result<Vec<u8>, Stop> {
+    pub fn whole(&self, line: &str) -> Result<Vec<u8>, TableError> {
         let mut whole = Vec::new(self.alloc);
         let mut is_short = false;
         for byte in line.as_bytes() {
             if is_short {
-                let text = self.texts.get(byte).ok_or(Stop::BadLine)?;
+                let text = self.texts.get(byte).ok_or(TableError::BadLine)?;
                 whole.extend_from_slice(text)?;
                 is_short = false;
             } else if *byte == b'$' {

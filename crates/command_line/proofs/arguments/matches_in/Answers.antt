@@ -1,7 +1,7 @@
 use Rattle.std.proofs.Common.{◌≡◌, ◌∙◌, ap, sym, map, string_bytes}
 use Rattle.clap.specs.Walk.{is_empty}
 use Rattle.clap.specs.Words.{App, fault_of, matches_of}
-use Rattle.command_line.specs.declared.jobs.WordsAnswer.TheVariants.{Usage}
+use Rattle.command_line.specs.declared.jobs.WordsError.TheVariants.{Usage}
 use Rattle.command_line.proofs.CommandLemmas.{free_as, refused_by_kind, simple_as}
 use Rattle.command_line.proofs.arguments.matches_in.Goals as goal
 
