@@ -11,7 +11,7 @@ use Rattle.scj_model.specs.declared.plans.ReadingRow.{ReadingRow}
 use Rattle.scj_model.specs.Code.{Code}
 use Rattle.scj_model.specs.Plan.{Plan}
 use Rattle.scj_model.specs.State.{Activity, IdleTurn, Job, ReleaseAt, State, TheSequencer, Turn, TurnOf, activity_of, is_exec}
-use Rattle.scj_model.specs.Steps.{Step, for_each, silently, telling, then_try}
+use Rattle.scj_model.specs.Steps.{Step, for_each, silently, reporting, then_try}
 use Rattle.scj_model.specs.Apply.{release_taken}
 use Rattle.scj_model.specs.Sequencer.{BeginsExecution, BeginsMission, ClosesMission, Continues, EndsExecution, LacksMission, LacksSequencer, SeqEffect, SkipsExecution, TakesMission, TakesSafelet, TakesSequencer, Transition, after_operation, goes_to, gone_to, has_started, innermost, phase_after, seq_applied, transition_done}
 use Rattle.scj_model.specs.Arrivals.{arrivals, due_handlers, executes_since, fired, fired_at, fired_handler, fires_due}
@@ -23,10 +23,10 @@ use Rattle.area_growth.proofs.Operating.{GoesIf, bind_goes, either_goes, goes_re
 
 -- ---- the choice and the operation
 
-told_goes : (s : State) (first : Step) (o : Option Step) → GoesIf s o →
-    GoesIf s (option_map (λ (second : Step). telling second.state (first.events ++ second.events)) o)
-told_goes s first None g = none_goes s
-told_goes s first (Some second) g = some_goes s _ (g.is second refl)
+reported_goes : (s : State) (first : Step) (o : Option Step) → GoesIf s o →
+    GoesIf s (option_map (λ (second : Step). reporting second.state (first.events ++ second.events)) o)
+reported_goes s first None g = none_goes s
+reported_goes s first (Some second) g = some_goes s _ (g.is second refl)
 
 turn_goes : (code : Code) (rows : List ReadingRow) (turn : Turn) (s : State) → AreSituated code rows s →
     GoesIf s (turn_acts code rows turn s)
@@ -54,7 +54,7 @@ chosen_goes : (code : Code) (rows : List ReadingRow) (s : State) (turn : Turn) �
     GoesIf s (then_try (turn_taken s turn) (turn_acts code rows turn))
 unfolding turn_taken
 chosen_goes code rows s turn m =
-    told_goes s (turn_taken s turn) _
+    reported_goes s (turn_taken s turn) _
     (record { is = λ r e. as_it_was r ((turn_goes code rows turn (turn_taken s turn).state (taken code rows s turn m)).is r e) })
   where
     as_it_was : (r : Step) → GoesTo (turn_taken s turn).state r → GoesTo s r
@@ -140,7 +140,7 @@ fired_same code s fire = go (fired_handler code s fire.handler)
     go : (h : Option ℕ) →
         SameTo s (elim h as (λ x. Step) [
           | Some handler ↦ release_taken s handler
-          | None ↦ telling s (Miss s.unit fire.handler ∷ [])
+          | None ↦ reporting s (Miss s.unit fire.handler ∷ [])
         ])
     go None = unchanged s _ refl refl
     go (Some handler) = same_taken s handler

@@ -124,17 +124,17 @@ pub chosen_of : (s : State) (index : ℕ) → by_priority s ≡ Some (TurnOf ind
 unfolding by_priority
 chosen_of s index e = go (chosen s) refl
   where
-    told : turn_of (chosen s) ≡ TurnOf index
-    told = some_inj (turn_of (chosen s)) (TurnOf index) e
+    reported : turn_of (chosen s) ≡ TurnOf index
+    reported = some_inj (turn_of (chosen s)) (TurnOf index) e
 
     go : (o : Option ℕ) → chosen s ≡ o → chosen s ≡ Some index
     go None f =
         let idle : turn_of (chosen s) ≡ IdleTurn = ap turn_of f in
-        let is : turn_of (chosen s) ≡ TurnOf index = told in
+        let is : turn_of (chosen s) ≡ TurnOf index = reported in
         absurd (cc)
     go (Some n) f =
         let other : turn_of (chosen s) ≡ TurnOf n = ap turn_of f in
-        let is : turn_of (chosen s) ≡ TurnOf index = told in
+        let is : turn_of (chosen s) ≡ TurnOf index = reported in
         let same : n ≡ index = cc in
         f ∙ ap (λ (k : ℕ). Some k) same
 

@@ -1,4 +1,4 @@
 pub mod Going
 pub mod Noting
 pub mod OpenLists
-pub mod Telling
+pub mod Reporting

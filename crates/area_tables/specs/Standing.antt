@@ -28,7 +28,7 @@ pub record AreRows (count : ℕ) (need : ℕ → NeedRow) (rows : List NeedRow) 
   pub long : length rows ≡ count
   pub each : (scope : ℕ) → scope < count → slice_get rows scope ≡ Some (need scope)
 
-pub record Tells (count : ℕ) (s : State) (needs : Needs) (table : AreaTable) : Type 0 where
+pub record Reports (count : ℕ) (s : State) (needs : Needs) (table : AreaTable) : Type 0 where
   pub rows : AreRows count (need_of s needs.refusals) table.rows.items
   pub open_count : table.open_count ≡ length (open_in s)
   pub reserved : table.reserved ≡ needs.reserved

@@ -7,7 +7,7 @@ ghost use Rattle.region_heap.specs.OpenAreas.{open_areas};
 ghost use Rattle.area_needs.specs.Needs.{Needs, no_needs, with_refusal};
 ghost use Rattle.area_growth.specs.Growth.{GoesOn};
 ghost use Rattle.area_tables.specs.Rows.{newest_noted};
-ghost use Rattle.area_tables.specs.Standing.{Tells};
+ghost use Rattle.area_tables.specs.Standing.{Reports};
 
 use crate::looks::{note_all_used, reserved_in};
 use crate::rows::{NeedRow, note_opened, note_refused};
@@ -41,7 +41,7 @@ fn empty_rows(alloc: Global, count: usize) -> Result<Vec<NeedRow>, Memory>
 impl AreaTable {
     /// The table before a run, of a program with so many classes.
     pub fn make(alloc: Global, count: usize) -> Result<AreaTable, Memory>
-        ensures { (s : State) → s.areas ≡ [] → IfOk result (λ table. Tells count s no_needs table) }
+        ensures { (s : State) → s.areas ≡ [] → IfOk result (λ table. Reports count s no_needs table) }
     {
         let rows = empty_rows(alloc, count)?;
         Ok(AreaTable {
@@ -84,9 +84,9 @@ impl AreaTable {
 
     /// Looks at a memory to which the one that was looked at last has gone on.
     pub fn look(&mut self, memory: &RegionHeap) -> Result<(), Memory>
-        ensures { (count : ℕ) (s t : State) (needs : Needs) → Tells count s needs self.old → GoesOn s t →
+        ensures { (count : ℕ) (s t : State) (needs : Needs) → Reports count s needs self.old → GoesOn s t →
             memory.now.areas ≡ t.areas → memory.now.objects ≡ t.objects →
-            OnOk result (Tells count t (record needs { reserved = max needs.reserved (reserved t) }) self.new) }
+            OnOk result (Reports count t (record needs { reserved = max needs.reserved (reserved t) }) self.new) }
     {
         let count = note_all_used(&mut self.rows, memory)?;
         self.note_newest(memory, count)?;
@@ -98,8 +98,8 @@ impl AreaTable {
 
     /// Notes what an operation was refused.
     pub fn note(&mut self, refusal: Option<Refusal>)
-        ensures { (count : ℕ) (s : State) (needs : Needs) → Tells count s needs self.old →
-            Tells count s (with_refusal refusal needs) self.new }
+        ensures { (count : ℕ) (s : State) (needs : Needs) → Reports count s needs self.old →
+            Reports count s (with_refusal refusal needs) self.new }
     {
         match refusal {
             Some(refusal) => note_refused(&mut self.rows, refusal.scope, refusal.bytes),

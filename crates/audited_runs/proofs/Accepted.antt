@@ -17,8 +17,8 @@ use Rattle.scope_sound.proofs.InAnyOrder.{reached_is_sound}
 use Rattle.scope_sound.proofs.Operated.{operated}
 use Rattle.scope_sound.proofs.Safe.{has_facts, safe}
 use Rattle.trace_audit.specs.declared.answers.Audit.TheVariants.{Yes}
-use Rattle.trace_audit.specs.Printed.{audit_told}
-use Rattle.trace_audit.specs.Replay.{nothing_told}
+use Rattle.trace_audit.specs.Printed.{audit_reported}
+use Rattle.trace_audit.specs.Replay.{nothing_reported}
 use Rattle.audited_runs.proofs.OneUnit.{Fits}
 use Rattle.audited_runs.proofs.Runs.{run_is_audited}
 
@@ -45,7 +45,7 @@ module _ (forest : Forest) (accepted : IsAcceptedProgram forest) (plan : Plan) w
             (on_operation (arrivals (code_of forest) plan s).state op (on_arrival s reached lives) e)).after;
       }
 
-  pub traces_are_audited : audit_told plan nothing_told 1 (trace (code_of forest) plan plan.units) ≡ Yes
+  pub traces_are_audited : audit_reported plan nothing_reported 1 (trace (code_of forest) plan plan.units) ≡ Yes
   traces_are_audited =
       run_is_audited (code_of forest) plan fits
       (safe_run (code_of forest) plan (safe forest accepted).in_any_order)

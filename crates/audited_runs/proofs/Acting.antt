@@ -13,67 +13,67 @@ use Rattle.scj_model.specs.Plan.{Plan}
 use Rattle.scj_model.specs.TraceText.{unit_of}
 use Rattle.scj_model.specs.State.{is_exec, Activity, ReleaseStatus, Started as StartedNow, Ended, Release as ReleaseNow, ReleaseAt, State, with_status}
 use Rattle.scj_model.specs.Steps.{of_release}
-use Rattle.scj_model.specs.Apply.{tell_priority}
+use Rattle.scj_model.specs.Apply.{report_priority}
 use Rattle.trace_audit.specs.declared.choices.Choice.TheVariants.{Chosen}
 use Rattle.trace_audit.specs.declared.lines.Entry.TheVariants.{Prio, End, Stopped}
 use Rattle.trace_audit.specs.declared.releases.Release.{Release}
 use Rattle.trace_audit.specs.declared.releases.Standing.TheVariants.{Started, Gone}
 use Rattle.trace_audit.specs.Passing.{begun, entry_done, entry_passes, is_of, last_number, number_if, rest_done, table_done}
-use Rattle.trace_audit.specs.Printed.{entry_told}
+use Rattle.trace_audit.specs.Printed.{entry_reported}
 use Rattle.trace_audit.specs.Replay.{Releases, Replay, gone, is_same_choice, is_waiting, raise_to, raised}
 use Rattle.trace_audit.specs.StandsFor.{StandsFor, standing_of}
-use Rattle.audited_runs.proofs.Told.{told, told_none, told_one}
+use Rattle.audited_runs.proofs.Reported.{reported, reported_none, reported_one}
 use Rattle.audited_runs.proofs.InUnit.{Kept, Live, Opened, line_opens, line_passes}
 use Rattle.audited_runs.proofs.Changes.{changed_as, changed_none}
 use Rattle.priority_laws.proofs.AreaLists.{get_changed, same_number}
 use Rattle.audited_runs.proofs.Named.{Named, named_restood, restanding_is, restood}
-use Rattle.audited_runs.proofs.Executing.{Acts, LastIs, Becomes, Executes, SameCore, Tells, acts_core, acts_restood, acts_seen, as_started, becomes_from, beside_same, core_begun, seen_as, since_alike}
+use Rattle.audited_runs.proofs.Executing.{Acts, LastIs, Becomes, Executes, SameCore, Reports, acts_core, acts_restood, acts_seen, as_started, becomes_from, beside_same, core_begun, seen_as, since_alike}
 
 -- ---- lines that tell of no release
 
 -- an entry passes anywhere, and leaves all as it is
-pub record TellsOfNone (e : Event) : Type 0 where
-  pub passes : (plan : Plan) (r : Replay) (unit : ℕ) → entry_passes plan r unit (entry_told e) ≡ true
-  pub done : (r : Replay) (unit : ℕ) → entry_done r unit (entry_told e) ≡ r
-  pub is_other : entry_told e ≡ Stopped → ⊥
+pub record ReportsOfNone (e : Event) : Type 0 where
+  pub passes : (plan : Plan) (r : Replay) (unit : ℕ) → entry_passes plan r unit (entry_reported e) ≡ true
+  pub done : (r : Replay) (unit : ℕ) → entry_done r unit (entry_reported e) ≡ r
+  pub is_other : entry_reported e ≡ Stopped → ⊥
 
-pub print_tells_none : (unit label : ℕ) (value : ℤ) → TellsOfNone (event.Print unit label value)
-unfolding entry_passes entry_told rest_done table_done
-print_tells_none unit label value =
+pub print_reports_none : (unit label : ℕ) (value : ℤ) → ReportsOfNone (event.Print unit label value)
+unfolding entry_passes entry_reported rest_done table_done
+print_reports_none unit label value =
     record { passes = λ plan r u. refl; done = λ r u. refl; is_other = λ e. cc (e) }
 
-pub fault_tells_none : (unit : ℕ) (fault : RunFault) (position : Position) → TellsOfNone (event.Fault unit fault position)
-unfolding entry_passes entry_told rest_done table_done
-fault_tells_none unit fault position =
+pub fault_reports_none : (unit : ℕ) (fault : RunFault) (position : Position) → ReportsOfNone (event.Fault unit fault position)
+unfolding entry_passes entry_reported rest_done table_done
+fault_reports_none unit fault position =
     record { passes = λ plan r u. refl; done = λ r u. refl; is_other = λ e. cc (e) }
 
-pub lost_tells_none : (unit handler : ℕ) → TellsOfNone (event.Lost unit handler)
-unfolding entry_passes entry_told rest_done table_done
-lost_tells_none unit handler =
+pub lost_reports_none : (unit handler : ℕ) → ReportsOfNone (event.Lost unit handler)
+unfolding entry_passes entry_reported rest_done table_done
+lost_reports_none unit handler =
     record { passes = λ plan r u. refl; done = λ r u. refl; is_other = λ e. cc (e) }
 
-pub terminate_tells_none : (unit : ℕ) → TellsOfNone (event.Terminate unit)
-unfolding entry_passes entry_told rest_done table_done
-terminate_tells_none unit = record { passes = λ plan r u. refl; done = λ r u. refl; is_other = λ e. cc (e) }
+pub terminate_reports_none : (unit : ℕ) → ReportsOfNone (event.Terminate unit)
+unfolding entry_passes entry_reported rest_done table_done
+terminate_reports_none unit = record { passes = λ plan r u. refl; done = λ r u. refl; is_other = λ e. cc (e) }
 
 -- what such a line leaves
 pub record Silent (plan : Plan) (unit : ℕ) (r : Replay) (es : List Event) : Type 0 where
   pub after : Replay
-  pub is : told plan r es ≡ Some after
+  pub is : reported plan r es ≡ Some after
   pub kept : Kept unit r after
   pub core : SameCore r after
   pub goes_on : after.is_over ≡ false
 
-pub none_told : (plan : Plan) (unit : ℕ) (r : Replay) (e : Event) → TellsOfNone e → Live plan unit r →
+pub none_reported : (plan : Plan) (unit : ℕ) (r : Replay) (e : Event) → ReportsOfNone e → Live plan unit r →
     unit_of e ≡ unit → Silent plan unit r (e ∷ [])
-none_told plan unit r e none live at =
-    let same : entry_done (begun r unit) unit (entry_told e) ≡ begun r unit = none.done (begun r unit) unit in
+none_reported plan unit r e none live at =
+    let same : entry_done (begun r unit) unit (entry_reported e) ≡ begun r unit = none.done (begun r unit) unit in
     let core : SameCore r (begun r unit) = core_begun r unit in
     record {
       after = begun r unit;
-      is = told_one plan r (begun r unit) e
+      is = reported_one plan r (begun r unit) e
           (line_passes plan unit r e live at none.is_other (none.passes plan r unit) ∙ ap (λ x. Some x) same);
-      kept = inr (subst (λ x. Opened unit r x) same (line_opens unit r (entry_told e) live.in_order));
+      kept = inr (subst (λ x. Opened unit r x) same (line_opens unit r (entry_reported e) live.in_order));
       core = core;
       goes_on = core.over ∙ live.goes_on;
     }
@@ -183,7 +183,7 @@ module _ (s : State) (p active : ℕ) (r : Replay) (h : Acts s p active r) where
 
 pub record Raised (plan : Plan) (unit : ℕ) (r : Replay) (s : State) (p priority : ℕ) (es : List Event) : Type 0 where
   pub after : Replay
-  pub is : told plan r es ≡ Some after
+  pub is : reported plan r es ≡ Some after
   pub kept : Kept unit r after
   pub acts : Acts s p priority after
   pub goes_on : after.is_over ≡ false
@@ -196,15 +196,15 @@ over_end : (b : Replay) (unit handler n : ℕ) → (entry_done b unit (End handl
 unfolding rest_done
 over_end b unit handler n = refl
 
-prio_told : (plan : Plan) (r : Replay) (s : State) (p active priority : ℕ) → Live plan s.unit r →
+prio_reported : (plan : Plan) (r : Replay) (s : State) (p active priority : ℕ) → Live plan s.unit r →
     (h : Acts s p active r) → Raised plan s.unit r s p priority (event.Prio s.unit h.release.handler priority ∷ [])
-unfolding entry_told unit_of acts_core
-prio_told plan r s p active priority live h =
+unfolding entry_reported unit_of acts_core
+prio_reported plan r s p active priority live h =
     let b : Replay = begun r s.unit in
     let core : SameCore r b = core_begun r s.unit in
     record {
       after = entry_done b s.unit (Prio h.release.handler priority);
-      is = told_one plan r (entry_done b s.unit (Prio h.release.handler priority)) _
+      is = reported_one plan r (entry_done b s.unit (Prio h.release.handler priority)) _
           (line_passes plan s.unit r (event.Prio s.unit h.release.handler priority) live refl (λ e. cc (e))
           (prio_passes s p active r h plan s.unit priority));
       kept = inr (line_opens s.unit r (Prio h.release.handler priority) live.in_order);
@@ -217,19 +217,19 @@ raised_same : (plan : Plan) (r : Replay) (s : State) (p active priority : ℕ) �
 raised_same plan r s p active priority live h same =
     record {
       after = r;
-      is = told_none plan r;
+      is = reported_none plan r;
       kept = inl refl;
       acts = subst (λ n. Acts s p n r) same h;
       goes_on = live.goes_on;
     }
 
-pub told_of : (s : State) (p : ℕ) (x : ReleaseNow) (tell : ReleaseNow → List Event) → slice_get s.releases p ≡ Some x →
-    of_release s (ReleaseAt p) tell ≡ tell x
-told_of s p x tell there = ap (λ o. elim o as (λ _. List Event) [ None ↦ [] | Some y ↦ tell y ]) there
+pub reported_of : (s : State) (p : ℕ) (x : ReleaseNow) (report : ReleaseNow → List Event) → slice_get s.releases p ≡ Some x →
+    of_release s (ReleaseAt p) report ≡ report x
+reported_of s p x report there = ap (λ o. elim o as (λ _. List Event) [ None ↦ [] | Some y ↦ report y ]) there
 
-pub priority_told : (plan : Plan) (r : Replay) (s : State) (p active priority : ℕ) → Live plan s.unit r →
-    Acts s p active r → Raised plan s.unit r s p priority (tell_priority s (ReleaseAt p) active priority)
-priority_told plan r s p active priority live h = go (active == priority) refl
+pub priority_reported : (plan : Plan) (r : Replay) (s : State) (p active priority : ℕ) → Live plan s.unit r →
+    Acts s p active r → Raised plan s.unit r s p priority (report_priority s (ReleaseAt p) active priority)
+priority_reported plan r s p active priority live h = go (active == priority) refl
   where
     go : (b : Bool) → (active == priority) ≡ b →
         Raised plan s.unit r s p priority
@@ -237,24 +237,24 @@ priority_told plan r s p active priority live h = go (active == priority) refl
     go true e = raised_same plan r s p active priority live h (same_number active priority e)
     go false e =
         subst (λ es. Raised plan s.unit r s p priority es)
-        (sym (told_of s p h.release (λ (x : ReleaseNow). event.Prio s.unit x.handler priority ∷ []) h.there))
-        (prio_told plan r s p active priority live h)
+        (sym (reported_of s p h.release (λ (x : ReleaseNow). event.Prio s.unit x.handler priority ∷ []) h.there))
+        (prio_reported plan r s p active priority live h)
 
 -- ---- and it has ended
 
-pub end_told : (plan : Plan) (r : Replay) (s t : State) (p active : ℕ) → Live plan s.unit r → (h : Acts s p active r) →
+pub end_reported : (plan : Plan) (r : Replay) (s t : State) (p active : ℕ) → Live plan s.unit r → (h : Acts s p active r) →
     Becomes s t p Ended →
-    Tells plan s.unit r t (of_release s (ReleaseAt p) (λ (x : ReleaseNow). event.End s.unit x.handler x.number ∷ []))
-unfolding entry_told unit_of acts_core
-end_told plan r s t p active live h ended =
+    Reports plan s.unit r t (of_release s (ReleaseAt p) (λ (x : ReleaseNow). event.End s.unit x.handler x.number ∷ []))
+unfolding entry_reported unit_of acts_core
+end_reported plan r s t p active live h ended =
     let b : Replay = begun r s.unit in
     let core : SameCore r b = core_begun r s.unit in
     let acts : Acts s p active b = acts_core s p active r b core h in
-    subst (λ es. Tells plan s.unit r t es)
-    (sym (told_of s p h.release (λ (x : ReleaseNow). event.End s.unit x.handler x.number ∷ []) h.there))
+    subst (λ es. Reports plan s.unit r t es)
+    (sym (reported_of s p h.release (λ (x : ReleaseNow). event.End s.unit x.handler x.number ∷ []) h.there))
     (record {
       after = entry_done b s.unit (End h.release.handler h.release.number);
-      is = told_one plan r (entry_done b s.unit (End h.release.handler h.release.number)) _
+      is = reported_one plan r (entry_done b s.unit (End h.release.handler h.release.number)) _
           (line_passes plan s.unit r (event.End s.unit h.release.handler h.release.number) live refl (λ e. cc (e))
           (end_passes s p active r h plan s.unit));
       kept = inr (line_opens s.unit r (End h.release.handler h.release.number) live.in_order);
@@ -264,12 +264,12 @@ end_told plan r s t p active live h ended =
 
 -- ---- steps of it that tell nothing
 
-pub stays_told : (plan : Plan) (r : Replay) (s t : State) (p active : ℕ) (a : Activity) → Live plan s.unit r →
-    Acts s p active r → a.priority ≡ active → Becomes s t p (StartedNow a) → Tells plan s.unit r t []
-stays_told plan r s t p active a live h same b =
+pub stays_reported : (plan : Plan) (r : Replay) (s t : State) (p active : ℕ) (a : Activity) → Live plan s.unit r →
+    Acts s p active r → a.priority ≡ active → Becomes s t p (StartedNow a) → Reports plan s.unit r t []
+stays_reported plan r s t p active a live h same b =
     record {
       after = r;
-      is = told_none plan r;
+      is = reported_none plan r;
       kept = inl refl;
       executes = acts_stays s p active r h t a same b;
       goes_on = live.goes_on;

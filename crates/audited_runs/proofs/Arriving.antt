@@ -17,17 +17,17 @@ use Rattle.scj_model.specs.Apply.{most_waiting, release_taken, released, release
 use Rattle.trace_audit.specs.declared.lines.Entry.TheVariants.{Arrive}
 use Rattle.trace_audit.specs.declared.releases.Release.{Release}
 use Rattle.trace_audit.specs.Passing.{begun, entry_done, entry_passes, rest_done, table_done}
-use Rattle.trace_audit.specs.Printed.{entry_told}
+use Rattle.trace_audit.specs.Printed.{entry_reported}
 use Rattle.trace_audit.specs.Replay.{HandlerSeen, Releases, Replay}
 use Rattle.trace_audit.specs.StandsFor.{StandsFor, release_seen}
-use Rattle.audited_runs.proofs.Told.{told_none, told_one}
+use Rattle.audited_runs.proofs.Reported.{reported_none, reported_one}
 use Rattle.audited_runs.proofs.InUnit.{Live, line_opens, line_passes}
 use Rattle.audited_runs.proofs.Changes.{count_map}
 use Rattle.accepted_laws.proofs.Tools.{some_inj}
 use Rattle.audited_runs.proofs.Named.{AreNamed, count_of, counted_more, fresh, is_of, named_more}
 use Rattle.audited_runs.proofs.Stands.{stands_more}
-use Rattle.audited_runs.proofs.Executing.{Alike, since_alike, Executes, LastIs, SameCore, Tells, core_begun, executes_core}
-use Rattle.audited_runs.proofs.Acting.{Silent, lost_tells_none, none_told}
+use Rattle.audited_runs.proofs.Executing.{Alike, since_alike, Executes, LastIs, SameCore, Reports, core_begun, executes_core}
+use Rattle.audited_runs.proofs.Acting.{Silent, lost_reports_none, none_reported}
 use Rattle.priority_laws.proofs.AreaLists.{same_test}
 
 -- ---- numbers of handlers
@@ -153,16 +153,16 @@ over_arrive : (b : Replay) (unit handler n : ℕ) → (entry_done b unit (Arrive
 unfolding rest_done
 over_arrive b unit handler n = refl
 
-arrive_told : (plan : Plan) (s : State) (r : Replay) (k number : ℕ) (row : HandlerRow) → Live plan s.unit r →
+arrive_reported : (plan : Plan) (s : State) (r : Replay) (k number : ℕ) (row : HandlerRow) → Live plan s.unit r →
     Executes s r → slice_get s.registry k ≡ Some row → number ≡ count_of (suc k) r.all.releases + 1 →
-    Tells plan s.unit r (with_fresh s (suc k) number) (event.Arrive s.unit (suc k) number ∷ [])
-unfolding entry_told unit_of
-arrive_told plan s r k number row live h there is =
+    Reports plan s.unit r (with_fresh s (suc k) number) (event.Arrive s.unit (suc k) number ∷ [])
+unfolding entry_reported unit_of
+arrive_reported plan s r k number row live h there is =
     let b : Replay = begun r s.unit in
     let core : SameCore r b = core_begun r s.unit in
     record {
       after = entry_done b s.unit (Arrive (suc k) number);
-      is = told_one plan r (entry_done b s.unit (Arrive (suc k) number)) _
+      is = reported_one plan r (entry_done b s.unit (Arrive (suc k) number)) _
           (line_passes plan s.unit r (event.Arrive s.unit (suc k) number) live refl (λ e. cc (e))
           (arrive_passes plan s r s.unit k number row h there is));
       kept = inr (line_opens s.unit r (Arrive (suc k) number) live.in_order);
@@ -173,13 +173,13 @@ arrive_told plan s r k number row live h there is =
 
 -- ---- a release is taken in, or is lost
 
-pub same_told : (plan : Plan) (s : State) (r : Replay) → Live plan s.unit r → Executes s r → Tells plan s.unit r s []
-same_told plan s r live h =
-    record { after = r; is = told_none plan r; kept = inl refl; executes = h; goes_on = live.goes_on }
+pub same_reported : (plan : Plan) (s : State) (r : Replay) → Live plan s.unit r → Executes s r → Reports plan s.unit r s []
+same_reported plan s r live h =
+    record { after = r; is = reported_none plan r; kept = inl refl; executes = h; goes_on = live.goes_on }
 
-pub silent_told : (plan : Plan) (s : State) (r : Replay) (es : List Event) → Executes s r → Silent plan s.unit r es →
-    Tells plan s.unit r s es
-silent_told plan s r es h silent =
+pub silent_reported : (plan : Plan) (s : State) (r : Replay) (es : List Event) → Executes s r → Silent plan s.unit r es →
+    Reports plan s.unit r s es
+silent_reported plan s r es h silent =
     record {
       after = silent.after;
       is = silent.is;
@@ -188,41 +188,41 @@ silent_told plan s r es h silent =
       goes_on = silent.goes_on;
     }
 
-abbrev pub TellsOf : Plan → State → Replay → Step → Type 0
-TellsOf plan s r step = Tells plan s.unit r step.state step.events
+abbrev pub ReportsOf : Plan → State → Replay → Step → Type 0
+ReportsOf plan s r step = Reports plan s.unit r step.state step.events
 
-pub tells_if : (plan : Plan) (s : State) (r : Replay) (b : Bool) (x y : Step) → TellsOf plan s r x → TellsOf plan s r y →
-    TellsOf plan s r (if b then x else y)
-tells_if plan s r true x y h k = h
-tells_if plan s r false x y h k = k
+pub reports_if : (plan : Plan) (s : State) (r : Replay) (b : Bool) (x y : Step) → ReportsOf plan s r x → ReportsOf plan s r y →
+    ReportsOf plan s r (if b then x else y)
+reports_if plan s r true x y h k = h
+reports_if plan s r false x y h k = k
 
 taken_next : (plan : Plan) (s : State) (r : Replay) (k : ℕ) (row : HandlerRow) → Live plan s.unit r → Executes s r →
-    slice_get s.registry k ≡ Some row → TellsOf plan s r (release_taken s (suc k))
+    slice_get s.registry k ≡ Some row → ReportsOf plan s r (release_taken s (suc k))
 unfolding release_taken unit_of
 taken_next plan s r k row live h there =
-    tells_if plan s r (not (nat_lt (length (waiting_of s (suc k))) most_waiting)) _ _
-    (silent_told plan s r (event.Lost s.unit (suc k) ∷ []) h
-    (none_told plan s.unit r (event.Lost s.unit (suc k)) (lost_tells_none s.unit (suc k)) live refl))
-    (arrive_told plan s r k (length (releases_of s (suc k)) + 1) row live h there
+    reports_if plan s r (not (nat_lt (length (waiting_of s (suc k))) most_waiting)) _ _
+    (silent_reported plan s r (event.Lost s.unit (suc k) ∷ []) h
+    (none_reported plan s.unit r (event.Lost s.unit (suc k)) (lost_reports_none s.unit (suc k)) live refl))
+    (arrive_reported plan s r k (length (releases_of s (suc k)) + 1) row live h there
     (ap (λ n. n + 1) (counted_now s r.all (suc k) h.stands)))
 
-pub taken_told : (plan : Plan) (s : State) (r : Replay) (handler : ℕ) → Live plan s.unit r → Executes s r →
-    HasRow s.registry handler → TellsOf plan s r (release_taken s handler)
-taken_told plan s r handler live h has =
-    subst (λ n. TellsOf plan s r (release_taken s n)) (sym has.is_next)
+pub taken_reported : (plan : Plan) (s : State) (r : Replay) (handler : ℕ) → Live plan s.unit r → Executes s r →
+    HasRow s.registry handler → ReportsOf plan s r (release_taken s handler)
+taken_reported plan s r handler live h has =
+    subst (λ n. ReportsOf plan s r (release_taken s n)) (sym has.is_next)
     (taken_next plan s r has.k has.row live h has.there)
 
 -- ---- `release`
 
-pub released_told : (plan : Plan) (s : State) (r : Replay) (object : ℕ) → Live plan s.unit r → Executes s r →
-    TellsOf plan s r (released s object)
+pub released_reported : (plan : Plan) (s : State) (r : Replay) (object : ℕ) → Live plan s.unit r → Executes s r →
+    ReportsOf plan s r (released s object)
 unfolding released handler_number
-released_told plan s r object live h =
-    tells_if plan s r (takes_releases s) _ _ (go (handler_number s.registry object) refl) (same_told plan s r live h)
+released_reported plan s r object live h =
+    reports_if plan s r (takes_releases s) _ _ (go (handler_number s.registry object) refl) (same_reported plan s r live h)
   where
     go : (o : Option ℕ) → handler_number s.registry object ≡ o →
-        TellsOf plan s r (elim o as (λ z. Step) [ None ↦ silently s | Some handler ↦ release_taken s handler ])
-    go None e = same_told plan s r live h
+        ReportsOf plan s r (elim o as (λ z. Step) [ None ↦ silently s | Some handler ↦ release_taken s handler ])
+    go None e = same_reported plan s r live h
     go (Some handler) e =
-        taken_told plan s r handler live h
+        taken_reported plan s r handler live h
         (numbered (λ (row : HandlerRow). row.at == object) s.registry handler e)

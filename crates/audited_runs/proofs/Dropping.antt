@@ -14,10 +14,10 @@ use Rattle.trace_audit.specs.declared.lines.Entry.TheVariants.{Drop}
 use Rattle.trace_audit.specs.declared.releases.Release.{Release}
 use Rattle.trace_audit.specs.declared.releases.Standing.TheVariants.{Waits, Started, Gone}
 use Rattle.trace_audit.specs.Passing.{begun, entry_done, entry_passes, replayed, rest_done, table_done}
-use Rattle.trace_audit.specs.Printed.{entry_told, line_told}
+use Rattle.trace_audit.specs.Printed.{entry_reported, line_reported}
 use Rattle.trace_audit.specs.Replay.{Releases, Replay, gone, is_waiting}
 use Rattle.trace_audit.specs.StandsFor.{release_seen, standing_of}
-use Rattle.audited_runs.proofs.Told.{told, told_more, told_none}
+use Rattle.audited_runs.proofs.Reported.{reported, reported_more, reported_none}
 use Rattle.audited_runs.proofs.InUnit.{Kept, Live, Opened, kept_then, line_opens, line_passes, live_kept}
 use Rattle.audited_runs.proofs.Changes.{changed_later}
 use Rattle.audited_runs.proofs.Named.{Named, named_restood, release_of_name, restanding_is, restood}
@@ -69,9 +69,9 @@ waiting_behind (suc e) (r ∷ rs) none =
 
 -- ---- the lines
 
-pub record DropsTold (plan : Plan) (unit : ℕ) (r : Replay) (rs : List ReleaseNow) (es : List Event) : Type 0 where
+pub record DropsReported (plan : Plan) (unit : ℕ) (r : Replay) (rs : List ReleaseNow) (es : List Event) : Type 0 where
   pub after : Replay
-  pub is : told plan r es ≡ Some after
+  pub is : reported plan r es ≡ Some after
   pub kept : Kept unit r after
   pub all : after.all ≡ record r.all { releases = map release_seen rs }
   pub named : Named after.all
@@ -126,7 +126,7 @@ named_gone r pre post x named seen w =
 -- one line
 pub record OneDropped (plan : Plan) (unit : ℕ) (r : Replay) (rs : List ReleaseNow) (e : Event) : Type 0 where
   pub after : Replay
-  pub is : replayed plan r (line_told e) ≡ Some after
+  pub is : replayed plan r (line_reported e) ≡ Some after
   pub kept : Kept unit r after
   pub all : after.all ≡ record r.all { releases = map release_seen rs }
   pub named : Named after.all
@@ -138,7 +138,7 @@ drop_done : (plan : Plan) (unit : ℕ) (r b : Replay) (pre post : List ReleaseNo
     Live plan unit r → Named r.all → r.all.releases ≡ map release_seen (pre ++ x ∷ post) →
     is_waiting_now x.status ≡ true → b ≡ begun r unit →
     OneDropped plan unit r (pre ++ dropped_release x ∷ post) (event.Drop unit x.handler x.number)
-unfolding entry_told unit_of rest_done table_done
+unfolding entry_reported unit_of rest_done table_done
 drop_done plan unit r b pre post x core live named seen w same =
     let named_b : Named b.all = subst (λ (all : Releases). Named all) (sym core.all) named in
     let seen_b : b.all.releases ≡ map release_seen (pre ++ x ∷ post) =
@@ -174,13 +174,13 @@ drops unit rs = map (λ (r : ReleaseNow). event.Drop unit r.handler r.number) rs
 moved_on : (pre post : List ReleaseNow) (x : ReleaseNow) → pre ++ x ∷ post ≡ (pre ++ x ∷ []) ++ post
 moved_on pre post x = sym (append_assoc pre (x ∷ []) post)
 
-pub drops_told : (plan : Plan) (unit : ℕ) (pre post : List ReleaseNow) (r : Replay) → Live plan unit r → Named r.all →
+pub drops_reported : (plan : Plan) (unit : ℕ) (pre post : List ReleaseNow) (r : Replay) → Live plan unit r → Named r.all →
     r.all.releases ≡ map release_seen (pre ++ post) →
-    DropsTold plan unit r (pre ++ map dropped_release post) (drops unit (waiting post))
-drops_told plan unit pre [] r live named seen =
+    DropsReported plan unit r (pre ++ map dropped_release post) (drops unit (waiting post))
+drops_reported plan unit pre [] r live named seen =
     record {
       after = r;
-      is = told_none plan r;
+      is = reported_none plan r;
       kept = inl refl;
       all = ap (λ rs. record r.all { releases = rs }) seen;
       named = named;
@@ -188,26 +188,26 @@ drops_told plan unit pre [] r live named seen =
       since = refl;
       goes_on = live.goes_on;
     }
-drops_told plan unit pre (x ∷ post) r live named seen =
-    go (is_waiting_now x.status) refl (drops_told plan unit (pre ++ dropped_release x ∷ []) post)
+drops_reported plan unit pre (x ∷ post) r live named seen =
+    go (is_waiting_now x.status) refl (drops_reported plan unit (pre ++ dropped_release x ∷ []) post)
   where
     go : (b : Bool) → is_waiting_now x.status ≡ b →
         ((m : Replay) → Live plan unit m → Named m.all →
         m.all.releases ≡ map release_seen ((pre ++ dropped_release x ∷ []) ++ post) →
-        DropsTold plan unit m ((pre ++ dropped_release x ∷ []) ++ map dropped_release post) (drops unit (waiting post))) →
-        DropsTold plan unit r (pre ++ dropped_release x ∷ map dropped_release post)
+        DropsReported plan unit m ((pre ++ dropped_release x ∷ []) ++ map dropped_release post) (drops unit (waiting post))) →
+        DropsReported plan unit r (pre ++ dropped_release x ∷ map dropped_release post)
         (drops unit (if b then x ∷ waiting post else waiting post))
     go true w more =
         let one : OneDropped plan unit r (pre ++ dropped_release x ∷ post) (event.Drop unit x.handler x.number) =
         one_dropped plan unit r pre post x live named seen w in
-        let rest : DropsTold plan unit one.after ((pre ++ dropped_release x ∷ []) ++ map dropped_release post)
+        let rest : DropsReported plan unit one.after ((pre ++ dropped_release x ∷ []) ++ map dropped_release post)
         (drops unit (waiting post)) =
         more one.after (live_kept plan unit r one.after live one.kept one.goes_on) one.named
         (ap (λ (all : Releases). all.releases) one.all
         ∙ ap (map release_seen) (moved_on pre post (dropped_release x))) in
         record {
           after = rest.after;
-          is = told_more plan r one.after rest.after (event.Drop unit x.handler x.number) (drops unit (waiting post))
+          is = reported_more plan r one.after rest.after (event.Drop unit x.handler x.number) (drops unit (waiting post))
               one.is rest.is;
           kept = kept_then unit r one.after rest.after one.kept rest.kept;
           all = rest.all
@@ -222,10 +222,10 @@ drops_told plan unit pre (x ∷ post) r live named seen =
           goes_on = rest.goes_on;
         }
     go false w more =
-        let rest : DropsTold plan unit r ((pre ++ dropped_release x ∷ []) ++ map dropped_release post)
+        let rest : DropsReported plan unit r ((pre ++ dropped_release x ∷ []) ++ map dropped_release post)
         (drops unit (waiting post)) =
         more r live named
         (seen ∙ (ap (λ (y : ReleaseNow). map release_seen (pre ++ y ∷ post)) (sym (dropped_not x w))
         ∙ ap (map release_seen) (moved_on pre post (dropped_release x)))) in
-        subst (λ rs. DropsTold plan unit r rs (drops unit (waiting post)))
+        subst (λ rs. DropsReported plan unit r rs (drops unit (waiting post)))
         (sym (moved_on pre (map dropped_release post) (dropped_release x))) rest

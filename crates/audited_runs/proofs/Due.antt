@@ -14,9 +14,9 @@ use Rattle.scj_model.specs.Apply.{takes_releases}
 use Rattle.scj_model.specs.Arrivals.{comes_in, due_handlers, fires_due, handlers_due, is_due, numbers_where}
 use Rattle.trace_audit.specs.declared.lines.Entry.TheVariants.{Miss}
 use Rattle.trace_audit.specs.Passing.{begun, entry_done, entry_passes, is_fire, rest_done, table_done}
-use Rattle.trace_audit.specs.Printed.{entry_told}
+use Rattle.trace_audit.specs.Printed.{entry_reported}
 use Rattle.trace_audit.specs.Replay.{Replay}
-use Rattle.audited_runs.proofs.Told.{told_one}
+use Rattle.audited_runs.proofs.Reported.{reported_one}
 use Rattle.audited_runs.proofs.InUnit.{Live, Opened, line_opens, line_passes}
 use Rattle.accepted_laws.proofs.Tools.{some_inj}
 use Rattle.priority_laws.proofs.AreaLists.{same_test}
@@ -96,17 +96,17 @@ miss_done : (b : Replay) (unit : ℕ) (name : List ℕ) → entry_done b unit (M
 unfolding rest_done table_done
 miss_done b unit name = refl
 
-pub miss_told : (plan : Plan) (r : Replay) (origin : Option ℕ) (unit index : ℕ) → r.executes_since ≡ origin →
+pub miss_reported : (plan : Plan) (r : Replay) (origin : Option ℕ) (unit index : ℕ) → r.executes_since ≡ origin →
     (c : Comes plan.fires origin unit index) → Live plan unit r →
     Silent plan unit r (event.Miss unit c.fire.handler ∷ [])
-unfolding entry_told unit_of
-miss_told plan r origin unit index since c live =
+unfolding entry_reported unit_of
+miss_reported plan r origin unit index since c live =
     let same : entry_done (begun r unit) unit (Miss c.fire.handler) ≡ begun r unit =
     miss_done (begun r unit) unit c.fire.handler in
     let core : SameCore r (begun r unit) = core_begun r unit in
     record {
       after = begun r unit;
-      is = told_one plan r (begun r unit) (event.Miss unit c.fire.handler)
+      is = reported_one plan r (begun r unit) (event.Miss unit c.fire.handler)
           (line_passes plan unit r (event.Miss unit c.fire.handler) live refl (λ e. cc (e))
           (miss_passes plan r origin unit index since c) ∙ ap (λ x. Some x) same);
       kept = inr (subst (λ x. Opened unit r x) same (line_opens unit r (Miss c.fire.handler) live.in_order));

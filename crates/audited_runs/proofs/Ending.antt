@@ -5,19 +5,19 @@ use Rattle.scj_model.specs.declared.events.Event.TheVariants as event
 use Rattle.scj_model.specs.Plan.{Plan}
 use Rattle.scj_model.specs.TraceText.{unit_of}
 use Rattle.scj_model.specs.State.{Release as ReleaseNow, State, Turn, IdleTurn, TurnOf, is_waiting as is_waiting_now}
-use Rattle.scj_model.specs.Steps.{silently, telling}
-use Rattle.scj_model.specs.Apply.{asks_for_end, dropped_release, tell_dropped, termination, termination_asked}
+use Rattle.scj_model.specs.Steps.{silently, reporting}
+use Rattle.scj_model.specs.Apply.{asks_for_end, dropped_release, report_dropped, termination, termination_asked}
 use Rattle.trace_audit.specs.declared.releases.Release.{Release}
 use Rattle.trace_audit.specs.Replay.{Releases, Replay, is_waiting}
 use Rattle.trace_audit.specs.StandsFor.{StandsFor, release_seen}
-use Rattle.audited_runs.proofs.Told.{told, told_then}
+use Rattle.audited_runs.proofs.Reported.{reported, reported_then}
 use Rattle.audited_runs.proofs.InUnit.{Live, kept_then, live_kept}
 use Rattle.accepted_laws.proofs.Tools.{some_inj}
 use Rattle.audited_runs.proofs.Stands.{dropped_not, stands_dropped}
-use Rattle.audited_runs.proofs.Executing.{Alike, Executes, executes_core, LastIs, Tells, since_alike}
-use Rattle.audited_runs.proofs.Acting.{Silent, none_told, terminate_tells_none}
-use Rattle.audited_runs.proofs.Arriving.{TellsOf, same_told, tells_if}
-use Rattle.audited_runs.proofs.Dropping.{DropsTold, drops, drops_told, none_waits, waiting, waiting_behind, waits_seen}
+use Rattle.audited_runs.proofs.Executing.{Alike, Executes, executes_core, LastIs, Reports, since_alike}
+use Rattle.audited_runs.proofs.Acting.{Silent, none_reported, terminate_reports_none}
+use Rattle.audited_runs.proofs.Arriving.{ReportsOf, same_reported, reports_if}
+use Rattle.audited_runs.proofs.Dropping.{DropsReported, drops, drops_reported, none_waits, waiting, waiting_behind, waits_seen}
 
 -- ---- an end is asked
 
@@ -60,15 +60,15 @@ last_dropped first r after (Some (TurnOf p)) xs same seen all h =
       has_started = h.has_started;
     }
 
-dropped_told : (plan : Plan) (s : State) (r : Replay) → Live plan s.unit r → Executes s r →
-    Tells plan s.unit r (all_dropped s) (tell_dropped s)
-dropped_told plan s r live h =
+dropped_reported : (plan : Plan) (s : State) (r : Replay) → Live plan s.unit r → Executes s r →
+    Reports plan s.unit r (all_dropped s) (report_dropped s)
+dropped_reported plan s r live h =
     let xs : List ReleaseNow = drop s.earlier_releases s.releases in
-    let d : DropsTold plan s.unit r (map dropped_release xs) (drops s.unit (waiting xs)) =
-    drops_told plan s.unit [] xs r live h.named (sym h.stands.releases) in
+    let d : DropsReported plan s.unit r (map dropped_release xs) (drops s.unit (waiting xs)) =
+    drops_reported plan s.unit [] xs r live h.named (sym h.stands.releases) in
     record {
       after = d.after;
-      is = ap (λ rs. told plan r (drops s.unit rs))
+      is = ap (λ rs. reported plan r (drops s.unit rs))
           (waiting_behind s.earlier_releases s.releases
           (λ place x there l. none_waits s place x (h.stands.earlier place x there l)))
           ∙ d.is;
@@ -86,32 +86,32 @@ dropped_told plan s r live h =
       goes_on = d.goes_on;
     }
 
-end_asked_told : (plan : Plan) (s : State) (r : Replay) → Live plan s.unit r → Executes s r →
-    Tells plan s.unit r (all_dropped s) (event.Terminate s.unit ∷ tell_dropped s)
+end_asked_reported : (plan : Plan) (s : State) (r : Replay) → Live plan s.unit r → Executes s r →
+    Reports plan s.unit r (all_dropped s) (event.Terminate s.unit ∷ report_dropped s)
 unfolding unit_of
-end_asked_told plan s r live h =
+end_asked_reported plan s r live h =
     let one : Silent plan s.unit r (event.Terminate s.unit ∷ []) =
-    none_told plan s.unit r (event.Terminate s.unit) (terminate_tells_none s.unit) live refl in
-    let rest : Tells plan s.unit one.after (all_dropped s) (tell_dropped s) =
-    dropped_told plan s one.after (live_kept plan s.unit r one.after live one.kept one.goes_on)
+    none_reported plan s.unit r (event.Terminate s.unit) (terminate_reports_none s.unit) live refl in
+    let rest : Reports plan s.unit one.after (all_dropped s) (report_dropped s) =
+    dropped_reported plan s one.after (live_kept plan s.unit r one.after live one.kept one.goes_on)
     (executes_core s r one.after one.core h) in
     record {
       after = rest.after;
-      is = told_then plan r one.after rest.after (event.Terminate s.unit ∷ []) (tell_dropped s) one.is rest.is;
+      is = reported_then plan r one.after rest.after (event.Terminate s.unit ∷ []) (report_dropped s) one.is rest.is;
       kept = kept_then s.unit r one.after rest.after one.kept rest.kept;
       executes = rest.executes;
       goes_on = rest.goes_on;
     }
 
 -- an end is asked, of whatever mission
-pub asked_told : (plan : Plan) (s : State) (r : Replay) (mission : ℕ) → Live plan s.unit r → Executes s r →
-    TellsOf plan s r (termination_asked s mission)
+pub asked_reported : (plan : Plan) (s : State) (r : Replay) (mission : ℕ) → Live plan s.unit r → Executes s r →
+    ReportsOf plan s r (termination_asked s mission)
 unfolding termination_asked termination
-asked_told plan s r mission live h =
-    tells_if plan s r (asks_for_end s.mission s.phase s.is_end_asked mission) _ _
-    (subst (λ (b : Bool). TellsOf plan s r
+asked_reported plan s r mission live h =
+    reports_if plan s r (asks_for_end s.mission s.phase s.is_end_asked mission) _ _
+    (subst (λ (b : Bool). ReportsOf plan s r
     (if b
-    then telling (all_dropped s) (event.Terminate s.unit ∷ tell_dropped s)
+    then reporting (all_dropped s) (event.Terminate s.unit ∷ report_dropped s)
     else silently (record s { is_end_asked = true })))
-    (sym h.exec) (end_asked_told plan s r live h))
-    (same_told plan s r live h)
+    (sym h.exec) (end_asked_reported plan s r live h))
+    (same_reported plan s r live h)

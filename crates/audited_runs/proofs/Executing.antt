@@ -15,7 +15,7 @@ use Rattle.trace_audit.specs.declared.releases.Standing.TheVariants.{Started}
 use Rattle.trace_audit.specs.Passing.{begun, is_first}
 use Rattle.trace_audit.specs.Replay.{Releases, Replay, differs, is_executing, is_waiting}
 use Rattle.trace_audit.specs.StandsFor.{StandsFor, release_seen, standing_of}
-use Rattle.audited_runs.proofs.Told.{told, told_then}
+use Rattle.audited_runs.proofs.Reported.{reported, reported_then}
 use Rattle.audited_runs.proofs.InUnit.{Kept, kept_then}
 use Rattle.audited_runs.proofs.Changes.{changed_twice, get_drop}
 use Rattle.priority_laws.proofs.AreaLists.{get_changed}
@@ -150,19 +150,19 @@ becomes_from s t p status h =
 
 -- ---- steps in execution, by what is told
 
-pub record Tells (plan : Plan) (unit : ℕ) (r : Replay) (t : State) (es : List Event) : Type 0 where
+pub record Reports (plan : Plan) (unit : ℕ) (r : Replay) (t : State) (es : List Event) : Type 0 where
   pub after : Replay
-  pub is : told plan r es ≡ Some after
+  pub is : reported plan r es ≡ Some after
   pub kept : Kept unit r after
   pub executes : Executes t after
   pub goes_on : after.is_over ≡ false
 
-pub tells_then : (plan : Plan) (unit : ℕ) (r : Replay) (s t : State) (es fs : List Event) →
-    (h : Tells plan unit r s es) → Tells plan unit h.after t fs → Tells plan unit r t (es ++ fs)
-tells_then plan unit r s t es fs h k =
+pub reports_then : (plan : Plan) (unit : ℕ) (r : Replay) (s t : State) (es fs : List Event) →
+    (h : Reports plan unit r s es) → Reports plan unit h.after t fs → Reports plan unit r t (es ++ fs)
+reports_then plan unit r s t es fs h k =
     record {
       after = k.after;
-      is = told_then plan r h.after k.after es fs h.is k.is;
+      is = reported_then plan r h.after k.after es fs h.is k.is;
       kept = kept_then unit r h.after k.after h.kept k.kept;
       executes = k.executes;
       goes_on = k.goes_on;

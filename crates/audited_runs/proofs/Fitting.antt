@@ -22,7 +22,7 @@ use Rattle.trace_audit.specs.declared.choices.Choice.TheVariants.{Idle as Nobody
 use Rattle.trace_audit.specs.declared.lines.Entry.{Entry}
 use Rattle.trace_audit.specs.declared.lines.Entry.TheVariants.{Mission, Register, Exec, Arrive, Lost, Miss, Run, Idle, Prio, Print, Fault, End, Terminate, Drop, Cleanup, Done, Halted, Stopped}
 use Rattle.trace_audit.specs.Passing.{entry_done, entry_passes, is_fire, is_of, is_within, last_number, rest_done, table_done}
-use Rattle.trace_audit.specs.Printed.{Has64Bits, HasParts, IsHandlerNumber, entry_told}
+use Rattle.trace_audit.specs.Printed.{Has64Bits, HasParts, IsHandlerNumber, entry_reported}
 use Rattle.trace_audit.specs.Replay.{Releases, Replay, raise_to, start_with, priority_at}
 use Rattle.audited_runs.proofs.PartsFit.{PartsFit}
 use Rattle.audited_runs.proofs.Executing.{SameCore}
@@ -142,9 +142,9 @@ module _ (nodes : List Node) (files : List (List ℕ)) (plan : Plan) (named : Fi
       number_of Nobody = 0
       number_of (Chosen k n) = n
 
-  pub event_fits : (e : Event) → entry_passes plan r (unit_of e) (entry_told e) ≡ true → PartsFit nodes files e →
-      EventFits nodes files most e (entry_done b (unit_of e) (entry_told e))
-  unfolding entry_passes entry_told unit_of rest_done table_done
+  pub event_fits : (e : Event) → entry_passes plan r (unit_of e) (entry_reported e) ≡ true → PartsFit nodes files e →
+      EventFits nodes files most e (entry_done b (unit_of e) (entry_reported e))
+  unfolding entry_passes entry_reported unit_of rest_done table_done
   event_fits (event.Mission unit class) p alone =
       record {
         parts = alone;

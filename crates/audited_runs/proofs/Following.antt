@@ -16,15 +16,15 @@ use Rattle.scj_model.specs.Steps.{fault_in}
 use Rattle.mission_sound.specs.Invariant.{phase_of}
 use Rattle.trace_audit.specs.declared.lines.Entry.TheVariants.{Halted}
 use Rattle.trace_audit.specs.Passing.{begun, entry_done, entry_passes, is_first, misses_no_choice, rest_done}
-use Rattle.trace_audit.specs.Printed.{entry_told}
+use Rattle.trace_audit.specs.Printed.{entry_reported}
 use Rattle.trace_audit.specs.Replay.{Releases, Replay}
 use Rattle.trace_audit.specs.StandsFor.{StandsFor}
-use Rattle.audited_runs.proofs.Told.{told, told_one, told_then}
+use Rattle.audited_runs.proofs.Reported.{reported, reported_one, reported_then}
 use Rattle.audited_runs.proofs.InUnit.{Kept, Live, kept_then, line_opens, line_passes, live_kept}
 use Rattle.audited_runs.proofs.Named.{Named}
 use Rattle.audited_runs.proofs.Stands.{stands_same}
 use Rattle.audited_runs.proofs.Executing.{Beside, Executes, LastIs, SameCore, core_begun, executes_core, since_alike}
-use Rattle.audited_runs.proofs.Acting.{Silent, fault_tells_none, none_told}
+use Rattle.audited_runs.proofs.Acting.{Silent, fault_reports_none, none_reported}
 use Rattle.audited_runs.proofs.Arrivals.{silent_same}
 
 -- ---- between two units
@@ -110,9 +110,9 @@ holds_beside s t r after b same Finished h = tt
 
 -- ---- steps of the sequencer
 
-pub record SeqTold (plan : Plan) (unit : ℕ) (r : Replay) (t : State) (es : List Event) : Type 0 where
+pub record SeqReported (plan : Plan) (unit : ℕ) (r : Replay) (t : State) (es : List Event) : Type 0 where
   pub after : Replay
-  pub is : told plan r es ≡ Some after
+  pub is : reported plan r es ≡ Some after
   pub kept : Kept unit r after
   pub holds : HoldsFor t after t.operation
   pub since : after.executes_since ≡ executes_since t
@@ -132,9 +132,9 @@ pub record Around (s t : State) : Type 0 where
   pub beside : Beside s t
   pub operation : t.operation ≡ s.operation
 
-pub around_told : (plan : Plan) (s t : State) (r : Replay) (es : List Event) → Sequences plan s r → Around s t →
-    Silent plan s.unit r es → SeqTold plan s.unit r t es
-around_told plan s t r es h a silent =
+pub around_reported : (plan : Plan) (s t : State) (r : Replay) (es : List Event) → Sequences plan s r → Around s t →
+    Silent plan s.unit r es → SeqReported plan s.unit r t es
+around_reported plan s t r es h a silent =
     record {
       after = silent.after;
       is = silent.is;
@@ -145,9 +145,9 @@ around_told plan s t r es h a silent =
       over = silent.goes_on ∙ sym (ap is_over a.beside.alike.phase ∙ h.goes_on);
     }
 
-pub quiet_told : (plan : Plan) (s t : State) (r : Replay) → Sequences plan s r → Around s t →
-    SeqTold plan s.unit r t []
-quiet_told plan s t r h a = around_told plan s t r [] h a (silent_same plan s.unit r h.live)
+pub quiet_reported : (plan : Plan) (s t : State) (r : Replay) → Sequences plan s r → Around s t →
+    SeqReported plan s.unit r t []
+quiet_reported plan s t r h a = around_reported plan s t r [] h a (silent_same plan s.unit r h.live)
 
 -- ---- a fault halts the run
 
@@ -172,27 +172,27 @@ unfolding executes_since
 since_out s out = ap (λ (b : Bool). if b then Some s.origin else None) out
 
 -- the rest of a run that was halted
-pub record HaltTold (plan : Plan) (unit : ℕ) (r : Replay) (es : List Event) : Type 0 where
+pub record HaltReported (plan : Plan) (unit : ℕ) (r : Replay) (es : List Event) : Type 0 where
   pub after : Replay
-  pub is : told plan r es ≡ Some after
+  pub is : reported plan r es ≡ Some after
   pub kept : Kept unit r after
   pub since : after.executes_since ≡ r.executes_since
   pub over : after.is_over ≡ true
 
-pub halt_told : (plan : Plan) (unit : ℕ) (r : Replay) (position : Position) (fault : RunFault) → Live plan unit r →
-    HaltTold plan unit r (event.Fault unit fault position ∷ event.Halted unit ∷ [])
-unfolding entry_told unit_of
-halt_told plan unit r position fault live =
+pub halt_reported : (plan : Plan) (unit : ℕ) (r : Replay) (position : Position) (fault : RunFault) → Live plan unit r →
+    HaltReported plan unit r (event.Fault unit fault position ∷ event.Halted unit ∷ [])
+unfolding entry_reported unit_of
+halt_reported plan unit r position fault live =
     let one : Silent plan unit r (event.Fault unit fault position ∷ []) =
-    none_told plan unit r (event.Fault unit fault position) (fault_tells_none unit fault position) live refl in
+    none_reported plan unit r (event.Fault unit fault position) (fault_reports_none unit fault position) live refl in
     let m : Replay = one.after in
     let live_m : Live plan unit m = live_kept plan unit r m live one.kept one.goes_on in
     let core : SameCore m (begun m unit) = core_begun m unit in
     record {
       after = entry_done (begun m unit) unit Halted;
-      is = told_then plan r m (entry_done (begun m unit) unit Halted) (event.Fault unit fault position ∷ [])
+      is = reported_then plan r m (entry_done (begun m unit) unit Halted) (event.Fault unit fault position ∷ [])
           (event.Halted unit ∷ []) one.is
-          (told_one plan m (entry_done (begun m unit) unit Halted) (event.Halted unit)
+          (reported_one plan m (entry_done (begun m unit) unit Halted) (event.Halted unit)
           (line_passes plan unit m (event.Halted unit) live_m refl (λ e. cc (e)) (halted_passes plan m unit)));
       kept = kept_then unit r m (entry_done (begun m unit) unit Halted) one.kept
           (inr (line_opens unit m Halted live_m.in_order));
@@ -200,14 +200,14 @@ halt_told plan unit r position fault live =
       over = halted_over (begun m unit) unit;
     }
 
-pub faults_told : (plan : Plan) (s : State) (r : Replay) (activity : Activity) (position : Position) (fault : RunFault) →
+pub faults_reported : (plan : Plan) (s : State) (r : Replay) (activity : Activity) (position : Position) (fault : RunFault) →
     Sequences plan s r →
-    SeqTold plan s.unit r (fault_in s TheSequencer activity position fault).state
+    SeqReported plan s.unit r (fault_in s TheSequencer activity position fault).state
     (fault_in s TheSequencer activity position fault).events
 unfolding fault_in is_over is_exec executes_since
-faults_told plan s r activity position fault h =
-    let k : HaltTold plan s.unit r (event.Fault s.unit fault position ∷ event.Halted s.unit ∷ []) =
-    halt_told plan s.unit r position fault h.live in
+faults_reported plan s r activity position fault h =
+    let k : HaltReported plan s.unit r (event.Fault s.unit fault position ∷ event.Halted s.unit ∷ []) =
+    halt_reported plan s.unit r position fault h.live in
     record {
       after = k.after;
       is = k.is;

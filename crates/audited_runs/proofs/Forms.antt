@@ -16,8 +16,8 @@ use Rattle.run_plan.specs.Limits.{IsFire, KeepsLimits}
 use Rattle.trace_audit.specs.declared.answers.Audit.{Audit}
 use Rattle.trace_audit.specs.declared.answers.Audit.TheVariants.{Yes, No}
 use Rattle.trace_audit.specs.Passing.{begun, entry_done, entry_passes, is_in_order, is_within, misses_no_choice, passes, replayed}
-use Rattle.trace_audit.specs.Printed.{HasForm, HaveForms, audit_told, entry_told, line_told}
-use Rattle.trace_audit.specs.Replay.{Replay, nothing_told}
+use Rattle.trace_audit.specs.Printed.{HasForm, HaveForms, audit_reported, entry_reported, line_reported}
+use Rattle.trace_audit.specs.Replay.{Replay, nothing_reported}
 use Rattle.audited_runs.proofs.PartsFit.{PartsFit}
 use Rattle.audited_runs.proofs.Executing.{core_begun}
 use Rattle.audited_runs.proofs.Fitting.{EventFits, FiresNamed, event_fits, unit_within}
@@ -26,25 +26,25 @@ use Rattle.audited_runs.proofs.Small.{Small}
 -- ---- what passes
 
 record Passed (plan : Plan) (r : Replay) (e : Event) (after : Replay) : Type 0 where
-  within : is_within plan (line_told e) ≡ true
-  entry : entry_passes plan r (unit_of e) (entry_told e) ≡ true
-  is : after ≡ entry_done (begun r (unit_of e)) (unit_of e) (entry_told e)
+  within : is_within plan (line_reported e) ≡ true
+  entry : entry_passes plan r (unit_of e) (entry_reported e) ≡ true
+  is : after ≡ entry_done (begun r (unit_of e)) (unit_of e) (entry_reported e)
 
-passed : (plan : Plan) (r : Replay) (e : Event) (after : Replay) → replayed plan r (line_told e) ≡ Some after →
+passed : (plan : Plan) (r : Replay) (e : Event) (after : Replay) → replayed plan r (line_reported e) ≡ Some after →
     Passed plan r e after
 unfolding replayed
-passed plan r e after h = go (passes plan r (line_told e)) refl h
+passed plan r e after h = go (passes plan r (line_reported e)) refl h
   where
     done : Replay
-    done = entry_done (begun r (unit_of e)) (unit_of e) (entry_told e)
+    done = entry_done (begun r (unit_of e)) (unit_of e) (entry_reported e)
 
-    go : (b : Bool) → passes plan r (line_told e) ≡ b → (if b then Some done else None) ≡ Some after →
+    go : (b : Bool) → passes plan r (line_reported e) ≡ b → (if b then Some done else None) ≡ Some after →
         Passed plan r e after
     go false t f = absurd (cc (f))
     go true t f =
         let p = and_parts (not r.is_over) _ t in
         let q = and_parts (is_in_order r (unit_of e)) _ p.1 in
-        let u = and_parts (is_within plan (line_told e)) _ q.1 in
+        let u = and_parts (is_within plan (line_reported e)) _ q.1 in
         let v = and_parts (misses_no_choice r (unit_of e)) _ u.1 in
         record { within = u.0; entry = v.1; is = sym (some_inj done after f) }
 
@@ -62,7 +62,7 @@ module _ (nodes : List Node) (files : List (List ℕ)) (plan : Plan) (named : Fi
       HasForm nodes files e
   form_of most r after e p fits =
       record {
-        unit = let u = unit_within plan (unit_of e) (entry_told e) p.within in lt (unit_of e) plan.units u units;
+        unit = let u = unit_within plan (unit_of e) (entry_reported e) p.within in lt (unit_of e) plan.units u units;
         parts = fits.parts;
       }
     where
@@ -72,20 +72,20 @@ module _ (nodes : List Node) (files : List (List ℕ)) (plan : Plan) (named : Fi
   fewer : (most n : ℕ) → most + suc n < 2 ^ 64 → (most + 1 < 2 ^ 64) × (most + 1 + n < 2 ^ 64)
   fewer most n h = (omega (arith, h), omega (arith, h))
 
-  pub all_fit : (es : List Event) (r : Replay) (number most : ℕ) → audit_told plan r number es ≡ Yes →
+  pub all_fit : (es : List Event) (r : Replay) (number most : ℕ) → audit_reported plan r number es ≡ Yes →
       Small most r.all r.last_choice → All (PartsFit nodes files) es → most + length es < 2 ^ 64 →
       All (HasForm nodes files) es
-  unfolding audit_told
+  unfolding audit_reported
   all_fit [] r number most passed_all h alone room = All-nil (HasForm nodes files)
   all_fit (e ∷ es) r number most passed_all h alone room =
-      go (replayed plan r (line_told e)) refl passed_all
+      go (replayed plan r (line_reported e)) refl passed_all
       (λ after small answer. all_fit es after (number + 1) (most + 1) answer small
       (All-tail (PartsFit nodes files) e es alone) (fewer most (length es) room).1)
     where
-      go : (o : Option Replay) → replayed plan r (line_told e) ≡ o →
-          elim o as (λ _. Audit) [ None ↦ No number | Some after ↦ audit_told plan after (number + 1) es ] ≡ Yes →
+      go : (o : Option Replay) → replayed plan r (line_reported e) ≡ o →
+          elim o as (λ _. Audit) [ None ↦ No number | Some after ↦ audit_reported plan after (number + 1) es ] ≡ Yes →
           ((after : Replay) → Small (most + 1) after.all after.last_choice →
-          audit_told plan after (number + 1) es ≡ Yes → All (HasForm nodes files) es) → All (HasForm nodes files) (e ∷ es)
+          audit_reported plan after (number + 1) es ≡ Yes → All (HasForm nodes files) es) → All (HasForm nodes files) (e ∷ es)
       go None f answer more = absurd (cc (answer))
       go (Some after) f answer more =
           let p : Passed plan r e after = passed plan r e after f in
@@ -105,12 +105,12 @@ fires_named plan keeps =
     }
 
 pub forms_of : (nodes : List Node) (files : List (List ℕ)) (plan : Plan) (es : List Event) → KeepsLimits plan →
-    audit_told plan nothing_told 1 es ≡ Yes → All (PartsFit nodes files) es → length es < 2 ^ 64 →
+    audit_reported plan nothing_reported 1 es ≡ Yes → All (PartsFit nodes files) es → length es < 2 ^ 64 →
     HaveForms nodes files es
 forms_of nodes files plan es keeps passed_all alone few =
     record {
       is = all_fit nodes files plan (fires_named plan keeps)
-          (let u = keeps.units in omega (arith, u)) es nothing_told 1 0 passed_all
+          (let u = keeps.units in omega (arith, u)) es nothing_reported 1 0 passed_all
           (record {
             few = omega arith;
             arrivals = λ k x e. absurd (cc (e));

@@ -8,7 +8,7 @@ use Rattle.scj_model.specs.TraceText.{unit_of}
 use Rattle.trace_audit.specs.declared.lines.Entry.{Entry}
 use Rattle.trace_audit.specs.declared.lines.Entry.TheVariants.{Mission, Register, Exec, Arrive, Lost, Miss, Run, Idle, Prio, Print, Fault, End, Terminate, Drop, Cleanup, Done, Halted, Stopped}
 use Rattle.trace_audit.specs.Passing.{begun, entry_done, is_above, entry_passes, is_first, is_from, is_in_order, is_within, misses_no_choice, replayed, rest_done}
-use Rattle.trace_audit.specs.Printed.{entry_told, line_told}
+use Rattle.trace_audit.specs.Printed.{entry_reported, line_reported}
 use Rattle.trace_audit.specs.Replay.{Replay, differs, is_executing}
 
 -- a line of this unit may come: no last line stood, the unit isn't below that of the line before, and no choice was
@@ -157,18 +157,18 @@ five false true true true false p q r s t = absurd (cc (t))
 
 -- the replay behind a line of the unit
 abbrev pub behind : Replay → Event → Replay
-behind r e = entry_done (begun r (unit_of e)) (unit_of e) (entry_told e)
+behind r e = entry_done (begun r (unit_of e)) (unit_of e) (entry_reported e)
 
 pub line_passes : (plan : Plan) (unit : ℕ) (r : Replay) (e : Event) → Live plan unit r → unit_of e ≡ unit →
-    (entry_told e ≡ Stopped → ⊥) → entry_passes plan r unit (entry_told e) ≡ true →
-    replayed plan r (line_told e) ≡ Some (entry_done (begun r unit) unit (entry_told e))
+    (entry_reported e ≡ Stopped → ⊥) → entry_passes plan r unit (entry_reported e) ≡ true →
+    replayed plan r (line_reported e) ≡ Some (entry_done (begun r unit) unit (entry_reported e))
 unfolding replayed
 line_passes plan unit r e live at other passes_so =
-    subst (λ (u : ℕ). replayed plan r (record { unit = u; entry = entry_told e })
-    ≡ Some (entry_done (begun r unit) unit (entry_told e))) (sym at)
-    (ap (λ (b : Bool). if b then Some (entry_done (begun r unit) unit (entry_told e)) else None)
+    subst (λ (u : ℕ). replayed plan r (record { unit = u; entry = entry_reported e })
+    ≡ Some (entry_done (begun r unit) unit (entry_reported e))) (sym at)
+    (ap (λ (b : Bool). if b then Some (entry_done (begun r unit) unit (entry_reported e)) else None)
     (five r.is_over (is_in_order r unit) _ (misses_no_choice r unit) _ live.goes_on live.in_order
-    (within_by plan unit (entry_told e) other live.within) live.ready passes_so))
+    (within_by plan unit (entry_reported e) other live.within) live.ready passes_so))
 
 pub line_opens : (unit : ℕ) (r : Replay) (e : Entry) → is_in_order r unit ≡ true →
     Opened unit r (entry_done (begun r unit) unit e)

@@ -29,7 +29,7 @@ pub mod Sequenced
 pub mod Sequencing
 pub mod Small
 pub mod Stands
-pub mod Told
+pub mod Reported
 pub mod Turned
 pub mod Turning
 pub mod Urgencies

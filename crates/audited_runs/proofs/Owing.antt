@@ -74,8 +74,8 @@ module _ (s t : State) (r : Replay) (h : Executes s r) (alike : Alike s t) (wait
       last_before s.last_choice h.last (sym (ap (λ o. holds o (is_same_turn (turn_of (chosen t)))) alike.last) ∙ e)
 
   -- so a choice that is owed is told
-  pub owed_is_told : differs r ≡ true → is_last t ≡ false
-  owed_is_told e = go (is_last t) refl
+  pub owed_is_reported : differs r ≡ true → is_last t ≡ false
+  owed_is_reported e = go (is_last t) refl
     where
       go : (b : Bool) → is_last t ≡ b → is_last t ≡ false
       go true f = absurd (cc (e, differs_as s r h ∙ ap not (was_last f)))
@@ -150,14 +150,14 @@ not_above : (unit : ℕ) → nat_lt unit unit ≡ false
 not_above unit = grind (arith, nat_tests)
 
 module _ (unit : ℕ) (r after : Replay) (first : is_first r unit ≡ true) (ready : misses_no_choice r unit ≡ true)
-    (told : is_executing r ≡ true → differs r ≡ true → HasChoice unit after) where
+    (reported : is_executing r ≡ true → differs r ≡ true → HasChoice unit after) where
   -- no line stood in the unit, so Pick is the last choice
   agrees : r ≡ after → is_executing r ≡ true → differs r ≡ false
   agrees same exec = go (differs r) refl
     where
       go : (b : Bool) → differs r ≡ b → differs r ≡ false
       go true e =
-          let k : HasChoice unit after = told exec e in
+          let k : HasChoice unit after = reported exec e in
           let at : r.unit ≡ Some unit = ap (λ (x : Replay). x.unit) same ∙ k.is_unit in
           absurd (cc (first, ap (λ o. is_above o unit) at ∙ not_above unit))
       go false e = e
@@ -189,7 +189,7 @@ module _ (unit : ℕ) (r after : Replay) (first : is_first r unit ≡ true) (rea
       paid : (a b : Bool) → is_executing r ≡ a → differs r ≡ b → after.owes_choice ≡ (a && b) →
           (not after.owes_choice || after.has_choice) ≡ true
       paid true true e f o =
-          ap (λ c. not after.owes_choice || c) (told e f).has ∙ right (not after.owes_choice)
+          ap (λ c. not after.owes_choice || c) (reported e f).has ∙ right (not after.owes_choice)
         where
           right : (b : Bool) → (b || true) ≡ true
           right true = refl

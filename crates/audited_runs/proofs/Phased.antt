@@ -26,9 +26,9 @@ use Rattle.audited_runs.proofs.InUnit.{Live}
 use Rattle.accepted_laws.proofs.Tools.{some_inj}
 use Rattle.audited_runs.proofs.Stands.{stands_same}
 use Rattle.audited_runs.proofs.Executing.{Executes}
-use Rattle.audited_runs.proofs.Following.{HaltTold, HoldsFor, Initializes, SeqTold, halt_told, since_out}
+use Rattle.audited_runs.proofs.Following.{HaltReported, HoldsFor, Initializes, SeqReported, halt_reported, since_out}
 use Rattle.audited_runs.proofs.Leaving.{exec_op, no_more, none_left, not_true}
-use Rattle.audited_runs.proofs.Phasing.{cleanup_told, done_told, exec_told, mission_told, quiet_phase, skipped_told}
+use Rattle.audited_runs.proofs.Phasing.{cleanup_reported, done_reported, exec_reported, mission_reported, quiet_phase, skipped_reported}
 
 -- after the operation of a unit
 pub record Phases (plan : Plan) (t : State) (m : Replay) : Type 0 where
@@ -43,7 +43,7 @@ pub record Phases (plan : Plan) (t : State) (m : Replay) : Type 0 where
   pub started : is_exec t.phase ≡ false → has_started t ≡ false
 
 abbrev pub PhaseOf : Plan → State → Replay → Step → Type 0
-PhaseOf plan t m step = SeqTold plan t.unit m step.state step.events
+PhaseOf plan t m step = SeqReported plan t.unit m step.state step.events
 
 module _ (plan : Plan) (code : Code) (t : State) (m : Replay) (h : Phases plan t m) where
   lives : m.is_over ≡ false → Live plan t.unit m
@@ -62,7 +62,7 @@ module _ (plan : Plan) (code : Code) (t : State) (m : Replay) (h : Phases plan t
       let parts = and_parts t.is_end_asked (not (has_started t)) over in
       let goes : m.is_over ≡ false =
       h.over ∙ ap is_over (h.fits ∙ ap phase_of (exec_op t.operation (ap is_exec (sym h.fits) ∙ exec))) in
-      cleanup_told plan t.unit m
+      cleanup_reported plan t.unit m
       (gone_to t (record { phase = Cleanup; operation = CleanUp object; effect = EndsExecution })) object (lives goes)
       (none_left t m e (h.waits (no_more t parts.0)) (not_true (has_started t) parts.1)) refl refl refl
 
@@ -117,7 +117,7 @@ module _ (plan : Plan) (code : Code) (t : State) (m : Replay) (h : Phases plan t
 
     -- it goes on to another operation, and nothing is told
     goes_on : (u : State) → m.is_over ≡ false → executes_since u ≡ None → is_over u.phase ≡ false →
-        HoldsFor u m u.operation → SeqTold plan t.unit m u []
+        HoldsFor u m u.operation → SeqReported plan t.unit m u []
     goes_on u goes since over holds =
         quiet_phase plan t.unit m u holds (none_since ∙ sym since) (goes ∙ sym over)
 
@@ -131,7 +131,7 @@ module _ (plan : Plan) (code : Code) (t : State) (m : Replay) (h : Phases plan t
         u = gone_to t (record { phase = Next; operation = GetNextMission object; effect = ClosesMission })
 
         go : (o : Option ℕ) →
-            SeqTold plan t.unit m
+            SeqReported plan t.unit m
             (record (closed u o) {
               activity = record u.activity { areas = without_innermost u.activity.areas };
               registry = [];
@@ -154,13 +154,13 @@ module _ (plan : Plan) (code : Code) (t : State) (m : Replay) (h : Phases plan t
         (transition_done code t (record { phase = Over; operation = Finished; effect = LacksSequencer object }))
     unfolding seq_applied fault_in executes_since is_exec is_over
     halts object goes =
-        let k : HaltTold plan t.unit m (event.Fault t.unit NullPointer
+        let k : HaltReported plan t.unit m (event.Fault t.unit NullPointer
         (position_of_object code (gone_to t (record {
           phase = Over;
           operation = Finished;
           effect = LacksSequencer object;
         })) object) ∷ event.Halted t.unit ∷ []) =
-        halt_told plan t.unit m _ NullPointer (lives goes) in
+        halt_reported plan t.unit m _ NullPointer (lives goes) in
         record {
           after = k.after;
           is = k.is;
@@ -206,14 +206,14 @@ module _ (plan : Plan) (code : Code) (t : State) (m : Replay) (h : Phases plan t
         })) { mission = Some q; is_end_asked = false; earlier_releases = length t.releases }) over refl refl
         (record { registry = holds; earlier = refl })) e
     by_value step known skips (GetNextMission r) (Int z) op holds over e =
-        of_step _ step (done_told plan t.unit m _ (lives over) none_since refl refl) e
+        of_step _ step (done_reported plan t.unit m _ (lives over) none_since refl refl) e
     by_value step known skips (GetNextMission r) (Truth b) op holds over e =
-        of_step _ step (done_told plan t.unit m _ (lives over) none_since refl refl) e
+        of_step _ step (done_reported plan t.unit m _ (lives over) none_since refl refl) e
     by_value step known skips (GetNextMission r) Null op holds over e =
-        of_step _ step (done_told plan t.unit m _ (lives over) none_since refl refl) e
+        of_step _ step (done_reported plan t.unit m _ (lives over) none_since refl refl) e
     by_value step known skips (OpenMission r) value op holds over e =
         of_step _ step
-        (mission_told plan t.unit m (gone_to t (record {
+        (mission_reported plan t.unit m (gone_to t (record {
           phase = Init;
           operation = Initialize r;
           effect = BeginsMission r;
@@ -222,14 +222,14 @@ module _ (plan : Plan) (code : Code) (t : State) (m : Replay) (h : Phases plan t
         (h.waits (ap (λ b. b && not t.is_end_asked) out)) (h.started out)) e
     by_value step known true (Initialize r) value op holds over e =
         of_step _ step
-        (skipped_told plan t.unit m (gone_to t (record {
+        (skipped_reported plan t.unit m (gone_to t (record {
           phase = Cleanup;
           operation = CleanUp r;
           effect = SkipsExecution;
         })) r (lives over) holds.none refl refl refl) e
     by_value step known false (Initialize r) value op holds over e =
         of_step _ step
-        (exec_told plan m (gone_to t (record { phase = Exec; operation = Execute; effect = BeginsExecution }))
+        (exec_reported plan m (gone_to t (record { phase = Exec; operation = Execute; effect = BeginsExecution }))
         (lives over) (initializes_gone holds) refl refl refl) e
     by_value step None skips (CleanUp r) value op holds over e = absurd (cc (e))
     by_value step (Some q) skips (CleanUp r) value op holds over e = of_step _ step (closes q over) e

@@ -15,49 +15,49 @@ use Rattle.scj_model.specs.TraceText.{unit_of}
 use Rattle.scj_model.specs.State.{ReleaseStatus, Waits, Started, Ended, Dropped, Release, State, is_exec, is_over, is_started, is_waiting}
 use Rattle.trace_audit.specs.declared.lines.Entry.TheVariants.{Mission, Exec as ExecEntry, Cleanup as CleanupEntry, Done, Stopped}
 use Rattle.trace_audit.specs.Passing.{begun, entry_done, entry_passes, rest_done, table_done}
-use Rattle.trace_audit.specs.Printed.{entry_told}
+use Rattle.trace_audit.specs.Printed.{entry_reported}
 use Rattle.trace_audit.specs.Replay.{Releases, Replay, candidates_from, picked_index}
 use Rattle.trace_audit.specs.StandsFor.{StandsFor}
-use Rattle.audited_runs.proofs.Told.{told, told_none, told_one, told_then}
+use Rattle.audited_runs.proofs.Reported.{reported, reported_none, reported_one, reported_then}
 use Rattle.audited_runs.proofs.InUnit.{Kept, Live, kept_then, line_opens, line_passes, live_kept}
 use Rattle.accepted_laws.proofs.Tools.{some_inj}
 use Rattle.audited_runs.proofs.Named.{Named, named_nothing}
 use Rattle.audited_runs.proofs.Stands.{stands_first, stands_same}
 use Rattle.audited_runs.proofs.Executing.{Executes, SameCore, core_begun}
-use Rattle.audited_runs.proofs.Following.{HoldsFor, Initializes, OpensMission, SeqTold}
+use Rattle.audited_runs.proofs.Following.{HoldsFor, Initializes, OpensMission, SeqReported}
 
 -- ---- nothing is told
 
 pub quiet_phase : (plan : Plan) (unit : ℕ) (m : Replay) (t : State) → HoldsFor t m t.operation →
-    m.executes_since ≡ executes_since t → m.is_over ≡ is_over t.phase → SeqTold plan unit m t []
+    m.executes_since ≡ executes_since t → m.is_over ≡ is_over t.phase → SeqReported plan unit m t []
 quiet_phase plan unit m t holds since over =
-    record { after = m; is = told_none plan m; kept = inl refl; holds = holds; since = since; over = over }
+    record { after = m; is = reported_none plan m; kept = inl refl; holds = holds; since = since; over = over }
 
 -- ---- a line without parts
 
 -- an entry whose line stands for itself
-pub record LineTold (plan : Plan) (unit : ℕ) (m : Replay) (e : Event) : Type 0 where
-  pub is : told plan m (e ∷ []) ≡ Some (entry_done (begun m unit) unit (entry_told e))
-  pub kept : Kept unit m (entry_done (begun m unit) unit (entry_told e))
+pub record LineReported (plan : Plan) (unit : ℕ) (m : Replay) (e : Event) : Type 0 where
+  pub is : reported plan m (e ∷ []) ≡ Some (entry_done (begun m unit) unit (entry_reported e))
+  pub kept : Kept unit m (entry_done (begun m unit) unit (entry_reported e))
 
-pub line_told_so : (plan : Plan) (unit : ℕ) (m : Replay) (e : Event) → Live plan unit m → unit_of e ≡ unit →
-    (entry_told e ≡ Stopped → ⊥) → entry_passes plan m unit (entry_told e) ≡ true → LineTold plan unit m e
-line_told_so plan unit m e live at other passes =
+pub line_reported_so : (plan : Plan) (unit : ℕ) (m : Replay) (e : Event) → Live plan unit m → unit_of e ≡ unit →
+    (entry_reported e ≡ Stopped → ⊥) → entry_passes plan m unit (entry_reported e) ≡ true → LineReported plan unit m e
+line_reported_so plan unit m e live at other passes =
     record {
-      is = told_one plan m (entry_done (begun m unit) unit (entry_told e)) e
+      is = reported_one plan m (entry_done (begun m unit) unit (entry_reported e)) e
           (line_passes plan unit m e live at other passes);
-      kept = inr (line_opens unit m (entry_told e) live.in_order);
+      kept = inr (line_opens unit m (entry_reported e) live.in_order);
     }
 
 -- ---- `done`
 
-pub done_told : (plan : Plan) (unit : ℕ) (m : Replay) (t : State) → Live plan unit m →
+pub done_reported : (plan : Plan) (unit : ℕ) (m : Replay) (t : State) → Live plan unit m →
     m.executes_since ≡ executes_since t → t.operation ≡ Finished → is_over t.phase ≡ true →
-    SeqTold plan unit m t (event.Done unit ∷ [])
-unfolding entry_told unit_of entry_passes rest_done table_done
-done_told plan unit m t live since op over =
-    let k : LineTold plan unit m (event.Done unit) =
-    line_told_so plan unit m (event.Done unit) live refl (λ e. cc (e)) refl in
+    SeqReported plan unit m t (event.Done unit ∷ [])
+unfolding entry_reported unit_of entry_passes rest_done table_done
+done_reported plan unit m t live since op over =
+    let k : LineReported plan unit m (event.Done unit) =
+    line_reported_so plan unit m (event.Done unit) live refl (λ e. cc (e)) refl in
     let core : SameCore m (begun m unit) = core_begun m unit in
     record {
       after = entry_done (begun m unit) unit Done;
@@ -115,16 +115,16 @@ mission_core : (b : Replay) (unit : ℕ) →
 unfolding rest_done
 mission_core b unit = (refl, refl)
 
-pub mission_told : (plan : Plan) (unit : ℕ) (m : Replay) (t : State) (class : List ℕ) (object : ℕ) →
+pub mission_reported : (plan : Plan) (unit : ℕ) (m : Replay) (t : State) (class : List ℕ) (object : ℕ) →
     Live plan unit m → m.executes_since ≡ executes_since t → t.operation ≡ Initialize object →
     is_over t.phase ≡ false → OpensMission t →
     list_any (λ (r : Release). is_waiting r.status) t.releases ≡ false →
     list_any (λ (r : Release). is_started r.status) t.releases ≡ false →
-    SeqTold plan unit m t (event.Mission unit class ∷ [])
-unfolding entry_told unit_of entry_passes
-mission_told plan unit m t class object live since op over opens w st =
-    let k : LineTold plan unit m (event.Mission unit class) =
-    line_told_so plan unit m (event.Mission unit class) live refl (λ e. cc (e)) refl in
+    SeqReported plan unit m t (event.Mission unit class ∷ [])
+unfolding entry_reported unit_of entry_passes
+mission_reported plan unit m t class object live since op over opens w st =
+    let k : LineReported plan unit m (event.Mission unit class) =
+    line_reported_so plan unit m (event.Mission unit class) live refl (λ e. cc (e)) refl in
     let core : SameCore m (begun m unit) = core_begun m unit in
     record {
       after = entry_done (begun m unit) unit Mission;
@@ -169,13 +169,13 @@ initializes_begun s m unit h =
       none = ap (λ (all : Releases). all.releases) core.all ∙ h.none;
     }
 
-pub exec_told : (plan : Plan) (m : Replay) (s : State) → Live plan s.unit m → Initializes s m →
+pub exec_reported : (plan : Plan) (m : Replay) (s : State) → Live plan s.unit m → Initializes s m →
     is_exec s.phase ≡ true → s.operation ≡ Execute → is_over s.phase ≡ false →
-    SeqTold plan s.unit m (begins_execution s) (event.Exec s.unit ∷ [])
-unfolding entry_told unit_of entry_passes
-exec_told plan m s live h exec op over =
-    let k : LineTold plan s.unit m (event.Exec s.unit) =
-    line_told_so plan s.unit m (event.Exec s.unit) live refl (λ e. cc (e)) refl in
+    SeqReported plan s.unit m (begins_execution s) (event.Exec s.unit ∷ [])
+unfolding entry_reported unit_of entry_passes
+exec_reported plan m s live h exec op over =
+    let k : LineReported plan s.unit m (event.Exec s.unit) =
+    line_reported_so plan s.unit m (event.Exec s.unit) live refl (λ e. cc (e)) refl in
     let core : SameCore m (begun m s.unit) = core_begun m s.unit in
     let e : Executes (begins_execution s) (entry_done (begun m s.unit) s.unit ExecEntry) =
     exec_begins s (begun m s.unit) (initializes_begun s m s.unit h) exec in
@@ -196,13 +196,13 @@ cleanup_core : (b : Replay) (unit : ℕ) →
 unfolding rest_done
 cleanup_core b unit = (refl, refl)
 
-pub cleanup_told : (plan : Plan) (unit : ℕ) (m : Replay) (t : State) (object : ℕ) → Live plan unit m →
+pub cleanup_reported : (plan : Plan) (unit : ℕ) (m : Replay) (t : State) (object : ℕ) → Live plan unit m →
     picked_index m.all ≡ None → executes_since t ≡ None → t.operation ≡ CleanUp object → is_over t.phase ≡ false →
-    SeqTold plan unit m t (event.Cleanup unit ∷ [])
-unfolding entry_told unit_of entry_passes
-cleanup_told plan unit m t object live none since op over =
-    let k : LineTold plan unit m (event.Cleanup unit) =
-    line_told_so plan unit m (event.Cleanup unit) live refl (λ e. cc (e)) (ap is_none none) in
+    SeqReported plan unit m t (event.Cleanup unit ∷ [])
+unfolding entry_reported unit_of entry_passes
+cleanup_reported plan unit m t object live none since op over =
+    let k : LineReported plan unit m (event.Cleanup unit) =
+    line_reported_so plan unit m (event.Cleanup unit) live refl (λ e. cc (e)) (ap is_none none) in
     let core : SameCore m (begun m unit) = core_begun m unit in
     record {
       after = entry_done (begun m unit) unit CleanupEntry;
@@ -218,23 +218,23 @@ unfolding picked_index candidates_from most_urgent
 none_picked all e =
     ap (λ rs. option_map (λ (c : Candidate). c.index) (most_urgent (candidates_from all.handlers 0 rs))) e
 
-pub skipped_told : (plan : Plan) (unit : ℕ) (m : Replay) (t : State) (object : ℕ) → Live plan unit m →
+pub skipped_reported : (plan : Plan) (unit : ℕ) (m : Replay) (t : State) (object : ℕ) → Live plan unit m →
     m.all.releases ≡ [] → executes_since t ≡ None → t.operation ≡ CleanUp object → is_over t.phase ≡ false →
-    SeqTold plan unit m t (event.Exec unit ∷ event.Cleanup unit ∷ [])
-unfolding entry_told unit_of entry_passes
-skipped_told plan unit m t object live empty since op over =
-    let k : LineTold plan unit m (event.Exec unit) =
-    line_told_so plan unit m (event.Exec unit) live refl (λ e. cc (e)) refl in
+    SeqReported plan unit m t (event.Exec unit ∷ event.Cleanup unit ∷ [])
+unfolding entry_reported unit_of entry_passes
+skipped_reported plan unit m t object live empty since op over =
+    let k : LineReported plan unit m (event.Exec unit) =
+    line_reported_so plan unit m (event.Exec unit) live refl (λ e. cc (e)) refl in
     let core : SameCore m (begun m unit) = core_begun m unit in
     let n : Replay = entry_done (begun m unit) unit ExecEntry in
     let goes : n.is_over ≡ false = (exec_core (begun m unit) unit).1 ∙ (core.over ∙ live.goes_on) in
-    let rest : SeqTold plan unit n t (event.Cleanup unit ∷ []) =
-    cleanup_told plan unit n t object (live_kept plan unit m n live k.kept goes)
+    let rest : SeqReported plan unit n t (event.Cleanup unit ∷ []) =
+    cleanup_reported plan unit n t object (live_kept plan unit m n live k.kept goes)
     (none_picked n.all
     (ap (λ (all : Releases). all.releases) ((exec_core (begun m unit) unit).2 ∙ core.all) ∙ empty)) since op over in
     record {
       after = rest.after;
-      is = told_then plan m n rest.after (event.Exec unit ∷ []) (event.Cleanup unit ∷ []) k.is rest.is;
+      is = reported_then plan m n rest.after (event.Exec unit ∷ []) (event.Cleanup unit ∷ []) k.is rest.is;
       kept = kept_then unit m n rest.after k.kept rest.kept;
       holds = rest.holds;
       since = rest.since;

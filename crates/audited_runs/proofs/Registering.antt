@@ -11,16 +11,16 @@ use Rattle.scj_model.specs.State.{State, is_exec, is_init, is_over}
 use Rattle.mission_sound.specs.Invariant.{phase_of}
 use Rattle.trace_audit.specs.declared.lines.Entry.TheVariants.{Register}
 use Rattle.trace_audit.specs.Passing.{begun, entry_done, entry_passes, rest_done, table_done}
-use Rattle.trace_audit.specs.Printed.{entry_told}
+use Rattle.trace_audit.specs.Printed.{entry_reported}
 use Rattle.trace_audit.specs.Replay.{HandlerSeen, Replay}
 use Rattle.trace_audit.specs.StandsFor.{StandsFor}
-use Rattle.audited_runs.proofs.Told.{told_one}
+use Rattle.audited_runs.proofs.Reported.{reported_one}
 use Rattle.audited_runs.proofs.InUnit.{line_opens, line_passes}
 use Rattle.audited_runs.proofs.Named.{AreNamed, named_handler}
 use Rattle.audited_runs.proofs.Stands.{stands_registered}
 use Rattle.audited_runs.proofs.Executing.{Beside, SameCore, core_begun}
 use Rattle.priority_laws.proofs.AreaLists.{same_test}
-use Rattle.audited_runs.proofs.Following.{Around, HoldsFor, Initializes, SeqTold, Sequences, initializes_core, since_out}
+use Rattle.audited_runs.proofs.Following.{Around, HoldsFor, Initializes, SeqReported, Sequences, initializes_core, since_out}
 
 -- ---- a handler is registered
 
@@ -77,11 +77,11 @@ init_op (CleanUp object) e = absurd (cc (e))
 init_op Execute e = absurd (cc (e))
 init_op Finished e = absurd (cc (e))
 
-pub register_told : (plan : Plan) (s t : State) (r : Replay) (row : HandlerRow) (class : List ℕ) →
+pub register_reported : (plan : Plan) (s t : State) (r : Replay) (row : HandlerRow) (class : List ℕ) →
     Sequences plan s r → Around s t → is_init s.phase ≡ true →
-    SeqTold plan s.unit r (with_row t row) (event.Register s.unit (length s.registry + 1) class row.priority ∷ [])
-unfolding entry_told unit_of
-register_told plan s t r row class h a init =
+    SeqReported plan s.unit r (with_row t row) (event.Register s.unit (length s.registry + 1) class row.priority ∷ [])
+unfolding entry_reported unit_of
+register_reported plan s t r row class h a init =
     let op : IsInitialize s.operation = init_op s.operation (sym (ap is_init h.fits) ∙ init) in
     let begins : Initializes s r = subst (λ (o : SeqOp). HoldsFor s r o) op.is h.holds in
     let b : Replay = begun r s.unit in
@@ -89,7 +89,7 @@ register_told plan s t r row class h a init =
     let after : Replay = entry_done b s.unit (Register (length s.registry + 1) row.priority) in
     record {
       after = after;
-      is = told_one plan r after (event.Register s.unit (length s.registry + 1) class row.priority)
+      is = reported_one plan r after (event.Register s.unit (length s.registry + 1) class row.priority)
           (line_passes plan s.unit r (event.Register s.unit (length s.registry + 1) class row.priority) h.live refl
           (λ e. cc (e)) (register_passes plan s r s.unit row.priority begins.stands));
       kept = inr (line_opens s.unit r (Register (length s.registry + 1) row.priority) h.live.in_order);

@@ -16,12 +16,12 @@ use Rattle.scj_model.proofs.Units.{acts_keep_unit, arrivals_keep_unit, phase_kee
 use Rattle.trace_audit.specs.declared.answers.Audit.TheVariants.{Yes}
 use Rattle.trace_audit.specs.declared.lines.Entry.TheVariants.{Stopped}
 use Rattle.trace_audit.specs.Passing.{begun, entry_done, entry_passes, is_in_order, misses_no_choice, replayed, rest_done}
-use Rattle.trace_audit.specs.Printed.{audit_told, entry_told, line_told}
-use Rattle.trace_audit.specs.Replay.{Replay, nothing_told}
-use Rattle.audited_runs.proofs.Told.{told, told_is_yes, told_none, told_one, told_then}
+use Rattle.trace_audit.specs.Printed.{audit_reported, entry_reported, line_reported}
+use Rattle.trace_audit.specs.Replay.{Replay, nothing_reported}
+use Rattle.audited_runs.proofs.Reported.{reported, reported_is_yes, reported_none, reported_one, reported_then}
 use Rattle.audited_runs.proofs.InUnit.{five}
 use Rattle.audited_runs.proofs.Following.{Follows}
-use Rattle.audited_runs.proofs.OneUnit.{Fits, UnitParts, UnitTold, unit_parts, unit_told}
+use Rattle.audited_runs.proofs.OneUnit.{Fits, UnitParts, UnitReported, unit_parts, unit_reported}
 use Rattle.audited_runs.proofs.Owing.{first_in_order}
 use Rattle.priority_laws.proofs.AreaLists.{same_test}
 
@@ -29,13 +29,13 @@ use Rattle.priority_laws.proofs.AreaLists.{same_test}
 
 -- all lines pass so far, the replay behind them follows the state, and where the run goes on, its unit is the number of
 -- those that passed
-pub record RunTold (plan : Plan) (n : ℕ) (r : RunSoFar) : Type 0 where
+pub record RunReported (plan : Plan) (n : ℕ) (r : RunSoFar) : Type 0 where
   pub after : Replay
-  pub is : told plan nothing_told r.events ≡ Some after
+  pub is : reported plan nothing_reported r.events ≡ Some after
   pub follows : Follows r.state after
   pub unit : has_ended r ≡ false → r.state.unit ≡ n
 
-first_follows : (code : Code) (plan : Plan) → Follows (empty_state code plan) nothing_told
+first_follows : (code : Code) (plan : Plan) → Follows (empty_state code plan) nothing_reported
 unfolding empty_state executes_since is_exec is_over
 first_follows code plan = record { holds = refl; since = refl; over = refl; first = refl; ready = refl }
 
@@ -43,12 +43,12 @@ first_unit : (code : Code) (plan : Plan) → (empty_state code plan).unit ≡ 0
 unfolding empty_state
 first_unit code plan = refl
 
-run_begins : (code : Code) (plan : Plan) → RunTold plan 0 (run code plan by_priority 0)
+run_begins : (code : Code) (plan : Plan) → RunReported plan 0 (run code plan by_priority 0)
 unfolding run
 run_begins code plan =
     record {
-      after = nothing_told;
-      is = told_none plan nothing_told;
+      after = nothing_reported;
+      is = reported_none plan nothing_reported;
       follows = first_follows code plan;
       unit = λ e. first_unit code plan;
     }
@@ -70,8 +70,8 @@ stopped_over b unit = refl
 
 stopped_passes : (plan : Plan) (r : Replay) → r.is_over ≡ false → is_in_order r plan.units ≡ true →
     misses_no_choice r plan.units ≡ true →
-    replayed plan r (line_told (event.Stopped plan.units)) ≡ Some (entry_done (begun r plan.units) plan.units Stopped)
-unfolding replayed entry_told unit_of entry_passes
+    replayed plan r (line_reported (event.Stopped plan.units)) ≡ Some (entry_done (begun r plan.units) plan.units Stopped)
+unfolding replayed entry_reported unit_of entry_passes
 stopped_passes plan r goes order ready =
     ap (λ (b : Bool). if b then Some (entry_done (begun r plan.units) plan.units Stopped) else None)
     (five r.is_over (is_in_order r plan.units) (plan.units == plan.units) (misses_no_choice r plan.units) true goes order
@@ -79,14 +79,14 @@ stopped_passes plan r goes order ready =
 
 -- a run that hasn't ended is stopped
 stopped_is_yes : (plan : Plan) (events : List Event) (s : State) (r : Replay) →
-    told plan nothing_told events ≡ Some r → Follows s r → s.unit ≡ plan.units → is_over s.phase ≡ false →
-    audit_told plan nothing_told 1 (events ++ event.Stopped plan.units ∷ []) ≡ Yes
+    reported plan nothing_reported events ≡ Some r → Follows s r → s.unit ≡ plan.units → is_over s.phase ≡ false →
+    audit_reported plan nothing_reported 1 (events ++ event.Stopped plan.units ∷ []) ≡ Yes
 stopped_is_yes plan events s r is follows at lives =
-    told_is_yes plan nothing_told (entry_done (begun r plan.units) plan.units Stopped) 1
+    reported_is_yes plan nothing_reported (entry_done (begun r plan.units) plan.units Stopped) 1
     (events ++ event.Stopped plan.units ∷ [])
-    (told_then plan nothing_told r (entry_done (begun r plan.units) plan.units Stopped) events
+    (reported_then plan nothing_reported r (entry_done (begun r plan.units) plan.units Stopped) events
     (event.Stopped plan.units ∷ []) is
-    (told_one plan r (entry_done (begun r plan.units) plan.units Stopped) (event.Stopped plan.units)
+    (reported_one plan r (entry_done (begun r plan.units) plan.units Stopped) (event.Stopped plan.units)
     (stopped_passes plan r (follows.over ∙ lives)
     (ap (is_in_order r) (sym at) ∙ first_in_order r s.unit follows.first)
     (ap (misses_no_choice r) (sym at) ∙ follows.ready))))
@@ -114,20 +114,20 @@ module _ (code : Code) (plan : Plan)
       ap (λ b. if b then run code plan by_priority n
       else continued (run code plan by_priority n) (one_unit code plan by_priority (run code plan by_priority n).state)) ended
 
-  goes_on : (n : ℕ) → n < plan.units → RunTold plan n (run code plan by_priority n) →
+  goes_on : (n : ℕ) → n < plan.units → RunReported plan n (run code plan by_priority n) →
       has_ended (run code plan by_priority n) ≡ false → (u : Step) →
       one_unit code plan by_priority (run code plan by_priority n).state ≡ Some u →
-      RunTold plan (suc n) (continued (run code plan by_priority n) (Some u))
+      RunReported plan (suc n) (continued (run code plan by_priority n) (Some u))
   unfolding continued
   goes_on n within h lives u e =
       let parts = or_parts (is_over (run code plan by_priority n).state.phase) (run code plan by_priority n).is_stuck lives in
       let at : (run code plan by_priority n).state.unit ≡ n = h.unit lives in
-      let k : UnitTold plan h.after u.state u.events =
-      unit_told code plan (run code plan by_priority n).state h.after h.follows (fits n parts.0) parts.0
+      let k : UnitReported plan h.after u.state u.events =
+      unit_reported code plan (run code plan by_priority n).state h.after h.follows (fits n parts.0) parts.0
       (subst (λ m. m < plan.units) (sym at) within) u e in
       record {
         after = k.after;
-        is = told_then plan nothing_told h.after k.after (run code plan by_priority n).events u.events h.is k.is;
+        is = reported_then plan nothing_reported h.after k.after (run code plan by_priority n).events u.events h.is k.is;
         follows = k.follows;
         unit = λ f. next_number code plan (run code plan by_priority n).state u e ∙ next at;
       }
@@ -136,43 +136,43 @@ module _ (code : Code) (plan : Plan)
       next at = omega (arith, at)
 
   not_stuck : (n : ℕ) → has_ended (run code plan by_priority n) ≡ false →
-      one_unit code plan by_priority (run code plan by_priority n).state ≡ None → RunTold plan (suc n) (run code plan by_priority (suc n))
+      one_unit code plan by_priority (run code plan by_priority n).state ≡ None → RunReported plan (suc n) (run code plan by_priority (suc n))
   unfolding continued
   not_stuck n lives e = absurd (cc (free (suc n), ap (λ (x : RunSoFar). x.is_stuck) (more_is n lives None e)))
 
-  one_more : (n : ℕ) → n < plan.units → RunTold plan n (run code plan by_priority n) →
-      RunTold plan (suc n) (run code plan by_priority (suc n))
+  one_more : (n : ℕ) → n < plan.units → RunReported plan n (run code plan by_priority n) →
+      RunReported plan (suc n) (run code plan by_priority (suc n))
   one_more n within h = go (has_ended (run code plan by_priority n)) refl
     where
       by : (o : Option Step) → one_unit code plan by_priority (run code plan by_priority n).state ≡ o →
-          has_ended (run code plan by_priority n) ≡ false → RunTold plan (suc n) (run code plan by_priority (suc n))
+          has_ended (run code plan by_priority n) ≡ false → RunReported plan (suc n) (run code plan by_priority (suc n))
       by None e lives = not_stuck n lives e
       by (Some u) e lives =
-          subst (λ (x : RunSoFar). RunTold plan (suc n) x) (sym (more_is n lives (Some u) e))
+          subst (λ (x : RunSoFar). RunReported plan (suc n) x) (sym (more_is n lives (Some u) e))
           (goes_on n within h lives u e)
 
       go : (b : Bool) → has_ended (run code plan by_priority n) ≡ b →
-          RunTold plan (suc n) (run code plan by_priority (suc n))
+          RunReported plan (suc n) (run code plan by_priority (suc n))
       go true ended =
-          subst (λ (x : RunSoFar). RunTold plan (suc n) x) (sym (same_is n ended))
+          subst (λ (x : RunSoFar). RunReported plan (suc n) x) (sym (same_is n ended))
           (record { after = h.after; is = h.is; follows = h.follows; unit = λ f. absurd (cc (f, ended)) })
       go false lives = by (one_unit code plan by_priority (run code plan by_priority n).state) refl lives
 
-  run_told : (n : ℕ) → n ≤ plan.units → RunTold plan n (run code plan by_priority n)
-  run_told zero l = run_begins code plan
-  run_told (suc n) l = one_more n (omega (arith, l)) (run_told n (omega (arith, l)))
+  run_reported : (n : ℕ) → n ≤ plan.units → RunReported plan n (run code plan by_priority n)
+  run_reported zero l = run_begins code plan
+  run_reported (suc n) l = one_more n (omega (arith, l)) (run_reported n (omega (arith, l)))
 
   -- ---- the last line
 
-  pub run_is_audited : audit_told plan nothing_told 1 (trace code plan plan.units) ≡ Yes
+  pub run_is_audited : audit_reported plan nothing_reported 1 (trace code plan plan.units) ≡ Yes
   unfolding trace
   run_is_audited = go (has_ended so_far) refl
     where
       so_far : RunSoFar
       so_far = run code plan by_priority plan.units
 
-      h : RunTold plan plan.units so_far
-      h = run_told plan.units (omega arith)
+      h : RunReported plan plan.units so_far
+      h = run_reported plan.units (omega arith)
 
       over : has_ended so_far ≡ true → h.after.is_over ≡ true
       over e = h.follows.over ∙ by (is_over so_far.state.phase) so_far.is_stuck e (free plan.units)
@@ -182,9 +182,9 @@ module _ (code : Code) (plan : Plan)
           by false b f g = absurd (cc (f, g))
 
       go : (b : Bool) → has_ended so_far ≡ b →
-          audit_told plan nothing_told 1 (so_far.events ++ (if b then [] else event.Stopped plan.units ∷ [])) ≡ Yes
+          audit_reported plan nothing_reported 1 (so_far.events ++ (if b then [] else event.Stopped plan.units ∷ [])) ≡ Yes
       go true e =
-          told_is_yes plan nothing_told h.after 1 (so_far.events ++ [])
-          (ap (told plan nothing_told) (append-nil so_far.events) ∙ h.is) (over e)
+          reported_is_yes plan nothing_reported h.after 1 (so_far.events ++ [])
+          (ap (reported plan nothing_reported) (append-nil so_far.events) ∙ h.is) (over e)
       go false e = stopped_is_yes plan so_far.events so_far.state h.after h.is h.follows (h.unit e)
           (or_parts (is_over so_far.state.phase) so_far.is_stuck e).0

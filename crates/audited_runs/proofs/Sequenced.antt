@@ -157,10 +157,10 @@ module _ (plan : Plan) (s : State) (r : Replay) (h : Sequences plan s r) where
 
   -- ---- the operation of a unit outside execution
 
-  pub sequenced_told : (code : Code) (rows : List ReadingRow) (op : Step) → acts code rows by_priority s ≡ Some op →
+  pub sequenced_reported : (code : Code) (rows : List ReadingRow) (op : Step) → acts code rows by_priority s ≡ Some op →
       SeqOf plan s r op
   unfolding acts
-  sequenced_told code rows op e =
+  sequenced_reported code rows op e =
       (seq_turn code rows).is op
       (sym (ap (λ (b : Bool). if b
       then by_priority s >>= (λ turn. then_try (turn_taken s turn) (turn_acts code rows turn))

@@ -11,22 +11,22 @@ use Rattle.scj_model.specs.Code.{Code}
 use Rattle.scj_model.specs.State.{MemoryArea, Object, Frame, Activity, TheSequencer, State, with_activity, is_init, is_exec}
 use Rattle.scj_model.specs.Registry.{most_handlers, handler_number}
 use Rattle.scj_model.specs.Memory.{closed, has_room, has_store_for, area_with_scope, with_area, with_object}
-use Rattle.scj_model.specs.Steps.{Step, silently, telling, job_ended, fault_in, allocating, opening}
-use Rattle.scj_model.specs.Apply.{is_full, called, opened_in, frame_left, release_taken, registered, released, termination, termination_asked, asks_for_end, ceiling_entered, dropped_release, tell_dropped}
+use Rattle.scj_model.specs.Steps.{Step, silently, reporting, job_ended, fault_in, allocating, opening}
+use Rattle.scj_model.specs.Apply.{is_full, called, opened_in, frame_left, release_taken, registered, released, termination, termination_asked, asks_for_end, ceiling_entered, dropped_release, report_dropped}
 use Rattle.scj_model.specs.declared.events.Event.{Event}
 use Rattle.scj_model.specs.declared.events.Event.TheVariants as event
 use Rattle.scj_model.specs.Plan.{Plan}
 use Rattle.scj_model.specs.TraceText.{unit_of}
-use Rattle.scj_model.specs.Apply.{tell_priority, class_name}
+use Rattle.scj_model.specs.Apply.{report_priority, class_name}
 use Rattle.scj_model.specs.Registry.{new_row}
 use Rattle.trace_audit.specs.Replay.{Replay}
 use Rattle.audited_runs.proofs.Executing.{beside_same, beside_then}
-use Rattle.audited_runs.proofs.Acting.{none_told, print_tells_none}
-use Rattle.audited_runs.proofs.Following.{Around, Sequences, SeqTold, around_told, faults_told, quiet_told}
-use Rattle.audited_runs.proofs.Registering.{register_told}
+use Rattle.audited_runs.proofs.Acting.{none_reported, print_reports_none}
+use Rattle.audited_runs.proofs.Following.{Around, Sequences, SeqReported, around_reported, faults_reported, quiet_reported}
+use Rattle.audited_runs.proofs.Registering.{register_reported}
 
 abbrev pub SeqOf : Plan → State → Replay → Step → Type 0
-SeqOf plan s r step = SeqTold plan s.unit r step.state step.events
+SeqOf plan s r step = SeqReported plan s.unit r step.state step.events
 
 pub around_same : (s : State) → Around s s
 around_same s = record { beside = beside_same s; operation = refl }
@@ -72,10 +72,10 @@ module _ (plan : Plan) (s : State) (r : Replay) (h : Sequences plan s r) where
 
   pub seq_fault : (activity : Activity) (position : Position) (fault : RunFault) →
       SeqOf plan s r (fault_in s TheSequencer activity position fault)
-  seq_fault activity position fault = faults_told plan s r activity position fault h
+  seq_fault activity position fault = faults_reported plan s r activity position fault h
 
   pub quiet : (t : State) → Around s t → SeqOf plan s r (silently t)
-  quiet t a = quiet_told plan s t r h a
+  quiet t a = quiet_reported plan s t r h a
 
   pub gets : (t : State) (activity : Activity) → Around s t → Around s (record t { activity = activity })
   gets t activity a =
@@ -89,7 +89,7 @@ module _ (plan : Plan) (s : State) (r : Replay) (h : Sequences plan s r) where
       (around_parts t t.objects t.areas t.statics activity outcome)
 
   -- the priority of the sequencer is never told
-  no_priority : (before after : ℕ) → tell_priority s TheSequencer before after ≡ []
+  no_priority : (before after : ℕ) → report_priority s TheSequencer before after ≡ []
   no_priority before after = go (before == after)
     where
       go : (b : Bool) → ◌≡◌ {A = List Event} (if b then [] else []) []
@@ -103,7 +103,7 @@ module _ (plan : Plan) (s : State) (r : Replay) (h : Sequences plan s r) where
       seq_if (is_full frames) _ _ (seq_fault activity position _)
       (seq_option (ceiling_entered code s g) _ _ (quiet _ (gets s _ (around_same s)))
       (λ ceiling. seq_if (nat_lt ceiling activity.priority) _ _ (seq_fault activity position _)
-      (subst (λ es. SeqTold plan s.unit r
+      (subst (λ es. SeqReported plan s.unit r
       (record s {
         activity = record activity {
           frames = record g { saved = Some activity.priority } ∷ frames;
@@ -152,15 +152,15 @@ module _ (plan : Plan) (s : State) (r : Replay) (h : Sequences plan s r) where
             | [] ↦ job_ended (closed s f.opened) TheSequencer a value
             | g ∷ gs ↦ silently (with_activity (closed s f.opened) TheSequencer a)
           ] in
-          telling second.state
-          (tell_priority s TheSequencer activity.priority (unwrap_or f.saved activity.priority) ++ second.events))
+          reporting second.state
+          (report_priority s TheSequencer activity.priority (unwrap_or f.saved activity.priority) ++ second.events))
       go a [] =
-          subst (λ es. SeqTold plan s.unit r
+          subst (λ es. SeqReported plan s.unit r
           (record (closed s f.opened) { activity = a; outcome = Some (unwrap_or value Null) }) (es ++ []))
           (sym (no_priority activity.priority (unwrap_or f.saved activity.priority)))
           (quiet _ (gets_done (closed s f.opened) a (Some (unwrap_or value Null)) c))
       go a (g ∷ gs) =
-          subst (λ es. SeqTold plan s.unit r (record (closed s f.opened) { activity = a }) (es ++ []))
+          subst (λ es. SeqReported plan s.unit r (record (closed s f.opened) { activity = a }) (es ++ []))
           (sym (no_priority activity.priority (unwrap_or f.saved activity.priority)))
           (quiet _ (gets (closed s f.opened) a c))
 
@@ -171,8 +171,8 @@ module _ (plan : Plan) (s : State) (r : Replay) (h : Sequences plan s r) where
       seq_if (asks_for_end t.mission t.phase t.is_end_asked mission) _ _
       (subst (λ (b : Bool). SeqOf plan s r
       (if b
-      then telling (record t { is_end_asked = true; releases = map dropped_release t.releases })
-      (Terminate t.unit ∷ tell_dropped t)
+      then reporting (record t { is_end_asked = true; releases = map dropped_release t.releases })
+      (Terminate t.unit ∷ report_dropped t)
       else silently (record t { is_end_asked = true })))
       (sym (ap is_exec a.beside.alike.phase ∙ h.out))
       (quiet (record t { is_end_asked = true })
@@ -209,17 +209,17 @@ module _ (plan : Plan) (s : State) (r : Replay) (h : Sequences plan s r) where
           else (if not (nat_lt (length s.registry) most_handlers)
           then fault_in s TheSequencer activity position TooManyHandlers
           else (let row = new_row code.program object o in
-          telling (record after { registry = after.registry ++ row ∷ [] })
+          reporting (record after { registry = after.registry ++ row ∷ [] })
           (event.Register s.unit (length s.registry + 1) (class_name code o.class) row.priority ∷ [])))))
       go false e = seq_fault activity position _
       go true e =
           seq_if (is_some (handler_number s.registry object)) _ _ (quiet after a)
           (seq_if (not (nat_lt (length s.registry) most_handlers)) _ _ (seq_fault activity position _)
-          (register_told plan s after r (new_row code.program object o) (class_name code o.class) h a e))
+          (register_reported plan s after r (new_row code.program object o) (class_name code o.class) h a e))
 
   pub seq_print : (t : State) (label : ℕ) (value : ℤ) → Around s t →
-      SeqTold plan s.unit r t (event.Print s.unit label value ∷ [])
+      SeqReported plan s.unit r t (event.Print s.unit label value ∷ [])
   unfolding unit_of
   seq_print t label value a =
-      around_told plan s t r (event.Print s.unit label value ∷ []) h a
-      (none_told plan s.unit r (event.Print s.unit label value) (print_tells_none s.unit label value) h.live refl)
+      around_reported plan s t r (event.Print s.unit label value ∷ []) h a
+      (none_reported plan s.unit r (event.Print s.unit label value) (print_reports_none s.unit label value) h.live refl)

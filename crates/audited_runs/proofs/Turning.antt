@@ -17,11 +17,11 @@ use Rattle.trace_audit.specs.declared.lines.Entry.TheVariants.{Run}
 use Rattle.trace_audit.specs.declared.releases.Release.{Release}
 use Rattle.trace_audit.specs.declared.releases.Standing.TheVariants.{Started}
 use Rattle.trace_audit.specs.Passing.{begun, entry_done, entry_passes, rest_done, table_done}
-use Rattle.trace_audit.specs.Printed.{entry_told}
+use Rattle.trace_audit.specs.Printed.{entry_reported}
 use Rattle.trace_audit.specs.Replay.{Releases, Replay, differs, is_same_choice, is_waiting, picked, priority_at, start_with, started}
 use Rattle.trace_audit.specs.StandsFor.{StandsFor, release_seen, standing_of}
 use Rattle.trace_audit.proofs.ChosenLaws.{same_priority}
-use Rattle.audited_runs.proofs.Told.{told, told_none, told_one}
+use Rattle.audited_runs.proofs.Reported.{reported, reported_none, reported_one}
 use Rattle.audited_runs.proofs.InUnit.{Kept, Live, Opened, begun_same, line_opens, line_passes}
 use Rattle.audited_runs.proofs.Changes.{changed_as, changed_none}
 use Rattle.accepted_laws.proofs.Tools.{some_inj}
@@ -108,9 +108,9 @@ acts_from s r after p q active x h at there all last since =
       since = since ∙ h.since;
     }
 
-pub record RunTold (plan : Plan) (s : State) (r : Replay) (p : ℕ) (x : ReleaseNow) (es : List Event) : Type 0 where
+pub record RunReported (plan : Plan) (s : State) (r : Replay) (p : ℕ) (x : ReleaseNow) (es : List Event) : Type 0 where
   pub after : Replay
-  pub is : told plan r es ≡ Some after
+  pub is : reported plan r es ≡ Some after
   pub kept : Kept s.unit r after
   pub acts : Acts (with_turn s (TurnOf p)) p (active_of (with_turn s (TurnOf p)) x x.status) after
   pub goes_on : after.is_over ≡ false
@@ -132,11 +132,11 @@ standing_on s x (it_started a e) w = go x.status e
     go Ended f = absurd (cc (f))
     go Dropped f = absurd (cc (f))
 
-pub goes_on_told : (plan : Plan) (s : State) (r : Replay) (p q : ℕ) (x : ReleaseNow) → Live plan s.unit r →
+pub goes_on_reported : (plan : Plan) (s : State) (r : Replay) (p q : ℕ) (x : ReleaseNow) → Live plan s.unit r →
     Executes s r → MayAct x → p ≡ s.earlier_releases + q → slice_get s.releases p ≡ Some x →
     slice_get r.all.releases q ≡ Some (release_seen x) → is_last s ≡ true → LastPlace s.earlier_releases r p →
-    RunTold plan s r p x []
-goes_on_told plan s r p q x live h may at there seen is_same last =
+    RunReported plan s r p x []
+goes_on_reported plan s r p q x live h may at there seen is_same last =
     let same_place : last.q ≡ q = let a = last.at in omega (arith, a, at) in
     let same : last.release ≡ release_seen x =
     some_inj last.release (release_seen x) (sym last.there ∙ (ap (slice_get r.all.releases) same_place ∙ seen)) in
@@ -144,7 +144,7 @@ goes_on_told plan s r p q x live h may at there seen is_same last =
     standing_on (with_turn s (TurnOf p)) x may (ap is_waiting (sym same) ∙ last.has_started) in
     record {
       after = r;
-      is = told_none plan r;
+      is = reported_none plan r;
       kept = inl refl;
       acts = acts_from s r r p q (active_of (with_turn s (TurnOf p)) x x.status) x h at there
           (ap (λ rs. record r.all { releases = rs })
@@ -221,19 +221,19 @@ run_acts s b unit p q x h may at there seen =
     acts_from s b (entry_done b unit (Run x.handler x.number)) p q (active_of (with_turn s (TurnOf p)) x x.status) x h at
     there (started_is s b q x (TurnOf p) h may seen) refl refl
 
-pub run_told : (plan : Plan) (s : State) (r : Replay) (p q : ℕ) (x : ReleaseNow) → Live plan s.unit r → Executes s r →
+pub run_reported : (plan : Plan) (s : State) (r : Replay) (p q : ℕ) (x : ReleaseNow) → Live plan s.unit r → Executes s r →
     MayAct x → p ≡ s.earlier_releases + q → slice_get s.releases p ≡ Some x →
     slice_get r.all.releases q ≡ Some (release_seen x) → is_last s ≡ false →
-    picked r.all ≡ Chosen x.handler x.number → RunTold plan s r p x (event.Run s.unit x.handler x.number ∷ [])
-unfolding entry_told unit_of
-run_told plan s r p q x live h may at there seen other pick =
+    picked r.all ≡ Chosen x.handler x.number → RunReported plan s r p x (event.Run s.unit x.handler x.number ∷ [])
+unfolding entry_reported unit_of
+run_reported plan s r p q x live h may at there seen other pick =
     let b : Replay = begun r s.unit in
     let core : SameCore r b = core_begun r s.unit in
     let opened : Opened s.unit r (entry_done b s.unit (Run x.handler x.number)) =
     line_opens s.unit r (Run x.handler x.number) live.in_order in
     record {
       after = entry_done b s.unit (Run x.handler x.number);
-      is = told_one plan r (entry_done b s.unit (Run x.handler x.number)) (event.Run s.unit x.handler x.number)
+      is = reported_one plan r (entry_done b s.unit (Run x.handler x.number)) (event.Run s.unit x.handler x.number)
           (line_passes plan s.unit r (event.Run s.unit x.handler x.number) live refl (λ e. cc (e))
           (run_passes plan s r s.unit x h other pick));
       kept = inr opened;

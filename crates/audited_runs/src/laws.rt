@@ -14,8 +14,8 @@ ghost use Rattle.run_plan.specs.Limits.{KeepsLimits};
 ghost use Rattle.int_values.specs.Ints.{PrintsInt, StateFits};
 ghost use Rattle.audited_runs.specs.Files.{IsReadFromFiles};
 ghost use Rattle.trace_audit.specs.Audits.{audit_of};
-ghost use Rattle.trace_audit.specs.Printed.{audit_told};
-ghost use Rattle.trace_audit.specs.Replay.{nothing_told};
+ghost use Rattle.trace_audit.specs.Printed.{audit_reported};
+ghost use Rattle.trace_audit.specs.Replay.{nothing_reported};
 ghost use Rattle.trace_audit.specs.declared.answers.Audit.TheVariants.{Yes};
 
 /// In each state that a run of an accepted program comes to, by a plan that keeps its limits, each number in a local, an
@@ -34,7 +34,7 @@ pub fn values_have_32_bits()
 /// limits, where the program was read from files with proper names.
 pub fn traces_are_audited()
     ensures events { (forest : Forest) → IsAcceptedProgram forest → (plan : Plan) →
-        audit_told plan nothing_told 1 (trace (code_of forest) plan plan.units) ≡ Yes }
+        audit_reported plan nothing_reported 1 (trace (code_of forest) plan plan.units) ≡ Yes }
     ensures texts { (texts : List (List ℕ)) (forest : Forest) (files : List (List ℕ)) →
         IsReadFromFiles texts forest files → IsAcceptedProgram forest →
         (plan : Plan) → KeepsLimits plan →

@@ -72,12 +72,12 @@ executes_so t s = if is_exec s.phase then nat_le 91 t && has_mission t s else tr
 abbrev is_first_mission : ℕ → State → Bool
 is_first_mission t s = (s.earlier_releases == 0) && (is_low s && executes_so t s)
 
-abbrev is_as_told : ℕ → State → Bool
-is_as_told t s = (length s.releases == releases_by t) && is_first_mission t s
+abbrev is_as_reported : ℕ → State → Bool
+is_as_reported t s = (length s.releases == releases_by t) && is_first_mission t s
 
-told : each_unit controller rising_level is_as_told 0 125 (run controller rising_level by_priority 0) ≡ true
+reported : each_unit controller rising_level is_as_reported 0 125 (run controller rising_level by_priority 0) ≡ true
 unfolding computing_machine controller each_unit active_priority row_of_release
-told = refl
+reported = refl
 
 -- it is the turn of the release at this place; and its active priority is above this one
 abbrev pub is_turn : ℕ → Option ℕ → Bool
@@ -119,11 +119,11 @@ or_right true b e h = absurd (cc (e))
 or_right false b e h = h
 
 module _ (t : ℕ) (l : t ≤ 124) where
-  told_at : is_as_told t (at t) ≡ true
-  told_at = unit_passes controller rising_level is_as_told 125 t told (omega (arith, l))
+  reported_at : is_as_reported t (at t) ≡ true
+  reported_at = unit_passes controller rising_level is_as_reported 125 t reported (omega (arith, l))
 
   parts : ((length (at t).releases == releases_by t) ≡ true) × (is_first_mission t (at t) ≡ true)
-  parts = and_parts (length (at t).releases == releases_by t) (is_first_mission t (at t)) told_at
+  parts = and_parts (length (at t).releases == releases_by t) (is_first_mission t (at t)) reported_at
 
   mission_parts : (((at t).earlier_releases == 0) ≡ true) × ((is_low (at t) && executes_so t (at t)) ≡ true)
   mission_parts = and_parts ((at t).earlier_releases == 0) (is_low (at t) && executes_so t (at t)) parts.1
@@ -143,28 +143,28 @@ module _ (t : ℕ) (l : t ≤ 124) where
       (upto (active_priority (at t) 0) 20 h.0, upto (active_priority (at t) 1) 20 h.1)
 
   module _ (e : is_exec (at t).phase ≡ true) where
-    mission_told : (nat_le 91 t && has_mission t (at t)) ≡ true
-    mission_told = if_true (is_exec (at t).phase) (nat_le 91 t && has_mission t (at t)) true e last_parts.1
+    mission_reported : (nat_le 91 t && has_mission t (at t)) ≡ true
+    mission_reported = if_true (is_exec (at t).phase) (nat_le 91 t && has_mission t (at t)) true e last_parts.1
 
     abbrev of_the_handlers : Bool
     of_the_handlers = (row_of_release (at t) 0 == 1) && (nat_lt t 96 || (row_of_release (at t) 1 == 2))
 
-    handlers_told : (bytes_eq (priorities (at t)) (18 ∷ 12 ∷ 10 ∷ []) ≡ true) × (of_the_handlers ≡ true)
-    handlers_told =
+    handlers_reported : (bytes_eq (priorities (at t)) (18 ∷ 12 ∷ 10 ∷ []) ≡ true) × (of_the_handlers ≡ true)
+    handlers_reported =
         and_parts (bytes_eq (priorities (at t)) (18 ∷ 12 ∷ 10 ∷ [])) of_the_handlers
-        (and_parts (nat_le 91 t) (has_mission t (at t)) mission_told).1
+        (and_parts (nat_le 91 t) (has_mission t (at t)) mission_reported).1
 
     pub priorities_at : priorities (at t) ≡ 18 ∷ 12 ∷ 10 ∷ []
-    priorities_at = (bytes_eq-Decides (priorities (at t)) (18 ∷ 12 ∷ 10 ∷ [])).0 handlers_told.0
+    priorities_at = (bytes_eq-Decides (priorities (at t)) (18 ∷ 12 ∷ 10 ∷ [])).0 handlers_reported.0
 
-    rows_told : ((row_of_release (at t) 0 == 1) ≡ true) × ((nat_lt t 96 || (row_of_release (at t) 1 == 2)) ≡ true)
-    rows_told = and_parts (row_of_release (at t) 0 == 1) (nat_lt t 96 || (row_of_release (at t) 1 == 2)) handlers_told.1
+    rows_reported : ((row_of_release (at t) 0 == 1) ≡ true) × ((nat_lt t 96 || (row_of_release (at t) 1 == 2)) ≡ true)
+    rows_reported = and_parts (row_of_release (at t) 0 == 1) (nat_lt t 96 || (row_of_release (at t) 1 == 2)) handlers_reported.1
 
     pub row_0 : row_of_release (at t) 0 ≡ 1
-    row_0 = same (row_of_release (at t) 0) 1 rows_told.0
+    row_0 = same (row_of_release (at t) 0) 1 rows_reported.0
 
     pub row_1 : nat_lt t 96 ≡ false → row_of_release (at t) 1 ≡ 2
-    row_1 f = same (row_of_release (at t) 1) 2 (or_right (nat_lt t 96) (row_of_release (at t) 1 == 2) f rows_told.1)
+    row_1 f = same (row_of_release (at t) 1) 2 (or_right (nat_lt t 96) (row_of_release (at t) 1 == 2) f rows_reported.1)
 
 -- there are never fewer releases than before
 pub more_releases : (s t : ℕ) → s ≤ t → releases_by s ≤ releases_by t

@@ -8,7 +8,7 @@ use Rattle.accepted_laws.proofs.Tools.{some_inj}
 use Rattle.scj_model.specs.declared.events.Event.{Event}
 use Rattle.scj_model.specs.State.{Frame, Activity, Waits, Ended, Release, Job, TheSequencer, ReleaseAt, State, activity_in, activity_of, with_activity, with_status, is_exec}
 use Rattle.scj_model.specs.Registry.{handler_number}
-use Rattle.scj_model.specs.Steps.{Step, fault_in, closed_all, silently, telling}
+use Rattle.scj_model.specs.Steps.{Step, fault_in, closed_all, silently, reporting}
 use Rattle.scj_model.specs.Apply.{released, release_taken, releases_of, waiting_of, most_waiting, takes_releases, dropped_release, termination, termination_asked, asks_for_end}
 use Rattle.frame_sound.proofs.OwnJobs.{same_activity}
 use Rattle.reference_sound.proofs.Closing.{all_close}
@@ -83,10 +83,10 @@ module _ (J : List Frame → Type 0) where
   any_leads None next h = none_leads
   any_leads (Some a) next h = h a refl
 
-  pub told_leads : (first : Step) (o : Option Step) → Lead o →
-      Lead (option_map (λ (second : Step). telling second.state (first.events ++ second.events)) o)
-  told_leads first None x = none_leads
-  told_leads first (Some second) x = leads (telling second.state (first.events ++ second.events)) (x.is second refl)
+  pub reported_leads : (first : Step) (o : Option Step) → Lead o →
+      Lead (option_map (λ (second : Step). reporting second.state (first.events ++ second.events)) o)
+  reported_leads first None x = none_leads
+  reported_leads first (Some second) x = leads (reporting second.state (first.events ++ second.events)) (x.is second refl)
 
   -- ---- releases that come, are dropped, and are asked to end
 
@@ -102,8 +102,8 @@ module _ (J : List Frame → Type 0) where
       same (ReleaseAt n) = release_comes t.releases taken waits_without n
 
       go : (b : Bool) (lost arrives : List Event) →
-          Jobs (if b then telling t lost
-          else telling (record t { releases = t.releases ++ taken ∷ [] }) arrives).state
+          Jobs (if b then reporting t lost
+          else reporting (record t { releases = t.releases ++ taken ∷ [] }) arrives).state
       go true lost arrives = h
       go false lost arrives = jobs_same t (record t { releases = t.releases ++ taken ∷ [] }) same h
 
@@ -130,7 +130,7 @@ module _ (J : List Frame → Type 0) where
 
       go : (b u : Bool) (events : List Event) →
           Jobs (if b
-          then (if u then telling (record t { is_end_asked = true; releases = map dropped_release t.releases }) events
+          then (if u then reporting (record t { is_end_asked = true; releases = map dropped_release t.releases }) events
           else silently (record t { is_end_asked = true }))
           else silently t).state
       go true true events =

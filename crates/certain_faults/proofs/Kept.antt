@@ -13,9 +13,9 @@ use Rattle.scj_model.specs.Code.{Code}
 use Rattle.scj_model.specs.State.{Object, Frame, Activity, Job, TheSequencer, ReleaseAt, State, changed, object_at, with_activity, is_init}
 use Rattle.scj_model.specs.Memory.{has_room, has_store_for, with_area, with_object, with_slot, closed, area_with_scope}
 use Rattle.scj_model.specs.Registry.{handler_number, most_handlers}
-use Rattle.scj_model.specs.Steps.{Step, silently, telling, fault_in, allocating, opening, job_ended}
+use Rattle.scj_model.specs.Steps.{Step, silently, reporting, fault_in, allocating, opening, job_ended}
 use Rattle.scj_model.specs.Effects.{Effect, Goes, Prints, Makes, Stores, StoresStatic, SetsHidden, SetsCeiling, Calls, Opens, Leaves, AsksRegistration, AsksRelease, AsksTermination, Faults, Stuck}
-use Rattle.scj_model.specs.Apply.{with_frame, with_first, with_ceiling, applied, is_sequencer, called, ceiling_entered, is_full, opened_in, returned, without, frame_left, tell_priority, registered}
+use Rattle.scj_model.specs.Apply.{with_frame, with_first, with_ceiling, applied, is_sequencer, called, ceiling_entered, is_full, opened_in, returned, without, frame_left, report_priority, registered}
 use Rattle.reference_sound.proofs.Closing.{one_closes}
 use Rattle.certain_faults.proofs.Frames.{Explained, Waits, Fine}
 use Rattle.certain_faults.proofs.Jobs.{Jobs, jobs_still, jobs_of, jobs_on, jobs_ended, jobs_faulted, Lead, leads, none_leads, released_jobs, asked_jobs}
@@ -107,7 +107,7 @@ module _ (code : Code) (G : Body → Bool → Type 0) where
       where
         by_ceiling : (ceiling : ℕ) (t : Bool) (events : List Event) → Jobs Frames
             (if t then fault_in s job activity position CeilingViolation
-            else telling
+            else reporting
             (with_activity s job (record activity {
               frames = record g { saved = Some activity.priority } ∷ (h ∷ below);
               priority = ceiling;
@@ -127,12 +127,12 @@ module _ (code : Code) (G : Body → Bool → Type 0) where
               | None ↦ silently (with_activity s job (record activity { frames = g ∷ (h ∷ below) }))
               | Some ceiling ↦
                   if nat_lt ceiling activity.priority then fault_in s job activity position CeilingViolation
-                  else telling
+                  else reporting
                   (with_activity s job (record activity {
                     frames = record g { saved = Some activity.priority } ∷ (h ∷ below);
                     priority = ceiling;
                   }))
-                  (tell_priority s job activity.priority ceiling)
+                  (report_priority s job activity.priority ceiling)
             ])))
         go true o = leads Frames _ (faulted DepthFull)
         go false None =
@@ -228,7 +228,7 @@ module _ (code : Code) (G : Body → Bool → Type 0) where
             Jobs Frames (if b then fault_in s job activity position NotInitializing
             else (if u then silently (with_frame s job activity h below)
             else (if v then fault_in s job activity position TooManyHandlers
-            else telling (record (with_frame s job activity h below) { registry = rows }) events))).state
+            else reporting (record (with_frame s job activity h below) { registry = rows }) events))).state
         one true u v rows events = faulted NotInitializing
         one false true v rows events = plain
         one false false true rows events = faulted TooManyHandlers

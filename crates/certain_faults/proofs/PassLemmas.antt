@@ -24,23 +24,23 @@ use Rattle.certain_faults.proofs.Reports.{in_fault_order, same_faults}
 
 -- ---- by what is told of the parts
 
-pub division_told : (rows : List Left) (code : Code) (operator right : ℕ) → lookup Forgets rows ≡ left_by code →
+pub division_reported : (rows : List Left) (code : Code) (operator right : ℕ) → lookup Forgets rows ≡ left_by code →
     division_fault operator (lookup Forgets rows right) ≡ division_fault operator (left_by code right)
-division_told rows code operator right e = ap (λ (left : ℕ → Left). division_fault operator (left right)) e
+division_reported rows code operator right e = ap (λ (left : ℕ → Left). division_fault operator (left right)) e
 
-pub length_told : (rows : List Left) (code : Code) (part : ℕ) → lookup Forgets rows ≡ left_by code →
+pub length_reported : (rows : List Left) (code : Code) (part : ℕ) → lookup Forgets rows ≡ left_by code →
     length_fault (lookup Forgets rows part) ≡ length_fault (left_by code part)
-length_told rows code part e = ap (λ (left : ℕ → Left). length_fault (left part)) e
+length_reported rows code part e = ap (λ (left : ℕ → Left). length_fault (left part)) e
 
-pub call_told : (rows : List Left) (code : Code) (arguments : List ℕ) (b : Binding) →
+pub call_reported : (rows : List Left) (code : Code) (arguments : List ℕ) (b : Binding) →
     lookup Forgets rows ≡ left_by code →
     call_fault (lookup Forgets rows) arguments b ≡ call_fault (left_by code) arguments b
-call_told rows code arguments b e = ap (λ (left : ℕ → Left). call_fault left arguments b) e
+call_reported rows code arguments b e = ap (λ (left : ℕ → Left). call_fault left arguments b) e
 
-pub super_told : (rows : List Left) (code : Code) (arguments : List ℕ) (b : Binding) →
+pub super_reported : (rows : List Left) (code : Code) (arguments : List ℕ) (b : Binding) →
     lookup Forgets rows ≡ left_by code →
     super_fault (lookup Forgets rows) arguments b ≡ super_fault (left_by code) arguments b
-super_told rows code arguments b e = ap (λ (left : ℕ → Left). super_fault left arguments b) e
+super_reported rows code arguments b e = ap (λ (left : ℕ → Left). super_fault left arguments b) e
 
 -- ---- the rows
 
@@ -50,10 +50,10 @@ behind_all code id e =
     by_smaller-is Forgets (next_left code) id
     ∙ ap (λ (o : Option Node). elim o as (λ z. Left) [ None ↦ Forgets | Some node ↦ left_by_node code (below Forgets id (by_smaller Forgets (next_left code))) id node ]) e
 
-pub rows_tell : (code : Code) (rows : List Left) (n : ℕ) → n ≡ length code.program.nodes →
+pub rows_report : (code : Code) (rows : List Left) (n : ℕ) → n ≡ length code.program.nodes →
     rows ≡ bottom_up Forgets (next_left code) n → lookup Forgets rows ≡ left_by code
 unfolding left_by
-rows_tell code rows n all e =
+rows_report code rows n all e =
     ap (lookup Forgets) e ∙ (λ i k. at k i)
   where
     at : (k : ℕ) → lookup Forgets (bottom_up Forgets (next_left code) n) k ≡ by_smaller Forgets (next_left code) k

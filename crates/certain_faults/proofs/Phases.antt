@@ -23,7 +23,7 @@ use Rattle.scj_model.specs.Plan.{Plan}
 use Rattle.scj_model.specs.State.{Frame, Activity, Release, Job, TheSequencer, ReleaseAt, State, activity_of, with_activity, object_at, is_exec}
 use Rattle.scj_model.specs.Memory.{with_area, with_object, new_slots, has_room, has_store_for}
 use Rattle.scj_model.specs.Registry.{handler_row}
-use Rattle.scj_model.specs.Steps.{Step, silently, telling, allocating, opening, fault_in, for_each}
+use Rattle.scj_model.specs.Steps.{Step, silently, reporting, allocating, opening, fault_in, for_each}
 use Rattle.scj_model.specs.Effects.{new_frame}
 use Rattle.scj_model.specs.Apply.{release_taken}
 use Rattle.scj_model.specs.Sequencer.{innermost, done, area_opened, safelet_made, body_called, method_called, sequencer_op, SeqEffect, Continues, TakesSafelet, TakesSequencer, TakesMission, LacksSequencer, LacksMission, BeginsMission, BeginsExecution, SkipsExecution, EndsExecution, ClosesMission, Transition, gone_to, mission_closed, seq_applied, transition_done, after_operation, after_execution, has_started, goes_to, phase_after, position_of_object}
@@ -217,7 +217,7 @@ module _ (code : Code) (J : List Frame → Type 0) where
     where
       go : (o : Option ℕ) (events : List Event) → Jobs J (elim o as (λ z. Step) [
         | Some handler ↦ release_taken s handler
-        | None ↦ telling s events
+        | None ↦ reporting s events
       ]).state
       go None events = held
       go (Some handler) events = taken_jobs J s handler held

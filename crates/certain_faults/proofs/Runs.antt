@@ -46,7 +46,7 @@ use Rattle.certain_faults.proofs.Passes.{Passes, arguments_of, passes_less}
 use Rattle.certain_faults.proofs.RunsOfNodes.{ClassesAskNothing}
 use Rattle.certain_faults.proofs.Frames.{new_explained, operation_fine, pass_in_front}
 use Rattle.certain_faults.proofs.GivenAsBound.{GivesSo, given_as_bound}
-use Rattle.certain_faults.proofs.Jobs.{Jobs, jobs_still, Lead, leads, none_leads, any_leads, told_leads}
+use Rattle.certain_faults.proofs.Jobs.{Jobs, jobs_still, Lead, leads, none_leads, any_leads, reported_leads}
 use Rattle.certain_faults.proofs.Kept.{Frames, KeepsBody, effect_kept}
 use Rattle.certain_faults.proofs.Phases.{sequencer_jobs, start_jobs, phase_jobs, arrival_jobs, first_jobs}
 
@@ -218,11 +218,11 @@ module _ (code : Code) (facts : Facts code) (bare : ClassesAskNothing code) (row
     where
       turn_leads : (turn : Turn) → Led (then_try (turn_taken s turn) (turn_acts code rows turn))
       turn_leads IdleTurn =
-          told_leads (All code) (turn_taken s IdleTurn) (Some (silently (with_turn s IdleTurn)))
+          reported_leads (All code) (turn_taken s IdleTurn) (Some (silently (with_turn s IdleTurn)))
           (leads (All code) (silently (with_turn s IdleTurn))
           (jobs_still (All code) s (with_turn s IdleTurn) refl refl held))
       turn_leads (TurnOf index) =
-          told_leads (All code) (turn_taken s (TurnOf index)) (ref_op code rows (with_turn s (TurnOf index)) (ReleaseAt index))
+          reported_leads (All code) (turn_taken s (TurnOf index)) (ref_op code rows (with_turn s (TurnOf index)) (ReleaseAt index))
           (release_leads (with_turn s (TurnOf index)) (time_passes code s s.unit (Some (TurnOf index)) i)
           (jobs_still (All code) s (with_turn s (TurnOf index)) refl refl held) index)
 

@@ -504,16 +504,16 @@ module _ (code : Code) (bare : ClassesAskNothing code) (id : ℕ) where
             (behind (flat_map ops arguments) (CALLSTATIC id) s (with_all left arguments s) (all_run arguments s)
             (less_nothing _) (λ r. tt))
           where
-            told : Stack
-            told = with_left (left_by_method left arguments t.gives) s
+            reported : Stack
+            reported = with_left (left_by_method left arguments t.gives) s
 
             less : Less (with_left (left_by_method left arguments t.gives) s)
                 (step code (CALLSTATIC id) (with_all left arguments s))
             less =
-                subst (λ (g : Bool). Less told
+                subst (λ (g : Bool). Less reported
                 (behind_static_call g (part code argument_count id) (with_all left arguments s)))
                 (sym (ap leaves_value bound))
-                (subst (λ (o : Option ℕ). Less told (behind_static_call t.gives o (with_all left arguments s)))
+                (subst (λ (o : Option ℕ). Less reported (behind_static_call t.gives o (with_all left arguments s)))
                 (sym count) (static_less t.gives s))
 
         method_runs : (t : Target) → binding code id ≡ Method t → (s : Stack) →
@@ -521,7 +521,7 @@ module _ (code : Code) (bare : ClassesAskNothing code) (id : ℕ) where
             (with_left (left_by_method left arguments (t.gives && leaves_receiver left object)) s)
         unfolding step asked leaves_value
         method_runs t bound s =
-            runs_less code (receiver_ops ops id object ++ (flat_map ops arguments ++ CALL id ∷ [])) s told
+            runs_less code (receiver_ops ops id object ++ (flat_map ops arguments ++ CALL id ∷ [])) s reported
             (step code (CALL id) (with_all left arguments (behind_receiver object s))) less
             (runs_then code (receiver_ops ops id object) (flat_map ops arguments ++ CALL id ∷ []) s
             (behind_receiver object s) (step code (CALL id) (with_all left arguments (behind_receiver object s)))
@@ -530,16 +530,16 @@ module _ (code : Code) (bare : ClassesAskNothing code) (id : ℕ) where
             (with_all left arguments (behind_receiver object s)) (all_run arguments (behind_receiver object s))
             (less_nothing _) (λ r. tt)))
           where
-            told : Stack
-            told = with_left (left_by_method left arguments (t.gives && leaves_receiver left object)) s
+            reported : Stack
+            reported = with_left (left_by_method left arguments (t.gives && leaves_receiver left object)) s
 
             less : Less (with_left (left_by_method left arguments (t.gives && leaves_receiver left object)) s)
                 (step code (CALL id) (with_all left arguments (behind_receiver object s)))
             less =
-                subst (λ (g : Bool). Less told
+                subst (λ (g : Bool). Less reported
                 (behind_call g (part code argument_count id) (with_all left arguments (behind_receiver object s))))
                 (sym (ap leaves_value bound))
-                (subst (λ (o : Option ℕ). Less told
+                (subst (λ (o : Option ℕ). Less reported
                 (behind_call t.gives o (with_all left arguments (behind_receiver object s)))) (sym count)
                 (receiver_less object t.gives s))
 

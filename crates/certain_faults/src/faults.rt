@@ -111,7 +111,7 @@ fn call_fault(rows: &[Left], arguments: &[NodeId], binding: Binding) -> Option<R
 }
 
 /// The certain fault of a node.
-#[tactic(auto, using(crate::proofs::PassLemmas::division_told, crate::proofs::PassLemmas::length_told, crate::proofs::PassLemmas::call_told, crate::proofs::PassLemmas::super_told), unfolding(crate::specs::Faults::fault_at_node))]
+#[tactic(auto, using(crate::proofs::PassLemmas::division_reported, crate::proofs::PassLemmas::length_reported, crate::proofs::PassLemmas::call_reported, crate::proofs::PassLemmas::super_reported), unfolding(crate::specs::Faults::fault_at_node))]
 fn fault_at_node(checked: &Checked, rows: &[Left], id: NodeId, node: &Node) -> Option<RunFault>
     requires { lookup forgets rows.now ≡ left_by (code_of checked.now.program) }
     ensures { result ≡ fault_at_node (code_of checked.now.program) id node.now }

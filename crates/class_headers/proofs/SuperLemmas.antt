@@ -48,8 +48,8 @@ pub kinds_are : (rows : List ClassRow) (class bits : ℕ) (found : List ℕ) →
     ((k : ℕ) → k < kind_count → has_bit bits k ≡ is_among k (superclasses rows class ++ all_interfaces rows class))
     → found ≡ kinds_of rows class
 unfolding kinds_of
-kinds_are rows class bits found e told =
-    e ∙ filter_alike (has_bit bits) (λ k. is_among k (superclasses rows class ++ all_interfaces rows class)) told kinds
+kinds_are rows class bits found e reported =
+    e ∙ filter_alike (has_bit bits) (λ k. is_among k (superclasses rows class ++ all_interfaces rows class)) reported kinds
     refl
 
 -- ---- names that aren't known

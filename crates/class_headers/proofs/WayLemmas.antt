@@ -114,11 +114,11 @@ climb next zero a = Some a
 climb next (suc m) a = option_and_then (climb next m) (next a)
 
 -- what is met on the way of m steps
-abbrev pub told : (ℕ → List ℕ) → Option ℕ → List ℕ → Way
-told own e xs = record { end = e; above = bits_of xs; implemented = bits_of (flat_map own xs) }
+abbrev pub reported : (ℕ → List ℕ) → Option ℕ → List ℕ → Way
+reported own e xs = record { end = e; above = bits_of xs; implemented = bits_of (flat_map own xs) }
 
 abbrev pub way : (ℕ → Option ℕ) → (ℕ → List ℕ) → ℕ → ℕ → Way
-way next own m x = told own (climb next m x) (chain next m x)
+way next own m x = reported own (climb next m x) (chain next m x)
 
 module _ (next : ℕ → Option ℕ) where
   abbrev rest : ℕ → Option ℕ → List ℕ
@@ -229,14 +229,14 @@ module _ (next : ℕ → Option ℕ) where
     nothing_past (suc m) x test e t = rw (t, e) refl
 
     module _ (own : ℕ → List ℕ) where
-      joins : (ways : List Way) (e f : Option ℕ) (xs ys : List ℕ) → way_from ways e ≡ told own f ys →
-          twice ways (told own e xs) ≡ told own f (xs ++ ys)
+      joins : (ways : List Way) (e f : Option ℕ) (xs ys : List ℕ) → way_from ways e ≡ reported own f ys →
+          twice ways (reported own e xs) ≡ reported own f (xs ++ ys)
       unfolding twice
       joins ways e f xs ys h =
           rw (h, flat_map-append own xs ys, bits-append xs ys, bits-append (flat_map own xs) (flat_map own ys)) refl
 
       from_end : (m : ℕ) (o : Option ℕ) → ((b : ℕ) → o ≡ Some b → b < n) →
-          way_from (listed (way next own m) n) o ≡ told own (option_and_then (climb next m) o) (rest m o)
+          way_from (listed (way next own m) n) o ≡ reported own (option_and_then (climb next m) o) (rest m o)
       unfolding way_from bits_of
       from_end m None s = refl
       from_end m (Some b) s = listed-there no_way (way next own m) n b (s b refl)

@@ -38,10 +38,10 @@ none_inherits p interface node name h = list_any_none (inherits_as p (interface 
     (numbers_from 0 p.classes) (λ i d l. inherits_is p interface _ _ _ ∙ rw (← h) refl)
 
 -- what is told by the nodes of the methods of the name, where no class is still to tell of it
-pub told_by_nodes : (p : Declarations) (told : Inherited) (interface node : ℕ) (name : List ℕ) →
-    (told.interface == interface) ≡ true → is_same told.name name ≡ true → AreInherited p [] told
-    → contains nat_cmp told.nodes node ≡ is_inherited_as p interface node name
-told_by_nodes p told interface node name e same are =
-    let kind : told.interface ≡ interface = same_number told.interface interface e in
-    let text : told.name ≡ name = (bytes_eq-Decides told.name name).0 same in
+pub reported_by_nodes : (p : Declarations) (reported : Inherited) (interface node : ℕ) (name : List ℕ) →
+    (reported.interface == interface) ≡ true → is_same reported.name name ≡ true → AreInherited p [] reported
+    → contains nat_cmp reported.nodes node ≡ is_inherited_as p interface node name
+reported_by_nodes p reported interface node name e same are =
+    let kind : reported.interface ≡ interface = same_number reported.interface interface e in
+    let text : reported.name ≡ name = (bytes_eq-Decides reported.name name).0 same in
     grind (arith, common_steps, are node, kind, text)

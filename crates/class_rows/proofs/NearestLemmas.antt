@@ -73,15 +73,15 @@ order_stays count cs c true e o =
 
 module _ (kind : MemberKind) (forest : Forest) (was now : NearestMembers) where
   -- a change that is noted under a name
-  pub noted : (name : List ℕ) (c : Change) → c.before ≡ was.count → now.count ≡ was.count + 1 → now.told ≡ was.told →
+  pub noted : (name : List ℕ) (c : Change) → c.before ≡ was.count → now.count ≡ was.count + 1 → now.reported ≡ was.reported →
       ((other : List ℕ) → changes_under now.changes other ≡ with_change (is_same name other) c
       (changes_under was.changes other)) → ((other : List ℕ) → kept_under now.abstracts other
       ≡ (if is_same name other then if_abstract forest.nodes c.nearest else kept_under was.abstracts other)) →
       AreNearest kind forest was → AreNearest kind forest now
-  noted name c e count told put keep a =
+  noted name c e count reported put keep a =
       record {
         in_order = λ other. rw (put other, count) (order_stays was.count _ c (is_same name other) e (a.in_order other));
-        told = λ class n h. let k = a.told class n (rw told at h) in (
+        reported = λ class n h. let k = a.reported class n (rw reported at h) in (
           omega (arith, k.0, count),
           λ other. rw (put other)
               (rw (before_stays n (changes_under was.changes other) c (is_same name other) (omega (arith, k.0, e)))
@@ -92,29 +92,29 @@ module _ (kind : MemberKind) (forest : Forest) (was now : NearestMembers) where
       }
 
   -- how many changes there were, which is told of a class
-  pub told_of : (class : ℕ) (path : List ℕ) → now.changes ≡ was.changes → now.count ≡ was.count →
+  pub reported_of : (class : ℕ) (path : List ℕ) → now.changes ≡ was.changes → now.count ≡ was.count →
       now.abstracts ≡ was.abstracts → ((other : ℕ) →
-      get ◌==◌ now.told other ≡ cond (class == other) (Some was.count) (get ◌==◌ was.told other)) →
+      get ◌==◌ now.reported other ≡ cond (class == other) (Some was.count) (get ◌==◌ was.reported other)) →
       superclasses (rows_of forest) class ≡ class ∷ path → classes_above (rows_of forest) class ≡ path →
       IsSplit (superclasses (rows_of forest) class) → AreNamed kind forest was path → AreNamed kind forest now path
-  told_of class path changes count abstracts put chain behind split a =
+  reported_of class path changes count abstracts put chain behind split a =
       let here : (name : List ℕ) → IsNearestAbove kind forest class name (nearest_now was name) =
       λ name. record { chain = rw behind chain; split = split; nearest = rw behind (a.nearest name) } in
       record {
-        told = record {
-          in_order = λ name. rw (changes, count) (a.told.in_order name);
-          told = λ other n h. ⊎_elim
+        reported = record {
+          in_order = λ name. rw (changes, count) (a.reported.in_order name);
+          reported = λ other n h. ⊎_elim
               (λ (s : (class == other) ≡ true).
               let e : n ≡ was.count = grind (arith, common_steps, put other, s, h) in (
                 omega (arith, e, count),
-                λ name. rw (changes, e, now_is was.count _ (a.told.in_order name))
+                λ name. rw (changes, e, now_is was.count _ (a.reported.in_order name))
                     (rw (← same_number class other s) (here name)),
               ))
               (λ (s : (class == other) ≡ false).
-              let k = a.told.told other n (grind (arith, common_steps, put other, s, h)) in
+              let k = a.reported.reported other n (grind (arith, common_steps, put other, s, h)) in
               (omega (arith, k.0, count), λ name. rw changes (k.1 name)))
               (cases_Bool (class == other));
-          abstracts = λ name. rw (changes, abstracts) (a.told.abstracts name);
+          abstracts = λ name. rw (changes, abstracts) (a.reported.abstracts name);
         };
         nearest = λ name. rw changes (a.nearest name);
       }

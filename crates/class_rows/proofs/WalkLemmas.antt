@@ -68,13 +68,13 @@ module _ (rows : List ClassRow) where
   }
 
   -- what is told of a class right under another one
-  pub told_under : (class above root ancestor distance : ℕ) (near : Ancestry) → Some above ≡ superclass_in rows class
+  pub reported_under : (class above root ancestor distance : ℕ) (near : Ancestry) → Some above ≡ superclass_in rows class
       → near.depth < length rows → IsAncestry rows above near
       → (those class ≡ class ∷ those above → IsRoot rows above near.root → IsRoot rows class root)
       → (those class ≡ class ∷ those above → IsAncestor rows class ancestor distance)
       → IsAncestry rows class
       (record { root = root; depth = near.depth + 1; ancestor = ancestor; distance = distance })
-  told_under class above root ancestor distance near s l n r a =
+  reported_under class above root ancestor distance near s l n r a =
       let e = next_chain class above (sym s) (omega (arith, l, n.depth)) in
       record {
         root = r e n.root;
@@ -84,13 +84,13 @@ module _ (rows : List ClassRow) where
         alone = λ other h. grind (arith, common_steps, nat_tests, e, ap length e, h, n.alone other, apart other above);
       }
 
-  pub noted : (told : List (Option Ancestry)) (at : ℕ) (own : Option Ancestry) → at < length told →
-      IfSome own (λ a. IsAncestry rows at a) → AreAncestries rows told → AreAncestries rows (set told at own)
-  noted told at own within is are class a e =
+  pub noted : (reported : List (Option Ancestry)) (at : ℕ) (own : Option Ancestry) → at < length reported →
+      IfSome own (λ a. IsAncestry rows at a) → AreAncestries rows reported → AreAncestries rows (set reported at own)
+  noted reported at own within is are class a e =
       ⊎_elim
-      (λ (s : class ≡ at). let here : own ≡ Some a = sym (get_or-set_same told at own None within) ∙ rw s at e in
+      (λ (s : class ≡ at). let here : own ≡ Some a = sym (get_or-set_same reported at own None within) ∙ rw s at e in
       rw s (rw here at is))
-      (λ (n : class ≡ at → ⊥). are class a (sym (get_or-set_other told at class own None n) ∙ e))
+      (λ (n : class ≡ at → ⊥). are class a (sym (get_or-set_other reported at class own None n) ∙ e))
       (cases_eq class at)
 
 module _ (forest : Forest) (class : ℕ) (s : None ≡ superclass_in (declarations_of forest).classes class) where
@@ -98,9 +98,9 @@ module _ (forest : Forest) (class : ℕ) (s : None ≡ superclass_in (declaratio
   unfolding superclasses
   chain_alone = chain_here _ _ class (omega (arith, user_count forest)) ∙ rw (← s) refl
 
-  pub object_told : class ≡ object → IsAncestry (declarations_of forest).classes class
+  pub object_reported : class ≡ object → IsAncestry (declarations_of forest).classes class
       (record { root = class; depth = 1; ancestor = class; distance = 0 })
-  object_told o = record {
+  object_reported o = record {
     root = rw chain_alone (grind (arith, common_steps, nat_tests, o));
     depth = rw chain_alone refl;
     ancestor = record { steps = omega arith; same = λ other l. refl };

@@ -15,13 +15,13 @@ is_inherited_as p interface node name = list_any (inherits_as p (interface ∷ [
 -- the nodes that are there, with those of what the others still have to tell, are those of all methods of the name that
 -- classes inherit as the interface's
 abbrev pub AreInherited : Declarations → List ℕ → Inherited → Type 0
-AreInherited p others told = (node : ℕ) →
-    (contains nat_cmp told.nodes node || list_any (inherits_as p (told.interface ∷ []) node told.name) others)
-    ≡ is_inherited_as p told.interface node told.name
+AreInherited p others reported = (node : ℕ) →
+    (contains nat_cmp reported.nodes node || list_any (inherits_as p (reported.interface ∷ []) node reported.name) others)
+    ≡ is_inherited_as p reported.interface node reported.name
 
 -- the same of each name of `Safelet` and `Runnable`
-pub record AreInheritedMethods (p : Declarations) (others : List ℕ) (told : InheritedMethods) : Type 0 where
-  pub get_sequencer : AreInherited p others told.get_sequencer
-  pub immortal_memory_size : AreInherited p others told.immortal_memory_size
-  pub initialize_application : AreInherited p others told.initialize_application
-  pub run : AreInherited p others told.run
+pub record AreInheritedMethods (p : Declarations) (others : List ℕ) (reported : InheritedMethods) : Type 0 where
+  pub get_sequencer : AreInherited p others reported.get_sequencer
+  pub immortal_memory_size : AreInherited p others reported.immortal_memory_size
+  pub initialize_application : AreInherited p others reported.initialize_application
+  pub run : AreInherited p others reported.run

@@ -179,17 +179,17 @@ pub record AreInOrder (count : ℕ) (changes : List Change) : Type 0 where
   pub past : All (λ (c : Change). c.before < count) changes
 
 -- it is told what stands above the class
-abbrev pub is_told : NearestMembers → ℕ → Bool
-is_told ns class = is_some (get ◌==◌ ns.told class)
+abbrev pub is_reported : NearestMembers → ℕ → Bool
+is_reported ns class = is_some (get ◌==◌ ns.reported class)
 
 -- what is told of the classes is right, and so is which of the nearest members now are abstract methods
 pub record AreNearest (kind : MemberKind) (forest : Forest) (ns : NearestMembers) : Type 0 where
   pub in_order : (name : List ℕ) → AreInOrder ns.count (changes_under ns.changes name)
-  pub told : (class count : ℕ) → get ◌==◌ ns.told class ≡ Some count → (count ≤ ns.count) × ((name : List ℕ) →
+  pub reported : (class count : ℕ) → get ◌==◌ ns.reported class ≡ Some count → (count ≤ ns.count) × ((name : List ℕ) →
       IsNearestAbove kind forest class name (nearest_before count (changes_under ns.changes name)))
   pub abstracts : (name : List ℕ) → kept_under ns.abstracts name ≡ if_abstract forest.nodes (nearest_now ns name)
 
 -- the nearest members now are those of these classes
 pub record AreNamed (kind : MemberKind) (forest : Forest) (ns : NearestMembers) (classes : List ℕ) : Type 0 where
-  pub told : AreNearest kind forest ns
+  pub reported : AreNearest kind forest ns
   pub nearest : (name : List ℕ) → nearest_now ns name ≡ nearest_in kind forest name classes

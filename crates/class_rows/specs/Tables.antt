@@ -55,5 +55,5 @@ pub record IsTableOf (forest : Forest) (table : Inside) : Type 0 where
   pub methods : IsMembersOf Method forest table.methods
   pub fields_above : AreNearest Field forest table.fields_above
   pub methods_above : AreNearest Method forest table.methods_above
-  pub inherited : (told : InheritedMethods) → table.inherited ≡ Some told →
-      AreInheritedMethods (declarations_of forest) [] told
+  pub inherited : (reported : InheritedMethods) → table.inherited ≡ Some reported →
+      AreInheritedMethods (declarations_of forest) [] reported

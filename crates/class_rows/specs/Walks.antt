@@ -33,18 +33,18 @@ pub record IsAncestor (rows : List ClassRow) (class ancestor distance : ℕ) : T
 
 -- what is told of the classes above a class is right; of the classes whose chains are no shorter than its own, its chain
 -- has the class alone
-pub record IsAncestry (rows : List ClassRow) (class : ℕ) (told : Ancestry) : Type 0 where
-  pub root : IsRoot rows class told.root
-  pub depth : told.depth ≡ length (superclasses rows class)
-  pub ancestor : IsAncestor rows class told.ancestor told.distance
+pub record IsAncestry (rows : List ClassRow) (class : ℕ) (reported : Ancestry) : Type 0 where
+  pub root : IsRoot rows class reported.root
+  pub depth : reported.depth ≡ length (superclasses rows class)
+  pub ancestor : IsAncestor rows class reported.ancestor reported.distance
   pub above : (above : ℕ) → superclass_in rows class ≡ Some above → IsAncestor rows class above 1
   pub alone : (other : ℕ) → length (superclasses rows class) ≤ length (superclasses rows other) →
       is_among other (superclasses rows class) ≡ (other == class)
 
 -- what is told is right
 abbrev pub AreAncestries : List ClassRow → List (Option Ancestry) → Type 0
-AreAncestries rows told =
-    (class : ℕ) (ancestry : Ancestry) → lookup None told class ≡ Some ancestry → IsAncestry rows class ancestry
+AreAncestries rows reported =
+    (class : ℕ) (ancestry : Ancestry) → lookup None reported class ≡ Some ancestry → IsAncestry rows class ancestry
 
 -- a class may implement the interface, where its header has nothing forbidden
 abbrev pub is_known : ℕ → Bool

@@ -41,17 +41,17 @@ fn root_under(class: ClassId, above: ClassId, root: ClassId) -> Option<ClassId>
 impl<'a> ClassTable<'a> {
     /// What is told of the classes above a class.
     pub(crate) fn ancestry(&self, class: ClassId) -> Option<Ancestry>
-        ensures { IfSome result (λ told. IsAncestry (declarations_of self.now).classes class told) }
+        ensures { IfSome result (λ reported. IsAncestry (declarations_of self.now).classes class reported) }
     {
         match self.ancestries.get(class.number() as usize) {
-            Some(Some(told)) => Some(*told),
+            Some(Some(reported)) => Some(*reported),
             _ => None,
         }
     }
 
     /// What is to be told of a class, where it is told of its superclass; `Object` has none.
     fn next_ancestry(&self, class: ClassId) -> Option<Ancestry>
-        ensures { IfSome result (λ told. IsAncestry (declarations_of self.now).classes class told) }
+        ensures { IfSome result (λ reported. IsAncestry (declarations_of self.now).classes class reported) }
     {
         let Some(above) = self.superclass(class) else {
             if class != OBJECT {
@@ -87,17 +87,17 @@ impl<'a> ClassTable<'a> {
     }
 
     /// Whether a class is the other one or stands under it, by long steps. None where one on the way isn't told.
-    pub(crate) fn is_told_under(&self, class: ClassId, above: ClassId) -> Option<bool>
-        ensures { IfSome result (λ told. told ≡ is_among above (superclasses (declarations_of self.now).classes class)) }
+    pub(crate) fn is_reported_under(&self, class: ClassId, above: ClassId) -> Option<bool>
+        ensures { IfSome result (λ reported. reported ≡ is_among above (superclasses (declarations_of self.now).classes class)) }
     {
         let depth = self.ancestry(above)?.depth;
         let mut at = class;
-        while let Some(told) = self.ancestry(at) {
-            if told.depth <= depth {
+        while let Some(reported) = self.ancestry(at) {
+            if reported.depth <= depth {
                 return Some(above == at);
             }
-            if told.distance > 0 && told.distance <= told.depth - depth {
-                at = told.ancestor;
+            if reported.distance > 0 && reported.distance <= reported.depth - depth {
+                at = reported.ancestor;
                 continue;
             }
             at = self.superclass(at)?;
@@ -108,27 +108,27 @@ impl<'a> ClassTable<'a> {
 
 /// Rows of so many classes, of which nothing is told.
 fn no_ancestries(alloc: Global, count: u32) -> Result<Vec<Option<Ancestry>>, Memory>
-    ensures { IfOk result (λ told. (rows : List ClassRow) → AreAncestries rows told.items) }
+    ensures { IfOk result (λ reported. (rows : List ClassRow) → AreAncestries rows reported.items) }
 {
-    let told = vec![in alloc; None; count as usize]?;
-    Ok(told)
+    let reported = vec![in alloc; None; count as usize]?;
+    Ok(reported)
 }
 
 /// Notes what is told of a class.
-fn note_ancestry(told: &mut Vec<Option<Ancestry>>, class: ClassId, ancestry: Option<Ancestry>)
+fn note_ancestry(reported: &mut Vec<Option<Ancestry>>, class: ClassId, ancestry: Option<Ancestry>)
     ensures { (rows : List ClassRow) → IfSome ancestry (λ own. IsAncestry rows class own) →
-        AreAncestries rows told.old.items → AreAncestries rows told.new.items }
+        AreAncestries rows reported.old.items → AreAncestries rows reported.new.items }
 {
     let at = class.number() as usize;
-    if at < told.len() {
-        told[at] = ancestry;
+    if at < reported.len() {
+        reported[at] = ancestry;
     }
 }
 
 impl<'a> ClassTable<'a> {
     /// Tells of the classes above each of these, a superclass before those under it. Where a superclass comes later,
     /// nothing is told.
-    pub fn tell_ancestries(&mut self, alloc: Global, classes: &[ClassId]) -> Result<(), Memory>
+    pub fn report_ancestries(&mut self, alloc: Global, classes: &[ClassId]) -> Result<(), Memory>
         ensures { self.new ≡ self.old }
     {
         self.ancestries = no_ancestries(alloc, self.count)?;

@@ -87,29 +87,29 @@ fn is_inherited_as(classes: &ClassTable<'_>, interface: ClassId, node: NodeId, n
 }
 
 /// What is told of the methods of the name; where nothing is, what is told of `run`.
-fn inherited_under<'t>(told: &'t InheritedMethods, name: &Name) -> &'t Inherited
-    ensures { (p : Declarations) → AreInheritedMethods p [] told.now → AreInherited p [] result.now }
+fn inherited_under<'t>(reported: &'t InheritedMethods, name: &Name) -> &'t Inherited
+    ensures { (p : Declarations) → AreInheritedMethods p [] reported.now → AreInherited p [] result.now }
 {
-    if told.get_sequencer.name == *name {
-        return &told.get_sequencer;
+    if reported.get_sequencer.name == *name {
+        return &reported.get_sequencer;
     }
-    if told.immortal_memory_size.name == *name {
-        return &told.immortal_memory_size;
+    if reported.immortal_memory_size.name == *name {
+        return &reported.immortal_memory_size;
     }
-    if told.initialize_application.name == *name {
-        return &told.initialize_application;
+    if reported.initialize_application.name == *name {
+        return &reported.initialize_application;
     }
-    &told.run
+    &reported.run
 }
 
 impl<'a> ClassTable<'a> {
     /// Whether some class inherits the method of a name at a node as one of the interface: by what is told, if it is.
-    #[tactic(auto, using(crate::proofs::InheritedLemmas::told_by_nodes))]
+    #[tactic(auto, using(crate::proofs::InheritedLemmas::reported_by_nodes))]
     fn is_inherited(&self, interface: ClassId, node: NodeId, name: &Name) -> bool
         ensures { result ≡ is_inherited_as (declarations_of self.now) interface node name.now }
     {
-        if let Some(told) = &self.inherited {
-            let inherited = inherited_under(told, name);
+        if let Some(reported) = &self.inherited {
+            let inherited = inherited_under(reported, name);
             if inherited.interface == interface && inherited.name == *name {
                 let number = node.number();
                 return inherited.nodes.contains(&number);

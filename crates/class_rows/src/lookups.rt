@@ -56,8 +56,8 @@ impl<'a> ClassTable<'a> {
         if above.number() < KIND_COUNT {
             return has_bit(way_at(&self.ways, class).above, above);
         }
-        match self.is_told_under(class, above) {
-            Some(told) => told,
+        match self.is_reported_under(class, above) {
+            Some(reported) => reported,
             None => self.is_on_chain(class, above),
         }
     }
@@ -167,7 +167,7 @@ impl<'a> ClassTable<'a> {
     }
 
     /// The nearest member of a name above a class whose chain is long, where it is told.
-    fn told_above(&self, kind: MemberKind, class: ClassId, name: &Name) -> Option<Option<FieldRef>>
+    fn reported_above(&self, kind: MemberKind, class: ClassId, name: &Name) -> Option<Option<FieldRef>>
         ensures { IfSome result (λ nearest. IsNearestAbove kind self.now class name.now nearest) }
     {
         if self.ancestry(class)?.depth <= SHORT {
@@ -185,7 +185,7 @@ impl<'a> ClassTable<'a> {
         ensures { option_map (found_field self.now.nodes) result ≡ field_named (rows_of self.now) class name.now }
     {
         let first = &self.first_declared(MemberKind::Field, name);
-        if let Some(above) = self.told_above(MemberKind::Field, class, name) {
+        if let Some(above) = self.reported_above(MemberKind::Field, class, name) {
             return self.field_like(class, first).or(above);
         }
         let mut chain = self.superclasses(class);
@@ -281,7 +281,7 @@ impl<'a> ClassTable<'a> {
         ensures { option_map (found_method self.now.nodes) result ≡ along
             (own_method (rows_of self.now) name.now) (superclasses (rows_of self.now) class) }
     {
-        let Some(above) = self.told_above(MemberKind::Method, class, name) else {
+        let Some(above) = self.reported_above(MemberKind::Method, class, name) else {
             return self.first_method(self.superclasses(class), false, name);
         };
         if let Some(method) = self.own_method(class, name) {
@@ -321,7 +321,7 @@ impl<'a> ClassTable<'a> {
             ≡ filter is_framework (superclasses (rows_of self.now) class) }
     {
         match self.ancestry(class) {
-            Some(told) => told.root,
+            Some(reported) => reported.root,
             None => class,
         }
     }

@@ -6,7 +6,7 @@ ghost use Rattle.scj_base.specs.Bytes.{is_same};
 ghost use Rattle.scj_tree.specs.Forest.{Forest};
 ghost use Rattle.scj_rules.specs.Classes.{classes_above, superclasses};
 ghost use Rattle.class_rows.specs.declared.members.MemberKind.{MemberKind};
-ghost use Rattle.class_rows.specs.Members.{as_method, change, changes_under, if_abstract, is_told, kept_under, latest, nearest_before, nearest_now, rows_of, with_change, AreInOrder, AreNamed, AreNearest, IsNearestAbove, IsSplit};
+ghost use Rattle.class_rows.specs.Members.{as_method, change, changes_under, if_abstract, is_reported, kept_under, latest, nearest_before, nearest_now, rows_of, with_change, AreInOrder, AreNamed, AreNearest, IsNearestAbove, IsSplit};
 
 use crate::fields::FieldRef;
 use method_rows::{MethodRef, MethodSource};
@@ -35,7 +35,7 @@ pub struct NearestMembers {
     /// Those of each name, the last one last.
     changes: BTreeMap<Name, Vec<Change>>,
     /// How many there were when it was told what stands above a class.
-    told: HashMap<u32, u32>,
+    reported: HashMap<u32, u32>,
     /// The nearest members now that are abstract methods.
     abstracts: BTreeMap<Name, FieldRef>,
 }
@@ -126,7 +126,7 @@ impl NearestMembers {
             alloc,
             count: 0,
             changes: BTreeMap::new(alloc),
-            told: HashMap::new(alloc),
+            reported: HashMap::new(alloc),
             abstracts: BTreeMap::new(alloc),
         }
     }
@@ -165,9 +165,9 @@ impl NearestMembers {
     ) -> Result<(), Memory>
         ensures now { OnOk result ((other : List ℕ) → nearest_now self.new other
             ≡ (if is_same name.now other then nearest.now else nearest_now self.old other)) }
-        ensures told { OnOk result ((kind : MemberKind) → AreNearest kind program.now self.old →
+        ensures reported { OnOk result ((kind : MemberKind) → AreNearest kind program.now self.old →
             AreNearest kind program.now self.new) }
-        ensures kept { (class : ℕ) → is_told self.new class ≡ is_told self.old class }
+        ensures kept { (class : ℕ) → is_reported self.new class ≡ is_reported self.old class }
     {
         if self.count == u32::MAX {
             return Err(Memory);
@@ -179,25 +179,25 @@ impl NearestMembers {
     }
 
     /// Tells what stands above a class: the nearest members now.
-    pub fn tell(&mut self, class: ClassId) -> Result<(), Memory>
-        ensures told { OnOk result ((other : ℕ) → is_told self.new other
-            ≡ ((class == other) || is_told self.old other)) }
+    pub fn report(&mut self, class: ClassId) -> Result<(), Memory>
+        ensures reported { OnOk result ((other : ℕ) → is_reported self.new other
+            ≡ ((class == other) || is_reported self.old other)) }
         ensures nearest { OnOk result ((kind : MemberKind) (forest : Forest) (path : List ℕ) →
             superclasses (rows_of forest) class ≡ class ∷ path → classes_above (rows_of forest) class ≡ path →
             IsSplit (superclasses (rows_of forest) class) → AreNamed kind forest self.old path →
             AreNamed kind forest self.new path) }
     {
-        self.told.insert(class.number(), self.count)?;
+        self.reported.insert(class.number(), self.count)?;
         Ok(())
     }
 
     /// The nearest member of a name above a class, where it is told.
     pub fn nearest_above(&self, class: ClassId, name: &Name) -> Option<Option<FieldRef>>
-        ensures told { is_some result ≡ is_told self.now class }
+        ensures reported { is_some result ≡ is_reported self.now class }
         ensures nearest { (kind : MemberKind) (forest : Forest) → AreNearest kind forest self.now →
             IfSome result (λ nearest. IsNearestAbove kind forest class name.now nearest) }
     {
-        let count = self.told.get(&class.number()).copied()?;
+        let count = self.reported.get(&class.number()).copied()?;
         Some(nearest_before(self.changes_of(name), count))
     }
 }

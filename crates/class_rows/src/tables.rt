@@ -82,13 +82,13 @@ impl<'a> ClassTable<'a> {
     }
 
     /// Keeps what a tour tells: which methods the classes inherit, and the nearest fields and methods above them.
-    pub fn keep(&mut self, told: InheritedMethods, fields: NearestMembers, methods: NearestMembers)
-        requires told { AreInheritedMethods (declarations_of self.old) [] told }
+    pub fn keep(&mut self, reported: InheritedMethods, fields: NearestMembers, methods: NearestMembers)
+        requires reported { AreInheritedMethods (declarations_of self.old) [] reported }
         requires fields { AreNearest Field self.old fields }
         requires methods { AreNearest Method self.old methods }
         ensures { self.new ≡ self.old }
     {
-        self.inherited = Some(told);
+        self.inherited = Some(reported);
         self.fields_above = fields;
         self.methods_above = methods;
     }

@@ -32,7 +32,7 @@ pub fn build<'a>(
 {
     let mut table = ClassTable::of(alloc, program)?;
     let order = in_order(alloc, &table)?;
-    table.tell_ancestries(alloc, &order)?;
+    table.report_ancestries(alloc, &order)?;
     let mut found = Vec::new(alloc);
     note_c8(&mut found, &table)?;
     let (inherited, fields, methods) = note_classes(alloc, &mut found, &table, &order)?;

@@ -73,22 +73,22 @@ pub fn in_order(alloc: Global, classes: &ClassTable<'_>) -> Result<Vec<ClassId>,
 fn note_each(
     alloc: Global,
     found: &mut Vec<Found>,
-    told: &mut InheritedMethods,
+    reported: &mut InheritedMethods,
     table: &mut SymbolTable<'_>,
     classes: &[ClassId],
 ) -> Result<(), Memory>
     requires { AreClasses table.old.forest classes.now }
     ensures found { OnOk result (found.new.items ≡ found.old.items
         ++ flat_map (broken_at_class table.old.forest) classes.now) }
-    ensures told { OnOk result (AreInheritedMethods (declarations_of table.old.forest) classes.now told.old →
-        AreInheritedMethods (declarations_of table.old.forest) [] told.new) }
+    ensures reported { OnOk result (AreInheritedMethods (declarations_of table.old.forest) classes.now reported.old →
+        AreInheritedMethods (declarations_of table.old.forest) [] reported.new) }
     ensures forest { OnOk result (table.new.forest ≡ table.old.forest) }
 {
     let mut others = classes;
     while let [class, rest @ ..] = others {
         table.go_to(*class)?;
         note_class(alloc, found, table)?;
-        note_inherited_methods(told, table)?;
+        note_inherited_methods(reported, table)?;
         others = rest;
     }
     Ok(())
@@ -106,12 +106,12 @@ pub fn note_classes(
     requires classes { AreClasses classes.now order.now }
     ensures found { OnOk result (FindSame found.new.items (found.old.items
         ++ over_classes (declarations_of classes.now) (class_found (declarations_of classes.now)))) }
-    ensures told { IfOk result (λ told. AreInheritedMethods (declarations_of classes.now) [] told.0) }
-    ensures nearest { IfOk result (λ told. AreNearest Field classes.now told.1 × AreNearest Method classes.now told.2) }
+    ensures reported { IfOk result (λ reported. AreInheritedMethods (declarations_of classes.now) [] reported.0) }
+    ensures nearest { IfOk result (λ reported. AreNearest Field classes.now reported.1 × AreNearest Method classes.now reported.2) }
 {
-    let mut told = no_methods_inherited(alloc);
+    let mut reported = no_methods_inherited(alloc);
     let mut table = SymbolTable::new(alloc, classes);
-    note_each(alloc, found, &mut told, &mut table, order)?;
+    note_each(alloc, found, &mut reported, &mut table, order)?;
     let (fields, methods) = table.into_nearest();
-    Ok((told, fields, methods))
+    Ok((reported, fields, methods))
 }

@@ -62,15 +62,15 @@ fn note_inherited(inherited: &mut Inherited, table: &SymbolTable<'_>) -> Result<
 
 /// Notes which methods the class at which the table stands inherits.
 pub fn note_inherited_methods(
-    told: &mut InheritedMethods,
+    reported: &mut InheritedMethods,
     table: &SymbolTable<'_>,
 ) -> Result<(), Memory>
     ensures { OnOk result ((others : List ℕ) → AreInheritedMethods (declarations_of table.now.forest)
-        (table.now.class ∷ others) told.old → AreInheritedMethods (declarations_of table.now.forest) others told.new) }
+        (table.now.class ∷ others) reported.old → AreInheritedMethods (declarations_of table.now.forest) others reported.new) }
 {
-    note_inherited(&mut told.get_sequencer, table)?;
-    note_inherited(&mut told.immortal_memory_size, table)?;
-    note_inherited(&mut told.initialize_application, table)?;
-    note_inherited(&mut told.run, table)?;
+    note_inherited(&mut reported.get_sequencer, table)?;
+    note_inherited(&mut reported.immortal_memory_size, table)?;
+    note_inherited(&mut reported.initialize_application, table)?;
+    note_inherited(&mut reported.run, table)?;
     Ok(())
 }

@@ -28,6 +28,6 @@ simple_as a same = ap is_simple same ∙ command_is_simple
 pub refused_by_kind : (kinds : Kinds) (e : Error) (r : WordsError) → HasKind kinds e →
     ((r ≡ Memory) ↔ (kind_of e ≡ OutOfMemory))
     → r ≡ Usage → is_empty kinds ≡ false
-refused_by_kind [] e r (inl out) tells is = let both : Usage ≡ Memory = sym is ∙ tells.1 out in cc
-refused_by_kind [] e r (inr among) tells is = elim among [ ]
-refused_by_kind (k ∷ kinds) e r has tells is = grind (arith, nat_tests)
+refused_by_kind [] e r (inl out) reports is = let both : Usage ≡ Memory = sym is ∙ reports.1 out in cc
+refused_by_kind [] e r (inr among) reports is = elim among [ ]
+refused_by_kind (k ∷ kinds) e r has reports is = grind (arith, nat_tests)

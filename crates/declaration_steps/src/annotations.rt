@@ -2,7 +2,7 @@
 
 ghost use Rattle.std.specs.Prelude.{◌≡◌};
 ghost use Rattle.parser_machine.specs.Declarations.{annotation_named, at_step, define_scope_named, pair_ended, plain_assigned_step, plain_dot_step, plain_end_step, plain_ended, plain_first_step, plain_name_step, plain_next_step, plain_open_step, plain_path_step, plain_value_step, plain_without, runs_in_named, scope_named};
-ghost use Rattle.parser_nodes.specs.Told.{gives, seen};
+ghost use Rattle.parser_nodes.specs.Reported.{gives, seen};
 
 use parser_machine::{Entry, Mode};
 use parser_nodes::growing_nodes::Nodes;

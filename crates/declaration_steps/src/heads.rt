@@ -3,7 +3,7 @@
 ghost use Rattle.std.specs.Prelude.{◌≡◌, ◌∷◌};
 ghost use Rattle.parser_machine.specs.Files.{class_name_step, class_named_step, class_opened, interface_sign, super_argument_end_step, super_argument_name_step, super_ended, super_name_step, super_named_step, superclass_sign};
 ghost use Rattle.parser_machine.specs.declared.entries.Entry.TheVariants.{SupersOpen};
-ghost use Rattle.parser_nodes.specs.Told.{gives, seen};
+ghost use Rattle.parser_nodes.specs.Reported.{gives, seen};
 ghost use Rattle.scj_tree.specs.Lexemes.{a_word};
 ghost use Rattle.scj_tree.specs.Nodes.{put};
 ghost use Rattle.scj_tree.specs.declared.nodes.Node.TheVariants.{SuperType};

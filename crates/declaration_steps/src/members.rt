@@ -2,7 +2,7 @@
 
 ghost use Rattle.std.specs.Prelude.{◌≡◌};
 ghost use Rattle.parser_machine.specs.Members.{field_ended, literal_end_step, literal_minus_step, literal_step, literal_word, member_named_step, member_read, method_named_step, result_step};
-ghost use Rattle.parser_nodes.specs.Told.{gives, seen};
+ghost use Rattle.parser_nodes.specs.Reported.{gives, seen};
 
 use parser_machine::{Entry, Mode};
 use parser_nodes::growing_nodes::Nodes;

@@ -3,7 +3,7 @@
 ghost use Rattle.std.specs.Prelude.{◌≡◌, ◌∷◌};
 ghost use Rattle.parser_machine.specs.Declarations.{define_assign_step, define_name_step, define_open_step, define_other_assign_step, define_other_step, value_dot_step, value_end_step, value_open_step, value_scope_step, value_start_step, valued};
 ghost use Rattle.parser_machine.specs.declared.entries.Entry.TheVariants.{DefineSecond, RunsInOpen, ScopeOpen};
-ghost use Rattle.parser_nodes.specs.Told.{gives, seen};
+ghost use Rattle.parser_nodes.specs.Reported.{gives, seen};
 
 use crate::scope_names::is_name;
 use parser_machine::{Entry, Mode};

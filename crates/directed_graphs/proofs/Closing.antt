@@ -8,7 +8,7 @@ use Rattle.directed_graphs.specs.declared.order.Group.{Group}
 use Rattle.directed_graphs.specs.declared.order.Mark.{Mark}
 use Rattle.directed_graphs.specs.declared.order.Mark.TheVariants.{Unseen, OnPath, Done}
 use Rattle.directed_graphs.specs.Graphs.{Graph, successors, IsReached, LeadsToItself, at}
-use Rattle.directed_graphs.specs.Walks.{Walk, group_of, group_of_edge, AreGroups, mark_of, AreMarked, IsLeft, StandsFrom, HasEdgeInside, IsAlone, AreTold, IsWalk, AreSet}
+use Rattle.directed_graphs.specs.Walks.{Walk, group_of, group_of_edge, AreGroups, mark_of, AreMarked, IsLeft, StandsFrom, HasEdgeInside, IsAlone, AreReported, IsWalk, AreSet}
 use Rattle.directed_graphs.proofs.Closed.{any_default, there as at_place}
 use Rattle.directed_graphs.proofs.Levels.{get_left_of, get_last_of, get_is_within, level_few, level_last, level_under}
 use Rattle.directed_graphs.proofs.Paths.{leads_back, stays_in}
@@ -27,7 +27,7 @@ module _ (graph : Graph) (marks : List Mark) (low high edges : List ℕ) (gs : L
 
   module _ (walk : IsWalk graph before) (begins : length low ≡ t.vertex) (none_left : length edges ≤ t.edge)
       (marks_now : List Mark) (marked : AreSet Unseen Done high marks marks_now) (loops_now : List Bool)
-      (told_now : AreSet false t.loops high loops loops_now) where
+      (reported_now : AreSet false t.loops high loops loops_now) where
     abbrev pub after : Walk
     after = record {
       marks = marks_now;
@@ -317,7 +317,7 @@ module _ (graph : Graph) (marks : List Mark) (low high edges : List ℕ) (gs : L
     loops_so : (v : ℕ) → Contains high v → t.loops ≡ true → LeadsToItself graph v
     loops_so v c l =
         let s = stands v c in
-        let h = walk.told.loop (length gs) t last_group l in
+        let h = walk.reported.loop (length gs) t last_group l in
         let group = of_high s.index s.from in
         let a = h.from_group in
         let b = h.to_group in
@@ -329,7 +329,7 @@ module _ (graph : Graph) (marks : List Mark) (low high edges : List ℕ) (gs : L
     -- a vertex alone
     module _ (l : t.loops ≡ false) where
       alone : IsAlone graph before (λ k x. ⊥) (length gs + 1)
-      alone = walk.told.alone (length gs) t last_group l
+      alone = walk.reported.alone (length gs) t last_group l
 
       is_one : (v x : ℕ) → Contains high v → Contains high x → v ≡ x
       is_one v x c d =
@@ -357,8 +357,8 @@ module _ (graph : Graph) (marks : List Mark) (low high edges : List ℕ) (gs : L
           order_not_high v
           (stays_in graph (Contains order) (λ a b. walk.done.closed a b) k.next v k.back (leads_before v k.next c k.edge)) c
 
-    told_at : (v : ℕ) → Contains high v → slice_index_or loops_now v false ≡ t.loops
-    told_at v c = of (told_now.each v)
+    reported_at : (v : ℕ) → Contains high v → slice_index_or loops_now v false ≡ t.loops
+    reported_at v c = of (reported_now.each v)
       where
         of : (Contains high v × (slice_index_or loops_now v false ≡ t.loops))
             ⊎ ((Contains high v → ⊥) × (slice_index_or loops_now v false ≡ slice_index_or loops v false)) →
@@ -366,8 +366,8 @@ module _ (graph : Graph) (marks : List Mark) (low high edges : List ℕ) (gs : L
         of (inl h) = h.1
         of (inr h) = absurd (h.0 c)
 
-    told_else : (v : ℕ) → (Contains high v → ⊥) → slice_index_or loops_now v false ≡ slice_index_or loops v false
-    told_else v n = of (told_now.each v)
+    reported_else : (v : ℕ) → (Contains high v → ⊥) → slice_index_or loops_now v false ≡ slice_index_or loops v false
+    reported_else v n = of (reported_now.each v)
       where
         of : (Contains high v × (slice_index_or loops_now v false ≡ t.loops))
             ⊎ ((Contains high v → ⊥) × (slice_index_or loops_now v false ≡ slice_index_or loops v false)) →
@@ -379,18 +379,18 @@ module _ (graph : Graph) (marks : List Mark) (low high edges : List ℕ) (gs : L
     exact_high v c = of t.loops refl
       where
         of : (b : Bool) → t.loops ≡ b → (slice_index_or loops_now v false ≡ true) ↔ LeadsToItself graph v
-        of true e = ((λ h. loops_so v c e), (λ h. told_at v c ∙ e))
+        of true e = ((λ h. loops_so v c e), (λ h. reported_at v c ∙ e))
         of false e =
-            ((λ h. absurd (let a = told_at v c in cc (a, e, h))), (λ h. absurd (never_back e v c h)))
+            ((λ h. absurd (let a = reported_at v c in cc (a, e, h))), (λ h. absurd (never_back e v c h)))
 
     exact : (v : ℕ) → Contains (order ++ high) v → (slice_index_or loops_now v false ≡ true) ↔ LeadsToItself graph v
     exact v c =
-        ⊎_elim (λ o. (let same = told_else v (order_not_high v o) in let k = walk.done.exact v o in
+        ⊎_elim (λ o. (let same = reported_else v (order_not_high v o) in let k = walk.done.exact v o in
         ((λ h. k.0 (sym same ∙ h)), (λ h. same ∙ k.1 h)))) (λ h. exact_high v h) (Contains-append_cases order high v c)
 
     behind : (k x : ℕ) → k < length (order ++ high) → slice_index_or loops_now (at (order ++ high) k) false ≡ false →
         Contains (successors graph (at (order ++ high) k)) x → (j : ℕ) × (j < k) × (at (order ++ high) j ≡ x)
-    behind k x l untold e = of (nat_lt k (length order)) refl
+    behind k x l unreported e = of (nat_lt k (length order)) refl
       where
         place_of : Contains order x → (k_from : length order ≤ k) → (j : ℕ) × (j < k) × (at (order ++ high) j ≡ x)
         place_of o m = (
@@ -407,9 +407,9 @@ module _ (graph : Graph) (marks : List Mark) (low high edges : List ℕ) (gs : L
             let m : k < length order = grind (arith, nat_tests) in
             let same : at (order ++ high) k ≡ at order k = get_or_append_left order high 0 k m in
             let o : Contains order (at order k) = at_place order k 0 m in
-            let was = told_else (at order k) (order_not_high (at order k) o) in
+            let was = reported_else (at order k) (order_not_high (at order k) o) in
             let h = walk.done.behind k x m
-            (sym was ∙ (ap (λ v. slice_index_or loops_now v false) (sym same) ∙ untold))
+            (sym was ∙ (ap (λ v. slice_index_or loops_now v false) (sym same) ∙ unreported))
             (subst (λ v. Contains (successors graph v) x) same e) in
             (h.0, h.1, get_or_append_left order high 0 h.0 (let i = h.1 in omega (arith, i, m)) ∙ h.2)
         of false b =
@@ -420,12 +420,12 @@ module _ (graph : Graph) (marks : List Mark) (low high edges : List ℕ) (gs : L
             sym (ap (at (order ++ high)) back) ∙ get_or-append-add order high (k - length order) 0 in
             let c : Contains high (at (order ++ high) k) =
             subst (Contains high) (sym same) (at_place high (k - length order) 0 n) in
-            place_of (leads_before (sym (told_at (at (order ++ high) k) c) ∙ untold) (at (order ++ high) k) x c e) m
+            place_of (leads_before (sym (reported_at (at (order ++ high) k) c) ∙ unreported) (at (order ++ high) k) x c e) m
 
     -- ---- the marks of groups
 
-    told_after : AreTold graph after (λ k x. ⊥)
-    told_after = record { loop = loop; alone = alone_at }
+    reported_after : AreReported graph after (λ k x. ⊥)
+    reported_after = record { loop = loop; alone = alone_at }
       where
         old : (a : ℕ) (g : Group) → slice_get gs a ≡ Some g → slice_get (gs ++ t ∷ []) a ≡ Some g
         old a g e = get_left_of gs (t ∷ []) a g e
@@ -435,7 +435,7 @@ module _ (graph : Graph) (marks : List Mark) (low high edges : List ℕ) (gs : L
 
         loop : (a : ℕ) (g : Group) → slice_get gs a ≡ Some g → g.loops ≡ true → HasEdgeInside graph after (a + 1)
         loop a g p q =
-            let h = walk.told.loop a g (old a g p) q in
+            let h = walk.reported.loop a g (old a g p) q in
             let few_here : a + 1 ≤ length gs = (let l = get_is_within gs a g p in omega (arith, l)) in
             let i : h.from < length low = low_index h.from (a + 1) h.from_group few_here in
             let j : h.to < length low = low_index h.to (a + 1) h.to_group few_here in
@@ -453,7 +453,7 @@ module _ (graph : Graph) (marks : List Mark) (low high edges : List ℕ) (gs : L
         alone_at : (a : ℕ) (g : Group) → slice_get gs a ≡ Some g → g.loops ≡ false →
             IsAlone graph after (λ k x. ⊥) (a + 1)
         alone_at a g p q =
-            let h = walk.told.alone a g (old a g p) q in
+            let h = walk.reported.alone a g (old a g p) q in
             record {
               one = λ i j l m c d.
                   h.one i j (low_within i l) (low_within j m) (of_low i l ∙ c) (of_low j m ∙ d);
@@ -471,9 +471,9 @@ module _ (graph : Graph) (marks : List Mark) (low high edges : List ℕ) (gs : L
       groups = groups_after;
       marks = marks_after;
       edges = record { reach = reach; left = left; followed = followed };
-      told = told_after;
+      reported = reported_after;
       done = record {
-        whole = told_now.whole ∙ walk.done.whole;
+        whole = reported_now.whole ∙ walk.done.whole;
         closed = closed;
         exact = exact;
         behind = behind;

@@ -15,7 +15,7 @@ pub record IsEmptying (group : Group) (m now : Walk) (index : ℕ) : Type 0 wher
   pub from : group.vertex ≤ index
   pub is : take index m.path ≡ take group.vertex m.path ++ list
   pub marked : AreSet Unseen Done list m.marks now.marks
-  pub told : AreSet false group.loops list m.loops now.loops
+  pub reported : AreSet false group.loops list m.loops now.loops
   pub path : now.path ≡ m.path
   pub edges : now.edges ≡ m.edges
   pub groups : now.groups ≡ m.groups
@@ -27,7 +27,7 @@ emptying_none group m = record {
   from = omega arith;
   is = sym (append-nil (take group.vertex m.path));
   marked = set_none Unseen Done m.marks;
-  told = set_none false group.loops m.loops;
+  reported = set_none false group.loops m.loops;
   path = refl;
   edges = refl;
   groups = refl;
@@ -49,7 +49,7 @@ emptying_more group m now index v h l e a b order is = record {
       ∙ (append_assoc (take group.vertex m.path) h.list (at m.path index ∷ [])
       ∙ ap (λ u. take group.vertex m.path ++ (h.list ++ u ∷ [])) (sym e)));
   marked = set_more Unseen Done h.list m.marks now.marks v h.marked a;
-  told = set_more false group.loops h.list m.loops now.loops v h.told b;
+  reported = set_more false group.loops h.list m.loops now.loops v h.reported b;
   path = h.path;
   edges = h.edges;
   groups = h.groups;
@@ -76,10 +76,10 @@ emptied_vertex group m now index v h all l e =
     let b = emptied_at group m now index v h l e in
     let c = h.marked.whole in omega (arith, a, b, c)
 
-pub emptied_told : (group : Group) (m now : Walk) (index v : ℕ) → IsEmptying group m now index →
+pub emptied_reported : (group : Group) (m now : Walk) (index v : ℕ) → IsEmptying group m now index →
     length m.loops ≡ length m.marks → v < length now.marks → v < length now.loops
-emptied_told group m now index v h e l =
-    let a = h.marked.whole in let b = h.told.whole in omega (arith, e, l, a, b)
+emptied_reported group m now index v h e l =
+    let a = h.marked.whole in let b = h.reported.whole in omega (arith, e, l, a, b)
 
 pub emptying_all : (group : Group) (m now : Walk) (index : ℕ) → IsEmptying group m now index →
     length m.path ≤ index → group.vertex ≤ length m.path → (path : List ℕ) → path ≡ take group.vertex now.path →
@@ -90,7 +90,7 @@ emptying_all group m now index h l k path is = record {
   split = sym (take_all index m.path l) ∙ h.is;
   begins = length-take-le group.vertex m.path k;
   marked = h.marked;
-  told = h.told;
+  reported = h.reported;
   path = is ∙ ap (λ xs. take group.vertex xs) h.path;
   edges = h.edges;
   groups = h.groups;

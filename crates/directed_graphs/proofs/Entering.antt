@@ -8,7 +8,7 @@ use Rattle.directed_graphs.specs.declared.order.Group.{Group}
 use Rattle.directed_graphs.specs.declared.order.Mark.{Mark}
 use Rattle.directed_graphs.specs.declared.order.Mark.TheVariants.{Unseen, OnPath, Done}
 use Rattle.directed_graphs.specs.Graphs.{Graph, successors, IsReached, start, at}
-use Rattle.directed_graphs.specs.Walks.{Walk, group_of, group_of_edge, AreGroups, mark_of, AreMarked, IsLeft, StandsFrom, HasEdgeInside, IsAlone, AreTold, IsWalkBut, IsWalk, Follows, entering, entered}
+use Rattle.directed_graphs.specs.Walks.{Walk, group_of, group_of_edge, AreGroups, mark_of, AreMarked, IsLeft, StandsFrom, HasEdgeInside, IsAlone, AreReported, IsWalkBut, IsWalk, Follows, entering, entered}
 use Rattle.directed_graphs.proofs.Closed.{any_default}
 use Rattle.directed_graphs.proofs.Levels.{get_pushed, level_few, level_last, level_under}
 
@@ -329,8 +329,8 @@ module _ (graph : Graph) (m : Walk) (w : ℕ) (walk : IsWalkBut graph m (Follows
               absurd (let seen = walk.marks.has_mark i x.0 in let same = k.1 in
               cc (seen, ap (mark_of m) same ∙ unseen))
 
-  told : AreTold graph (entered graph m w) (λ group x. ⊥)
-  told = record {
+  reported : AreReported graph (entered graph m w) (λ group x. ⊥)
+  reported = record {
     loop = λ a g p t. loop a g (get_pushed m.groups (entering m) g a p) t;
     alone = λ a g p t. alone a g (get_pushed m.groups (entering m) g a p) t;
   }
@@ -338,7 +338,7 @@ module _ (graph : Graph) (m : Walk) (w : ℕ) (walk : IsWalkBut graph m (Follows
       loop : (a : ℕ) (g : Group) →
           ((slice_get m.groups a ≡ Some g) × (a < length m.groups)) ⊎ ((a ≡ length m.groups) × (entering m ≡ g)) →
           g.loops ≡ true → HasEdgeInside graph (entered graph m w) (a + 1)
-      loop a g (inl x) t = inside_still (a + 1) (walk.told.loop a g x.0 t)
+      loop a g (inl x) t = inside_still (a + 1) (walk.reported.loop a g x.0 t)
       loop a g (inr x) t = absurd (let e = ap (λ (z : Group). z.loops) x.1 in cc (e, t))
 
       new_index : (i : ℕ) → i < length (m.path ++ w ∷ []) → group_of (entered graph m w) i ≡ length m.groups + 1 →
@@ -358,7 +358,7 @@ module _ (graph : Graph) (m : Walk) (w : ℕ) (walk : IsWalkBut graph m (Follows
       alone : (a : ℕ) (g : Group) →
           ((slice_get m.groups a ≡ Some g) × (a < length m.groups)) ⊎ ((a ≡ length m.groups) × (entering m ≡ g)) →
           g.loops ≡ false → IsAlone graph (entered graph m w) (λ group x. ⊥) (a + 1)
-      alone a g (inl x) t = alone_still (a + 1) (let l = x.1 in omega (arith, l)) (walk.told.alone a g x.0 t)
+      alone a g (inl x) t = alone_still (a + 1) (let l = x.1 in omega (arith, l)) (walk.reported.alone a g x.0 t)
       alone a g (inr x) t =
           subst (λ n. IsAlone graph (entered graph m w) (λ group x. ⊥) (n + 1)) (sym x.0) new_alone
 
@@ -369,7 +369,7 @@ module _ (graph : Graph) (m : Walk) (w : ℕ) (walk : IsWalkBut graph m (Follows
     groups = groups;
     marks = marks;
     edges = record { reach = reach; left = left; followed = followed };
-    told = told;
+    reported = reported;
     done = record {
       whole = walk.done.whole;
       closed = walk.done.closed;

@@ -86,9 +86,9 @@ module _ (graph : Graph) (marks : List Mark) (path es : List ℕ) (w : ℕ) (gs 
           left = λ e l. left e l;
           followed = λ i x l c. followed i x (walk.edges.followed i x l c);
         };
-        told = record {
-          loop = λ a g p q. inside (a + 1) (walk.told.loop a g p q);
-          alone = λ a g p q. alone (a + 1) (walk.told.alone a g p q);
+        reported = record {
+          loop = λ a g p q. inside (a + 1) (walk.reported.loop a g p q);
+          alone = λ a g p q. alone (a + 1) (walk.reported.alone a g p q);
         };
         done = record {
           whole = walk.done.whole;
@@ -174,9 +174,9 @@ module _ (graph : Graph) (m : Walk) (w : ℕ) (follows : IsFollowing graph m w) 
       left = walk.edges.left;
       followed = λ i x l c. followed i x (walk.edges.followed i x l c);
     };
-    told = record {
-      loop = walk.told.loop;
-      alone = λ a g p q. alone (a + 1) (walk.told.alone a g p q);
+    reported = record {
+      loop = walk.reported.loop;
+      alone = λ a g p q. alone (a + 1) (walk.reported.alone a g p q);
     };
     done = walk.done;
   }

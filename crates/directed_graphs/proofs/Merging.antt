@@ -4,7 +4,7 @@ use Rattle.std.proofs.Common.{◌≡◌, ℕ, suc, ◌+◌, ◌<◌, ◌≤◌, 
 use Rattle.std.proofs.lemmas.Bool.Decides.{nat_tests}
 use Rattle.directed_graphs.specs.declared.order.Group.{Group}
 use Rattle.directed_graphs.specs.Graphs.{Graph, successors, IsReached, along, at}
-use Rattle.directed_graphs.specs.Walks.{Walk, level, group_of, group_of_edge, AreGroups, IsLeft, StandsFrom, HasEdgeInside, IsAlone, AreTold, IsWalkBut, IsWalk, Follows, IsFollowing, marked_loop, merged}
+use Rattle.directed_graphs.specs.Walks.{Walk, level, group_of, group_of_edge, AreGroups, IsLeft, StandsFrom, HasEdgeInside, IsAlone, AreReported, IsWalkBut, IsWalk, Follows, IsFollowing, marked_loop, merged}
 use Rattle.directed_graphs.proofs.Levels.{get_pushed, get_left_of, get_right_of, get_last_of, get_is_within, level_none, level_both, level_few, level_all, level_first}
 use Rattle.directed_graphs.proofs.Paths.{reached_then}
 
@@ -253,8 +253,8 @@ module _ (graph : Graph) (m : Walk) (w : ℕ) (follows : IsFollowing graph m w) 
           (let e : min (length gs + 1) group ≡ group = omega (arith, l) in e) (left_still group (at m.path i) k))
       of i (inr k) = absurd (let e = k.0 in omega (arith, e, l, total))
 
-  told : AreTold graph (merged m gs g) (λ k x. ⊥)
-  told = record {
+  reported : AreReported graph (merged m gs g) (λ k x. ⊥)
+  reported = record {
     loop = λ a x p t. loop a x (get_pushed gs (marked_loop g) x a p) t;
     alone = λ a x p t. alone a x (get_pushed gs (marked_loop g) x a p) t;
   }
@@ -267,12 +267,12 @@ module _ (graph : Graph) (m : Walk) (w : ℕ) (follows : IsFollowing graph m w) 
 
       loop : (a : ℕ) (x : Group) → Case a x → x.loops ≡ true → HasEdgeInside graph (merged m gs g) (a + 1)
       loop a x (inl h) t =
-          inside_still (a + 1) (let l = h.1 in omega (arith, l)) (walk.told.loop a x (old a x h.0) t)
+          inside_still (a + 1) (let l = h.1 in omega (arith, l)) (walk.reported.loop a x (old a x h.0) t)
       loop a x (inr h) t = subst (λ k. HasEdgeInside graph (merged m gs g) (k + 1)) (sym h.0) inside_now
 
       alone : (a : ℕ) (x : Group) → Case a x → x.loops ≡ false → IsAlone graph (merged m gs g) (λ k y. ⊥) (a + 1)
       alone a x (inl h) t =
-          alone_still (a + 1) (let l = h.1 in omega (arith, l)) (walk.told.alone a x (old a x h.0) t)
+          alone_still (a + 1) (let l = h.1 in omega (arith, l)) (walk.reported.alone a x (old a x h.0) t)
       alone a x (inr h) t = absurd (let e = ap (λ (z : Group). z.loops) h.1 in cc (e, t))
 
   -- ---- all of it
@@ -288,7 +288,7 @@ module _ (graph : Graph) (m : Walk) (w : ℕ) (follows : IsFollowing graph m w) 
       is_done = walk.marks.is_done;
     };
     edges = record { reach = reach; left = left; followed = followed };
-    told = told;
+    reported = reported;
     done = record {
       whole = walk.done.whole;
       closed = walk.done.closed;

@@ -45,12 +45,12 @@ first_walks graph = record {
     left = λ e l. absurd (omega (arith, l));
     followed = λ i w l c. absurd (omega (arith, l));
   };
-  told = record { loop = λ a g p q. absurd (cc (p)); alone = λ a g p q. absurd (cc (p)) };
+  reported = record { loop = λ a g p q. absurd (cc (p)); alone = λ a g p q. absurd (cc (p)) };
   done = record {
     whole = length-replicate (length graph) false;
     closed = λ v w c e. absurd (let l = c.1 in omega (arith, l));
     exact = λ v c. absurd (let l = c.1 in omega (arith, l));
-    behind = λ k w l untold e. absurd (omega (arith, l));
+    behind = λ k w l unreported e. absurd (omega (arith, l));
   };
 }
 
@@ -74,8 +74,8 @@ module _ (graph : Graph) (m : Walk) (walk : IsWalk graph m) (none : m.groups ≡
       left = walk.edges.left;
       followed = λ i x l c. absurd (path_is_empty i l);
     };
-    told = record {
-      loop = walk.told.loop;
+    reported = record {
+      loop = walk.reported.loop;
       alone = λ a g p q. absurd (let e = ap (λ (gs : List Group). slice_get gs a) none in cc (e, p));
     };
     done = walk.done;

@@ -140,7 +140,7 @@ module _ (graph : Graph) (m : Walk) (walk : IsWalk graph m) (gs : List Group) (t
   closing l after h = record {
     walk = subst (IsWalk graph) (sym same)
         (closed_walks graph m.marks h.low h.high m.edges gs t m.order m.loops (subst (IsWalk graph) whole walk) h.begins l
-        after.marks h.marked after.loops h.told);
+        after.marks h.marked after.loops h.reported);
     fewer =
         let a = unseen_less graph m.marks after.marks h.marked.whole sees in
         let b = ap (λ (xs : List ℕ). length xs) h.edges in

@@ -88,7 +88,7 @@ pub record IsAlone (graph : Graph) (m : Walk) (Late : ℕ → ℕ → Type 0) (g
       Contains (successors graph (at m.path i)) (at m.path i) → IsLeft m group (at m.path i) ⊎ Late group (at m.path i)
 
 -- the groups in which an edge leads back are marked
-pub record AreTold (graph : Graph) (m : Walk) (Late : ℕ → ℕ → Type 0) : Type 0 where
+pub record AreReported (graph : Graph) (m : Walk) (Late : ℕ → ℕ → Type 0) : Type 0 where
   pub loop : (a : ℕ) (g : Group) → slice_get m.groups a ≡ Some g → g.loops ≡ true → HasEdgeInside graph m (a + 1)
   pub alone : (a : ℕ) (g : Group) → slice_get m.groups a ≡ Some g → g.loops ≡ false → IsAlone graph m Late (a + 1)
 
@@ -104,7 +104,7 @@ pub record IsWalkBut (graph : Graph) (m : Walk) (Late : ℕ → ℕ → Type 0) 
   pub groups : AreGroups m
   pub marks : AreMarked graph m
   pub edges : AreEdges graph m Late
-  pub told : AreTold graph m Late
+  pub reported : AreReported graph m Late
   pub done : AreDone graph m
 
 abbrev pub IsWalk : Graph → Walk → Type 0
@@ -177,7 +177,7 @@ pub record IsClosed (group : Group) (m : Walk) (after : Walk) : Type 0 where
   pub split : m.path ≡ low ++ high
   pub begins : length low ≡ group.vertex
   pub marked : AreSet Unseen Done high m.marks after.marks
-  pub told : AreSet false group.loops high m.loops after.loops
+  pub reported : AreSet false group.loops high m.loops after.loops
   pub path : after.path ≡ low
   pub edges : after.edges ≡ m.edges
   pub groups : after.groups ≡ m.groups

@@ -2,7 +2,7 @@
 
 ghost use Rattle.std.specs.Prelude.{◌≡◌};
 ghost use Rattle.parser_machine.specs.Operands.{argument_first_step, argument_start, new_element_step, new_name_step, new_step, no_arguments_step, text_step};
-ghost use Rattle.parser_nodes.specs.Told.{gives, seen};
+ghost use Rattle.parser_nodes.specs.Reported.{gives, seen};
 ghost use Rattle.scj_tree.specs.Lexemes.{a_word};
 
 use crate::closing::{argument_ended, arguments_ended};

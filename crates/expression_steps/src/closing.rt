@@ -3,7 +3,7 @@
 ghost use Rattle.std.specs.Prelude.{◌≡◌, ◌∷◌};
 ghost use Rattle.parser_machine.specs.Closing.{argument_ended, arguments_ended, assigned, closed, ended, shifted, target_alone, target_assigned, target_ended};
 ghost use Rattle.parser_machine.specs.declared.entries.Entry.TheVariants.{AssignValue, CompoundValue, ForTest, GroupOpen, IfTest, IndexOpen, LengthOpen, LocalValue, ReturnValue, SuperCallOpen, WhileTest};
-ghost use Rattle.parser_nodes.specs.Told.{gives, seen};
+ghost use Rattle.parser_nodes.specs.Reported.{gives, seen};
 
 use crate::levels::{admits, level_of, operation};
 use parser_machine::{Entry, Mode};

@@ -3,7 +3,7 @@
 ghost use Rattle.std.specs.Prelude.{◌≡◌, IfOk};
 ghost use Rattle.parser_machine.specs.Closing.{admits as are_admitted, operation as operation_of};
 ghost use Rattle.parser_machine.specs.States.{level_of as level_of_lexeme};
-ghost use Rattle.parser_nodes.specs.Told.{seen};
+ghost use Rattle.parser_nodes.specs.Reported.{seen};
 ghost use Rattle.scj_tree.specs.Terminals.{level as level_of_sign, compound as compound_of, stepping as stepping_of};
 
 use parser_machine::Entry;

@@ -2,7 +2,7 @@
 
 ghost use Rattle.std.specs.Prelude.{◌≡◌, ◌++◌};
 ghost use Rattle.parser_machine.specs.Operands.{closed_name_step, compound_step, dot_name_step, dot_step, minus_step, name_sign_step, name_step, opened_name_step, opened_step, operand_sign, operand_start, operand_word, post_ended, post_step, stepping_step, target_name_step};
-ghost use Rattle.parser_nodes.specs.Told.{gives, seen};
+ghost use Rattle.parser_nodes.specs.Reported.{gives, seen};
 
 use crate::closing::{closed, target_ended};
 use crate::levels::{compound, stepping};

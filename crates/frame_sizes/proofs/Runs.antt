@@ -33,7 +33,7 @@ use Rattle.scope_sound.specs.Sound.{HasFacts, SoundAt}
 use Rattle.scope_sound.proofs.InAnyOrder.{reached_is_sound}
 use Rattle.scope_sound.proofs.Operated.{operated}
 use Rattle.certain_faults.proofs.GivenAsBound.{GivesSo, given_as_bound}
-use Rattle.certain_faults.proofs.Jobs.{Jobs, jobs_still, Lead, leads, none_leads, any_leads, told_leads}
+use Rattle.certain_faults.proofs.Jobs.{Jobs, jobs_still, Lead, leads, none_leads, any_leads, reported_leads}
 use Rattle.certain_faults.proofs.Phases.{sequencer_jobs, start_jobs, phase_jobs, arrival_jobs, first_jobs}
 use Rattle.frame_sizes.proofs.Counts.{fewer, Fits}
 use Rattle.frame_sizes.proofs.Frames.{Counted, BodiesFit, new_explained}
@@ -194,11 +194,11 @@ module _ (code : Code) (facts : Facts code) (static : BodiesFit code) (rows : Li
     where
       turn_leads : (turn : Turn) → Led (then_try (turn_taken s turn) (turn_acts code rows turn))
       turn_leads IdleTurn =
-          told_leads (All code) (turn_taken s IdleTurn) (Some (silently (with_turn s IdleTurn)))
+          reported_leads (All code) (turn_taken s IdleTurn) (Some (silently (with_turn s IdleTurn)))
           (leads (All code) (silently (with_turn s IdleTurn))
           (jobs_still (All code) s (with_turn s IdleTurn) refl refl held))
       turn_leads (TurnOf index) =
-          told_leads (All code) (turn_taken s (TurnOf index)) (ref_op code rows (with_turn s (TurnOf index)) (ReleaseAt index))
+          reported_leads (All code) (turn_taken s (TurnOf index)) (ref_op code rows (with_turn s (TurnOf index)) (ReleaseAt index))
           (release_leads (with_turn s (TurnOf index)) (time_passes code s s.unit (Some (TurnOf index)) i)
           (jobs_still (All code) s (with_turn s (TurnOf index)) refl refl held) index)
 

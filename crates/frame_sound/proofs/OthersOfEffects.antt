@@ -17,9 +17,9 @@ use Rattle.scj_model.specs.Code.{Code}
 use Rattle.scj_model.specs.State.{MemoryArea, Object, Frame, Activity, Ended, Job, TheSequencer, ReleaseAt, State, changed, is_exec, is_init, object_at, with_activity, is_waiting}
 use Rattle.scj_model.specs.Registry.{handler_number, most_handlers, new_row}
 use Rattle.scj_model.specs.Memory.{area_with_scope, closed, has_room, has_store_for, new_object}
-use Rattle.scj_model.specs.Steps.{Step, closed_all, fault_in, allocating, job_ended, opening, silently, telling}
+use Rattle.scj_model.specs.Steps.{Step, closed_all, fault_in, allocating, job_ended, opening, silently, reporting}
 use Rattle.scj_model.specs.Effects.{Effect, Goes, Prints, Makes, Stores, StoresStatic, SetsHidden, SetsCeiling, Calls, Opens, Leaves, AsksRegistration, AsksRelease, AsksTermination, Faults, Stuck}
-use Rattle.scj_model.specs.Apply.{applied, asks_for_end, called, ceiling_entered, frame_left, is_full, is_sequencer, most_waiting, opened_in, registered, release_taken, released, returned, takes_releases, termination, termination_asked, waiting_of, with_ceiling, with_first, with_frame, without, tell_dropped, dropped_release}
+use Rattle.scj_model.specs.Apply.{applied, asks_for_end, called, ceiling_entered, frame_left, is_full, is_sequencer, most_waiting, opened_in, registered, release_taken, released, returned, takes_releases, termination, termination_asked, waiting_of, with_ceiling, with_first, with_frame, without, report_dropped, dropped_release}
 use Rattle.frame_sound.specs.OwnJob.{opened_by}
 use Rattle.frame_sound.specs.Others.{AreaStays, KeepsOthers, ObjectStays}
 use Rattle.frame_sound.proofs.Changes.{changed_at, changed_off, with_value}
@@ -232,8 +232,8 @@ module _ (code : Code) (s : State) (job : Job) (activity : Activity) (below : Li
     termination_keeps = go (asks_for_end t.mission t.phase t.is_end_asked r) (is_exec t.phase) refl
       where
         go : (b d : Bool) → is_exec t.phase ≡ d → Keeping
-            (if b then (if d then telling (record t { is_end_asked = true; releases = map dropped_release t.releases })
-            (Terminate t.unit ∷ tell_dropped t) else silently (record t { is_end_asked = true })) else silently t)
+            (if b then (if d then reporting (record t { is_end_asked = true; releases = map dropped_release t.releases })
+            (Terminate t.unit ∷ report_dropped t) else silently (record t { is_end_asked = true })) else silently t)
         go false d e = goes_keeps
         go true true e = next _ (dropped_keep t job activity.frames)
         go true false e = next _ (asked_keeps t job activity.frames e)

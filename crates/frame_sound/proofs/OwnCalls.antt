@@ -9,9 +9,9 @@ use Rattle.scj_model.specs.declared.events.Event.{Event}
 use Rattle.scj_model.specs.Code.{Code}
 use Rattle.scj_model.specs.State.{MemoryArea, Frame, Activity, Job, State, activity_of, with_activity}
 use Rattle.scj_model.specs.Memory.{has_store_for, with_area, area_with_scope}
-use Rattle.scj_model.specs.Steps.{Step, silently, telling, fault_in, opening}
+use Rattle.scj_model.specs.Steps.{Step, silently, reporting, fault_in, opening}
 use Rattle.scj_model.specs.Effects.{Calls, Opens, new_frame}
-use Rattle.scj_model.specs.Apply.{is_full, ceiling_entered, tell_priority, called, opened_in, applied}
+use Rattle.scj_model.specs.Apply.{is_full, ceiling_entered, report_priority, called, opened_in, applied}
 use Rattle.scope_flow.specs.Signatures.{Signature}
 use Rattle.scope_flow.specs.Facts.{Facts}
 use Rattle.frame_sound.specs.Places.{area_named}
@@ -52,7 +52,7 @@ module _ (code : Code) (facts : Facts code) (s : State) (job : Job) (activity : 
       a.areas ≡ list_of base a.frames → Stands code t.areas t.objects t.statics base a.frames →
       (top : Frame) (others : List Frame) → a.frames ≡ top ∷ others → IsSame (lowest f below) (lowest top others) →
       KeepsItsAreas code s (f ∷ below) (with_activity t job a) (top ∷ others) → (events : List Event) →
-      Outcome (Some (telling (with_activity t job a) events))
+      Outcome (Some (reporting (with_activity t job a) events))
   goes_in t only a list stands top others are same areas events =
       record {
         step = _;
@@ -93,7 +93,7 @@ module _ (code : Code) (facts : Facts code) (s : State) (job : Job) (activity : 
         ∙ ap (λ (o : Option ℕ). option_to_list o ++ list_of base (h ∷ below)) (sym x.unopened))
 
     pushed : (saved : Option ℕ) (priority : ℕ) (events : List Event) →
-        Outcome (Some (telling (with_activity s job (record activity {
+        Outcome (Some (reporting (with_activity s job (record activity {
           frames = record g { saved = saved } ∷ (h ∷ below);
           priority = priority;
         })) events))
@@ -120,7 +120,7 @@ module _ (code : Code) (facts : Facts code) (s : State) (job : Job) (activity : 
       where
         entered : (ceiling : ℕ) (t : Bool) (events : List Event) → Outcome (Some (if t
             then fault_in s job activity position CeilingViolation
-            else telling
+            else reporting
             (with_activity s job (record activity {
               frames = record g { saved = Some activity.priority } ∷ (h ∷ below);
               priority = ceiling;
@@ -133,16 +133,16 @@ module _ (code : Code) (facts : Facts code) (s : State) (job : Job) (activity : 
               | None ↦ silently (with_activity s job (record activity { frames = g ∷ (h ∷ below) }))
               | Some ceiling ↦
                   if nat_lt ceiling activity.priority then fault_in s job activity position CeilingViolation
-                  else telling
+                  else reporting
                   (with_activity s job (record activity {
                     frames = record g { saved = Some activity.priority } ∷ (h ∷ below);
                     priority = ceiling;
-                  })) (tell_priority s job activity.priority ceiling)
+                  })) (report_priority s job activity.priority ceiling)
             ])))
         go true o = faults DepthFull
         go false None = pushed g.saved activity.priority []
         go false (Some ceiling) =
-            entered ceiling (nat_lt ceiling activity.priority) (tell_priority s job activity.priority ceiling)
+            entered ceiling (nat_lt ceiling activity.priority) (report_priority s job activity.priority ceiling)
 
   -- ---- a call in a new area
 

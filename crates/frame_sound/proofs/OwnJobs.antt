@@ -12,7 +12,7 @@ use Rattle.scj_model.specs.declared.events.Event.TheVariants.{Print}
 use Rattle.scj_model.specs.Code.{Code}
 use Rattle.scj_model.specs.State.{Frame, Activity, Release, Started, Job, TheSequencer, ReleaseAt, State, changed, activity_in, activity_of, with_activity, with_status}
 use Rattle.scj_model.specs.Memory.{has_room, with_object, with_slot}
-use Rattle.scj_model.specs.Steps.{Step, silently, telling, fault_in, allocating}
+use Rattle.scj_model.specs.Steps.{Step, silently, reporting, fault_in, allocating}
 use Rattle.scj_model.specs.Effects.{Effect, Goes, Prints, Makes, Stores, StoresStatic, SetsHidden, SetsCeiling}
 use Rattle.scj_model.specs.Apply.{with_frame, with_first, with_ceiling, applied, is_sequencer}
 use Rattle.scope_flow.specs.Signatures.{Signature}
@@ -126,7 +126,7 @@ module _ (code : Code) (facts : Facts code) (s : State) (job : Job) (activity : 
 
   goes_with : (t : State) → t ≡ record s { objects = t.objects; statics = t.statics } → (k : Frame) → IsSame f k →
       Stands code t.areas t.objects t.statics base (k ∷ below) → (events : List Event) →
-      Result (Some (telling (with_frame t job activity k below) events))
+      Result (Some (reporting (with_frame t job activity k below) events))
   goes_with t only k same stands events =
       record {
         step = _;

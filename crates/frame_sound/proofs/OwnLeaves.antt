@@ -9,9 +9,9 @@ use Rattle.accepted_laws.proofs.Tools.{some_inj}
 use Rattle.scj_model.specs.Code.{Code}
 use Rattle.scj_model.specs.State.{MemoryArea, Object, Frame, Activity, Job, TheSequencer, ReleaseAt, State, activity_of, with_activity}
 use Rattle.scj_model.specs.Memory.{closed}
-use Rattle.scj_model.specs.Steps.{closed_all, job_ended, silently, telling, then_do}
+use Rattle.scj_model.specs.Steps.{closed_all, job_ended, silently, reporting, then_do}
 use Rattle.scj_model.specs.Effects.{Leaves}
-use Rattle.scj_model.specs.Apply.{applied, frame_left, returned, tell_priority, without}
+use Rattle.scj_model.specs.Apply.{applied, frame_left, returned, report_priority, without}
 use Rattle.scope_flow.specs.Facts.{Facts}
 use Rattle.scope_flow.specs.Signatures.{Runs, Signature}
 use Rattle.frame_sound.specs.Places.{denote, world_of}
@@ -260,7 +260,7 @@ module _ (code : Code) (facts : Facts code) (s : State) (job : Job) (activity : 
   leaves_kept = go below refl
     where
       go : (fs : List Frame) → below ≡ fs → KeepsItsJob code s job activity base f below
-          (Some (then_do (telling t (tell_priority s job activity.priority (unwrap_or h.saved activity.priority)))
+          (Some (then_do (reporting t (report_priority s job activity.priority (unwrap_or h.saved activity.priority)))
           (λ u. elim fs [
             | [] ↦ job_ended u job after value
             | g ∷ gs ↦ silently (with_activity u job after)

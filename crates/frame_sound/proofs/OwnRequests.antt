@@ -14,9 +14,9 @@ use Rattle.scj_model.specs.declared.events.Event.TheVariants.{Register, Arrive, 
 use Rattle.scj_model.specs.Code.{Code}
 use Rattle.scj_model.specs.State.{MemoryArea, Object, Frame, Activity, ReleaseStatus, Waits, Started, Ended, Dropped, Release, Job, TheSequencer, ReleaseAt, State, activity_in, activity_of, is_exec, is_init, is_waiting, object_at}
 use Rattle.scj_model.specs.Registry.{handler_number, most_handlers, new_row}
-use Rattle.scj_model.specs.Steps.{Step, fault_in, silently, telling}
+use Rattle.scj_model.specs.Steps.{Step, fault_in, silently, reporting}
 use Rattle.scj_model.specs.Effects.{Effect, AsksRegistration, AsksRelease, AsksTermination}
-use Rattle.scj_model.specs.Apply.{applied, asks_for_end, class_name, dropped_release, most_waiting, registered, release_taken, released, releases_of, takes_releases, tell_dropped, termination, termination_asked, waiting_of, with_frame}
+use Rattle.scj_model.specs.Apply.{applied, asks_for_end, class_name, dropped_release, most_waiting, registered, release_taken, released, releases_of, takes_releases, report_dropped, termination, termination_asked, waiting_of, with_frame}
 use Rattle.scope_flow.specs.Facts.{Facts}
 use Rattle.scope_flow.specs.Signatures.{Signature}
 use Rattle.frame_sound.specs.Fine.{list_of}
@@ -131,7 +131,7 @@ module _ (code : Code) (facts : Facts code) (s : State) (job : Job) (activity : 
     result : (u : State) → DiffersInRequests t u →
         ((a : Activity) → activity_of t job ≡ Some a → activity_of u job ≡ Some a) →
         RegistryIsKept code s (list_of base (f ∷ below)) u →
-        (events : List Event) → Result (Some (telling u events))
+        (events : List Event) → Result (Some (reporting u events))
     result u only act registry events =
         record {
           step = _;
@@ -140,7 +140,7 @@ module _ (code : Code) (facts : Facts code) (s : State) (job : Job) (activity : 
           registry = registry;
         }
 
-    so : (events : List Event) → Result (Some (telling t events))
+    so : (events : List Event) → Result (Some (reporting t events))
     so events = result t refl (λ a e. e) (inl registry_is) events
 
     pub registration_kept : (r : ℕ) → RegistrationFine code.program (look (λ a. slice_get s.areas a) s.objects)
@@ -154,7 +154,7 @@ module _ (code : Code) (facts : Facts code) (s : State) (job : Job) (activity : 
             else (if b then silently t
             else (if d then fault_in s job activity position TooManyHandlers
             else (let row = new_row code.program r o in
-            telling (record t { registry = t.registry ++ row ∷ [] })
+            reporting (record t { registry = t.registry ++ row ∷ [] })
             (Register s.unit (length s.registry + 1) (class_name code o.class) row.priority ∷ []))))))
         by_state o found true b d = faults NotInitializing
         by_state o found false true d = so []
@@ -189,17 +189,17 @@ module _ (code : Code) (facts : Facts code) (s : State) (job : Job) (activity : 
     release_kept r = by_state (takes_releases t) (handler_number t.registry r)
       where
         taken : (release : Release) (events : List Event) →
-            Result (Some (telling (record t { releases = t.releases ++ release ∷ [] }) events))
+            Result (Some (reporting (record t { releases = t.releases ++ release ∷ [] }) events))
         taken release events =
             result (record t { releases = t.releases ++ release ∷ [] }) refl
             (λ a e. activity_kept t _ job a refl (λ n q b there has. get_left t.releases (release ∷ []) n q there) e)
             (inl registry_is) events
 
         by_room : (handler : ℕ) (full : Bool) → Result (Some
-            (if full then telling t (Lost t.unit handler ∷ [])
+            (if full then reporting t (Lost t.unit handler ∷ [])
             else (let number = length (releases_of t handler) + 1 in
             let taken : Release = record { handler = handler; number = number; status = Waits } in
-            telling (record t { releases = t.releases ++ taken ∷ [] }) (Arrive t.unit handler number ∷ []))))
+            reporting (record t { releases = t.releases ++ taken ∷ [] }) (Arrive t.unit handler number ∷ []))))
         by_room handler true = so (Lost t.unit handler ∷ [])
         by_room handler false =
             taken (record { handler = handler; number = length (releases_of t handler) + 1; status = Waits })
@@ -216,8 +216,8 @@ module _ (code : Code) (facts : Facts code) (s : State) (job : Job) (activity : 
     termination_kept r = by_state (asks_for_end t.mission t.phase t.is_end_asked r) (is_exec t.phase)
       where
         by_state : (b d : Bool) → Result (Some
-            (if b then (if d then telling (record t { is_end_asked = true; releases = map dropped_release t.releases })
-            (Terminate t.unit ∷ tell_dropped t)
+            (if b then (if d then reporting (record t { is_end_asked = true; releases = map dropped_release t.releases })
+            (Terminate t.unit ∷ report_dropped t)
             else silently (record t { is_end_asked = true })) else silently t))
         by_state false d = so []
         by_state true false =
@@ -228,4 +228,4 @@ module _ (code : Code) (facts : Facts code) (s : State) (job : Job) (activity : 
             (λ a e. activity_kept t _ job a refl (λ n q b there has.
             get_mapped dropped_release t.releases n
             ∙ (ap (option_map dropped_release) there ∙ ap (λ z. Some z) (started_stays q b has))) e)
-            (inl registry_is) (Terminate t.unit ∷ tell_dropped t)
+            (inl registry_is) (Terminate t.unit ∷ report_dropped t)

@@ -13,9 +13,9 @@ use Rattle.scj_model.specs.Code.{Code}
 use Rattle.scj_model.specs.State.{Object, Frame, Activity, Waits, Ended, Dropped, Release, Job, TheSequencer, ReleaseAt, State, activity_in, is_exec, is_init, is_waiting, object_at, with_activity}
 use Rattle.scj_model.specs.Registry.{handler_number, most_handlers}
 use Rattle.scj_model.specs.Memory.{area_with_scope, closed, has_room, has_store_for, with_area, with_object}
-use Rattle.scj_model.specs.Steps.{Step, allocating, closed_all, fault_in, job_ended, opening, silently, telling}
+use Rattle.scj_model.specs.Steps.{Step, allocating, closed_all, fault_in, job_ended, opening, silently, reporting}
 use Rattle.scj_model.specs.Effects.{Effect, Goes, Prints, Makes, Stores, StoresStatic, SetsHidden, SetsCeiling, Calls, Opens, Leaves, AsksRegistration, AsksRelease, AsksTermination, Faults, Stuck}
-use Rattle.scj_model.specs.Apply.{applied, asks_for_end, called, ceiling_entered, dropped_release, frame_left, is_full, is_sequencer, most_waiting, opened_in, registered, release_taken, released, releases_of, returned, takes_releases, tell_priority, termination, termination_asked, waiting_of, with_frame, without}
+use Rattle.scj_model.specs.Apply.{applied, asks_for_end, called, ceiling_entered, dropped_release, frame_left, is_full, is_sequencer, most_waiting, opened_in, registered, release_taken, released, releases_of, returned, takes_releases, report_priority, termination, termination_asked, waiting_of, with_frame, without}
 use Rattle.scope_flow.specs.Slots.{array_type}
 use Rattle.int_values.specs.Ints.{FitsInt, FrameFits, PrintsInt, ReleaseFits, StateFits, StepFits}
 use Rattle.int_values.proofs.Changes.{active_fits, alike, ceiling_is_fit, closed_all_fits, closed_fits, ended, hidden_is_fit, object_fits, opened_fits, slot_fits, status_fits, with_releases, with_statics}
@@ -70,10 +70,10 @@ module _ (p : Declarations) where
             (λ r. one_event p (event.End s.unit r.handler r.number) tt);
       }
 
-  priority_told : (s : State) (job : Job) (before after : ℕ) → All PrintsInt (tell_priority s job before after)
-  priority_told s TheSequencer before after =
+  priority_reported : (s : State) (job : Job) (before after : ℕ) → All PrintsInt (report_priority s job before after)
+  priority_reported s TheSequencer before after =
       if_events p (before == after) [] [] (All-nil PrintsInt) (All-nil PrintsInt)
-  priority_told s (ReleaseAt n) before after =
+  priority_reported s (ReleaseAt n) before after =
       if_events p (before == after) [] _ (All-nil PrintsInt)
       (elim_events p (slice_get s.releases n) (λ (r : Release). event.Prio s.unit r.handler after ∷ [])
       (λ r. one_event p (event.Prio s.unit r.handler after) tt))
@@ -171,7 +171,7 @@ module _ (p : Declarations) where
           state = active_fits p s job _ h
               (All-cons FrameFits (record g { saved = Some a.priority }) (f ∷ below)
               (record { locals = l.locals; operands = l.operands }) (frames_fit f k));
-          events = priority_told s job a.priority ceiling;
+          events = priority_reported s job a.priority ceiling;
         })))
 
     opens_fits : (f g : Frame) (scope bytes : ℕ) → FrameFits f → FrameFits g →
@@ -200,14 +200,14 @@ module _ (p : Declarations) where
     left_fits : (f : Frame) (value : Option Value) → OptionFits value → StepFits p (frame_left s job a f below value)
     unfolding frame_left
     left_fits f value k =
-        then_fits p (telling (closed s f.opened) (tell_priority s job a.priority (unwrap_or f.saved a.priority)))
+        then_fits p (reporting (closed s f.opened) (report_priority s job a.priority (unwrap_or f.saved a.priority)))
         (λ t. elim below as (λ _. Step) [
           | [] ↦ job_ended t job after value
           | g ∷ gs ↦ silently (with_activity t job after)
         ])
         (record {
           state = closed_fits p s f.opened h;
-          events = priority_told s job a.priority (unwrap_or f.saved a.priority);
+          events = priority_reported s job a.priority (unwrap_or f.saved a.priority);
         })
         (go below)
       where

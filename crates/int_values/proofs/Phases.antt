@@ -14,7 +14,7 @@ use Rattle.scj_model.specs.Code.{Code}
 use Rattle.scj_model.specs.Plan.{Plan}
 use Rattle.scj_model.specs.State.{TheSequencer, State, is_exec}
 use Rattle.scj_model.specs.Memory.{closed}
-use Rattle.scj_model.specs.Steps.{Step, for_each, silently, telling}
+use Rattle.scj_model.specs.Steps.{Step, for_each, silently, reporting}
 use Rattle.scj_model.specs.Apply.{class_name_at, release_taken}
 use Rattle.scj_model.specs.Arrivals.{arrivals, due_handlers, executes_since, fired, fired_at, fired_handler, fires_due}
 use Rattle.scj_model.specs.Sequencer.{BeginsExecution, BeginsMission, ClosesMission, Continues, EndsExecution, LacksMission, LacksSequencer, SeqEffect, SkipsExecution, TakesMission, TakesSafelet, TakesSequencer, Transition, after_operation, goes_to, gone_to, has_started, innermost, phase_after, position_of_object, seq_applied, transition_done}
@@ -40,7 +40,7 @@ module _ (p : Declarations) where
       go : (o : Option ℕ) →
           StepFits p (elim o as (λ _. Step) [
             | Some handler ↦ release_taken s handler
-            | None ↦ telling s (event.Miss s.unit fire.handler ∷ [])
+            | None ↦ reporting s (event.Miss s.unit fire.handler ∷ [])
           ])
       go None = record { state = h; events = one_event p (event.Miss s.unit fire.handler) tt }
       go (Some handler) = taken_fits p s handler h
@@ -72,7 +72,7 @@ module _ (p : Declarations) where
   -- another phase, operation, mission or choice, with these events
   goes_on : (s t : State) (es : List Event) → StateFits p s → t.store ≡ s.store → t.areas ≡ s.areas →
       t.objects ≡ s.objects → t.statics ≡ s.statics → t.activity.frames ≡ s.activity.frames →
-      t.releases ≡ s.releases → All PrintsInt es → StepFits p (telling t es)
+      t.releases ≡ s.releases → All PrintsInt es → StepFits p (reporting t es)
   goes_on s t es h store areas objects statics frames releases k =
       record { state = alike p s t h store areas objects statics frames releases; events = k }
 

@@ -7,7 +7,7 @@ use Rattle.scj_rules.specs.Words.{◌>>=◌}
 use Rattle.accepted_laws.proofs.Tools.{some_inj}
 use Rattle.scj_model.specs.declared.events.Event.{Event}
 use Rattle.scj_model.specs.State.{State}
-use Rattle.scj_model.specs.Steps.{Step, silently, telling, then_do, then_try}
+use Rattle.scj_model.specs.Steps.{Step, silently, reporting, then_do, then_try}
 use Rattle.int_values.specs.Ints.{PrintsInt, StateFits, StepFits}
 
 -- ---- what holds of steps, by the cases in which they are made
@@ -60,10 +60,10 @@ module _ (p : Declarations) where
   if_events true es fs h k = h
   if_events false es fs h k = k
 
-  pub elim_events : {A : Type 0} (o : Option A) (tell : A → List Event) → ((a : A) → All PrintsInt (tell a)) →
-      All PrintsInt (elim o as (λ _. List Event) [ None ↦ [] | Some a ↦ tell a ])
-  elim_events None tell h = All-nil PrintsInt
-  elim_events (Some a) tell h = h a
+  pub elim_events : {A : Type 0} (o : Option A) (report : A → List Event) → ((a : A) → All PrintsInt (report a)) →
+      All PrintsInt (elim o as (λ _. List Event) [ None ↦ [] | Some a ↦ report a ])
+  elim_events None report h = All-nil PrintsInt
+  elim_events (Some a) report h = h a
 
   pub silent_fits : (s : State) → StateFits p s → StepFits p (silently s)
   silent_fits s h = record { state = h; events = All-nil PrintsInt }
@@ -78,10 +78,10 @@ module _ (p : Declarations) where
   tried_fits first next h k = go (next first.state) k
     where
       go : (o : Option Step) → GoodIf (StepFits p) o →
-          GoodIf (StepFits p) (option_map (λ (second : Step). telling second.state (first.events ++ second.events)) o)
+          GoodIf (StepFits p) (option_map (λ (second : Step). reporting second.state (first.events ++ second.events)) o)
       go None g = nothing_good (StepFits p)
       go (Some second) g =
-          some_good (StepFits p) (telling second.state (first.events ++ second.events))
+          some_good (StepFits p) (reporting second.state (first.events ++ second.events))
           (record {
             state = (g.is second refl).state;
             events = All-append PrintsInt first.events second.events h (g.is second refl).events;

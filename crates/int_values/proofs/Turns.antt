@@ -21,7 +21,7 @@ use Rattle.scj_model.specs.Effects.{new_frame}
 use Rattle.scj_model.specs.Apply.{applied}
 use Rattle.scj_model.specs.Sequencer.{area_opened, body_called, innermost, method_called, safelet_made, sequencer_op}
 use Rattle.scj_model.specs.Choice.{Policy}
-use Rattle.scj_model.specs.Run.{acts, effect_at, environment, frame_op, is_same_turn, no_activity, position_of_op, ref_op, release_op_of, sequencer_turn, start_op, started_with, tell_turn, turn_acts, turn_taken, with_turn}
+use Rattle.scj_model.specs.Run.{acts, effect_at, environment, frame_op, is_same_turn, no_activity, position_of_op, ref_op, release_op_of, sequencer_turn, start_op, started_with, report_turn, turn_acts, turn_taken, with_turn}
 use Rattle.int_values.specs.Ints.{FrameFits, PrintsInt, ReleaseFits, StateFits, StepFits}
 use Rattle.int_values.proofs.Applied.{SetsItsHidden, applied_fits, making_fits, opening_fits}
 use Rattle.int_values.proofs.Begins.{frame_begins, slots_fit}
@@ -222,12 +222,12 @@ module _ (code : Code) (rows : List ReadingRow) where
 
   module _ (s : State) (h : StateFits code.program s) (known : Known code (environment rows s))
       (promised : Promised code rows s) where
-    turn_told : (turn : Turn) → All PrintsInt (turn_taken s turn).events
-    unfolding turn_taken tell_turn
-    turn_told IdleTurn =
+    turn_reported : (turn : Turn) → All PrintsInt (turn_taken s turn).events
+    unfolding turn_taken report_turn
+    turn_reported IdleTurn =
         if_events code.program (holds s.last_choice (is_same_turn IdleTurn)) [] _ (All-nil PrintsInt)
         (one_event code.program (event.Idle s.unit) tt)
-    turn_told (TurnOf n) =
+    turn_reported (TurnOf n) =
         if_events code.program (holds s.last_choice (is_same_turn (TurnOf n))) [] _ (All-nil PrintsInt)
         (elim_events code.program (slice_get s.releases n) (λ (r : Release). event.Run s.unit r.handler r.number ∷ [])
         (λ r. one_event code.program (event.Run s.unit r.handler r.number) tt))
@@ -251,7 +251,7 @@ module _ (code : Code) (rows : List ReadingRow) where
         GoodIf (StepFits code.program) (then_try (turn_taken s turn) (turn_acts code rows turn))
     unfolding turn_taken
     chosen_fits turn =
-        tried_fits code.program (turn_taken s turn) (turn_acts code rows turn) (turn_told turn) (turn_fits turn)
+        tried_fits code.program (turn_taken s turn) (turn_acts code rows turn) (turn_reported turn) (turn_fits turn)
 
     pub acts_fit : (policy : Policy) → GoodIf (StepFits code.program) (acts code rows policy s)
     unfolding acts

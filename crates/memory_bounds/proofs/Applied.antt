@@ -18,9 +18,9 @@ use Rattle.scj_model.specs.declared.events.Event.{Event}
 use Rattle.scj_model.specs.Code.{Code}
 use Rattle.scj_model.specs.State.{MemoryArea, Object, Frame, Activity, Release, ReleaseAt, Ended, State, area_at, activity_in, activity_of, changed, with_activity, with_status}
 use Rattle.scj_model.specs.Memory.{used, has_room, has_store_for, with_object, with_area, closed, new_object, area_with_scope}
-use Rattle.scj_model.specs.Steps.{Step, telling, silently, fault_in, closed_all, allocating, opening, job_ended, then_do}
+use Rattle.scj_model.specs.Steps.{Step, reporting, silently, fault_in, closed_all, allocating, opening, job_ended, then_do}
 use Rattle.scj_model.specs.Effects.{Makes, Calls, Opens}
-use Rattle.scj_model.specs.Apply.{called, opened_in, frame_left, returned, is_full, ceiling_entered, tell_priority, with_frame, without}
+use Rattle.scj_model.specs.Apply.{called, opened_in, frame_left, returned, is_full, ceiling_entered, report_priority, with_frame, without}
 use Rattle.frame_sound.proofs.OwnJobs.{set_activity}
 use Rattle.frame_sound.proofs.Changes.{changed_at, changed_off}
 use Rattle.memory_needs.specs.Need.{Table}
@@ -86,7 +86,7 @@ module _ (code : Code) (table : Table) where
 
     pub goes_with : (t : State) (activity a : Activity) (events : List Event) →
         activity_of t (ReleaseAt index) ≡ Some activity → IsBounded code table t a.frames →
-        BoundedAfter (telling (with_activity t (ReleaseAt index) a) events)
+        BoundedAfter (reporting (with_activity t (ReleaseAt index) a) events)
     unfolding BoundedAfter with_activity
     goes_with t activity a events is b left e =
         let same : a ≡ left = some_inj a left (sym (set_activity t (ReleaseAt index) activity a is) ∙ e) in
@@ -104,7 +104,7 @@ module _ (code : Code) (table : Table) where
             areas = refl
 
     -- a release that has ended has no frames
-    pub ends_with : (t : State) (events : List Event) → BoundedAfter (telling (with_status t index Ended) events)
+    pub ends_with : (t : State) (events : List Event) → BoundedAfter (reporting (with_status t index Ended) events)
     unfolding BoundedAfter activity_of activity_in
     ends_with t events left e = absurd (of (slice_get t.releases index) refl)
       where
@@ -150,12 +150,12 @@ module _ (code : Code) (table : Table) where
         where
           lower : (ceiling : ℕ) (t : Bool) → BoundedAfter
               (if t then fault_in s (ReleaseAt index) activity pos CeilingViolation
-              else telling
+              else reporting
               (with_activity s (ReleaseAt index) (record activity {
                 frames = record g { saved = Some activity.priority } ∷ (h ∷ below);
                 priority = ceiling;
               }))
-              (tell_priority s (ReleaseAt index) activity.priority ceiling))
+              (report_priority s (ReleaseAt index) activity.priority ceiling))
           lower ceiling true = faults_with s activity pos CeilingViolation
           lower ceiling false = goes_with s activity _ _ is (saved (Some activity.priority))
 
@@ -163,12 +163,12 @@ module _ (code : Code) (table : Table) where
             | None ↦ silently (with_activity s (ReleaseAt index) (record activity { frames = g ∷ (h ∷ below) }))
             | Some ceiling ↦
                 if nat_lt ceiling activity.priority then fault_in s (ReleaseAt index) activity pos CeilingViolation
-                else telling
+                else reporting
                 (with_activity s (ReleaseAt index) (record activity {
                   frames = record g { saved = Some activity.priority } ∷ (h ∷ below);
                   priority = ceiling;
                 }))
-                (tell_priority s (ReleaseAt index) activity.priority ceiling)
+                (report_priority s (ReleaseAt index) activity.priority ceiling)
           ])
           entered None = goes_with s activity _ _ is plain
           entered (Some ceiling) = lower ceiling (nat_lt ceiling activity.priority)
@@ -179,12 +179,12 @@ module _ (code : Code) (table : Table) where
                 | None ↦ silently (with_activity s (ReleaseAt index) (record activity { frames = g ∷ (h ∷ below) }))
                 | Some ceiling ↦
                     if nat_lt ceiling activity.priority then fault_in s (ReleaseAt index) activity pos CeilingViolation
-                    else telling
+                    else reporting
                     (with_activity s (ReleaseAt index) (record activity {
                       frames = record g { saved = Some activity.priority } ∷ (h ∷ below);
                       priority = ceiling;
                     }))
-                    (tell_priority s (ReleaseAt index) activity.priority ceiling)
+                    (report_priority s (ReleaseAt index) activity.priority ceiling)
               ]))
           full true = faults_with s activity pos DepthFull
           full false = entered (ceiling_entered code s g)
@@ -367,7 +367,7 @@ module _ (code : Code) (table : Table) where
           }
 
           of : (fs : List Frame) → below ≡ fs → BoundedAfter
-              (then_do (telling t (tell_priority s (ReleaseAt index) activity.priority (unwrap_or h.saved activity.priority)))
+              (then_do (reporting t (report_priority s (ReleaseAt index) activity.priority (unwrap_or h.saved activity.priority)))
               (λ u. elim fs [ [] ↦ job_ended u (ReleaseAt index) after value | g ∷ gs ↦ silently (with_activity u (ReleaseAt index) after) ]))
           of [] e = ends_with t _
           of (g ∷ gs) e = goes_with t activity after _ under kept

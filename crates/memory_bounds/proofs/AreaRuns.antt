@@ -26,7 +26,7 @@ use Rattle.scj_model.specs.Plan.{Plan}
 use Rattle.scj_model.specs.State.{Object, Frame, Activity, Waits as Waiting, Started, Ended, Dropped, ReleaseStatus, Release, Job, TheSequencer, ReleaseAt, State, Turn, IdleTurn, TurnOf, activity_in, activity_of, with_activity, object_at, is_exec}
 use Rattle.scj_model.specs.Memory.{closed, with_area, with_object, new_slots, has_room, has_store_for}
 use Rattle.scj_model.specs.Registry.{handler_row}
-use Rattle.scj_model.specs.Steps.{Step, silently, telling, allocating, opening, fault_in, for_each, then_try}
+use Rattle.scj_model.specs.Steps.{Step, silently, reporting, allocating, opening, fault_in, for_each, then_try}
 use Rattle.scj_model.specs.Effects.{new_frame}
 use Rattle.scj_model.specs.Apply.{applied, release_taken}
 use Rattle.scj_model.specs.Sequencer.{innermost, done, area_opened, safelet_made, body_called, method_called, sequencer_op, SeqEffect, Continues, TakesSafelet, TakesSequencer, TakesMission, LacksSequencer, LacksMission, BeginsMission, BeginsExecution, SkipsExecution, EndsExecution, ClosesMission, Transition, gone_to, mission_closed, seq_applied, transition_done, after_operation, after_execution, has_started, goes_to, phase_after, position_of_object}
@@ -80,10 +80,10 @@ module _ (code : Code) (Q : ℕ → ℕ → Type 0) (with_all : OpenedWith code 
   any_leads None next h = none_leads
   any_leads (Some a) next h = h a refl
 
-  told_leads : (first : Step) (o : Option Step) → Lead o →
-      Lead (option_map (λ (second : Step). telling second.state (first.events ++ second.events)) o)
-  told_leads first None x = none_leads
-  told_leads first (Some second) x = leads (telling second.state (first.events ++ second.events)) (x.is second refl)
+  reported_leads : (first : Step) (o : Option Step) → Lead o →
+      Lead (option_map (λ (second : Step). reporting second.state (first.events ++ second.events)) o)
+  reported_leads first None x = none_leads
+  reported_leads first (Some second) x = leads (reporting second.state (first.events ++ second.events)) (x.is second refl)
 
   -- ---- the sequencer's own operations, and START
 
@@ -277,7 +277,7 @@ module _ (code : Code) (Q : ℕ → ℕ → Type 0) (with_all : OpenedWith code 
     where
       go : (o : Option ℕ) (events : List Event) → Has Q store (elim o as (λ z. Step) [
         | Some handler ↦ release_taken s handler
-        | None ↦ telling s events
+        | None ↦ reporting s events
       ]).state
       go None events = held
       go (Some handler) events = taken Q store s handler held
@@ -381,10 +381,10 @@ module _ (code : Code) (Q : ℕ → ℕ → Type 0) (with_all : OpenedWith code 
       where
         turn_leads : (turn : Turn) → Lead (then_try (turn_taken s turn) (turn_acts code rows turn))
         turn_leads IdleTurn =
-            told_leads (turn_taken s IdleTurn) (Some (silently (with_turn s IdleTurn)))
+            reported_leads (turn_taken s IdleTurn) (Some (silently (with_turn s IdleTurn)))
             (leads (silently (with_turn s IdleTurn)) (still Q store s (with_turn s IdleTurn) refl refl held))
         turn_leads (TurnOf index) =
-            told_leads (turn_taken s (TurnOf index)) (ref_op code rows (with_turn s (TurnOf index)) (ReleaseAt index))
+            reported_leads (turn_taken s (TurnOf index)) (ref_op code rows (with_turn s (TurnOf index)) (ReleaseAt index))
             (release_leads facts rows (with_turn s (TurnOf index)) (time_passes code s s.unit (Some (TurnOf index)) i)
             (still Q store s (with_turn s (TurnOf index)) refl refl held) index)
 

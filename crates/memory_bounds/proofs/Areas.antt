@@ -14,10 +14,10 @@ use Rattle.scj_model.specs.declared.events.Event.TheVariants.{Register, Arrive, 
 use Rattle.scj_model.specs.Code.{Code}
 use Rattle.scj_model.specs.State.{MemoryArea, Object, Frame, Activity, Release, Waits, Job, TheSequencer, ReleaseAt, Ended, is_exec, is_init, object_at, State, area_at, changed, with_activity, with_status}
 use Rattle.scj_model.specs.Memory.{has_room, has_store_for, with_object, with_area, with_slot, closed, area_with_scope}
-use Rattle.scj_model.specs.Steps.{Step, telling, silently, fault_in, closed_all, allocating, opening, job_ended, then_do}
+use Rattle.scj_model.specs.Steps.{Step, reporting, silently, fault_in, closed_all, allocating, opening, job_ended, then_do}
 use Rattle.scj_model.specs.Effects.{Effect, Goes, Prints, Makes, Stores, StoresStatic, SetsHidden, SetsCeiling, Calls, Opens, Leaves, AsksRegistration, AsksRelease, AsksTermination, Faults, Stuck}
 use Rattle.scj_model.specs.Registry.{handler_number, most_handlers, new_row}
-use Rattle.scj_model.specs.Apply.{applied, called, opened_in, frame_left, returned, is_full, ceiling_entered, tell_priority, class_name, registered, with_frame, with_first, with_ceiling, without, released, release_taken, releases_of, waiting_of, most_waiting, takes_releases, termination, termination_asked, asks_for_end, dropped_release, tell_dropped, is_sequencer}
+use Rattle.scj_model.specs.Apply.{applied, called, opened_in, frame_left, returned, is_full, ceiling_entered, report_priority, class_name, registered, with_frame, with_first, with_ceiling, without, released, release_taken, releases_of, waiting_of, most_waiting, takes_releases, termination, termination_asked, asks_for_end, dropped_release, report_dropped, is_sequencer}
 use Rattle.frame_sound.proofs.Changes.{changed_at, changed_off}
 
 -- the store is so large, and this holds of the scope and the bytes of each area
@@ -111,10 +111,10 @@ module _ (Q : ℕ → ℕ → Type 0) (store : ℕ) where
       new : Release
       new = record { handler = handler; number = length (releases_of u handler) + 1; status = Waits }
 
-      of : (c : Bool) → Has (if c then telling u (Lost u.unit handler ∷ [])
+      of : (c : Bool) → Has (if c then reporting u (Lost u.unit handler ∷ [])
           else (let number = length (releases_of u handler) + 1 in
           let new : Release = record { handler = handler; number = number; status = Waits } in
-          telling (record u { releases = u.releases ++ new ∷ [] }) (Arrive u.unit handler number ∷ []))).state
+          reporting (record u { releases = u.releases ++ new ∷ [] }) (Arrive u.unit handler number ∷ []))).state
       of true = h
       of false = still u (record u { releases = u.releases ++ new ∷ [] }) refl refl h
 
@@ -133,8 +133,8 @@ module _ (Q : ℕ → ℕ → Type 0) (store : ℕ) where
   terminates u r h = of (asks_for_end u.mission u.phase u.is_end_asked r) (is_exec u.phase)
     where
       of : (c d : Bool) → Has
-          (if c then (if d then telling (record u { is_end_asked = true; releases = map dropped_release u.releases })
-          (Terminate u.unit ∷ tell_dropped u)
+          (if c then (if d then reporting (record u { is_end_asked = true; releases = map dropped_release u.releases })
+          (Terminate u.unit ∷ report_dropped u)
           else silently (record u { is_end_asked = true })) else silently u).state
       of true true = still u (record u { is_end_asked = true; releases = map dropped_release u.releases }) refl refl h
       of true false = still u (record u { is_end_asked = true }) refl refl h
@@ -174,12 +174,12 @@ module _ (Q : ℕ → ℕ → Type 0) (store : ℕ) where
         where
           lower : (ceiling : ℕ) (t : Bool) → Spared
               (if t then fault_in s job activity pos CeilingViolation
-              else telling
+              else reporting
               (with_activity s job (record activity {
                 frames = record g { saved = Some activity.priority } ∷ (h ∷ below);
                 priority = ceiling;
               }))
-              (tell_priority s job activity.priority ceiling))
+              (report_priority s job activity.priority ceiling))
           lower ceiling true = fails CeilingViolation
           lower ceiling false =
               acts_on s job (record activity {
@@ -191,12 +191,12 @@ module _ (Q : ℕ → ℕ → Type 0) (store : ℕ) where
             | None ↦ silently (with_activity s job (record activity { frames = g ∷ (h ∷ below) }))
             | Some ceiling ↦
                 if nat_lt ceiling activity.priority then fault_in s job activity pos CeilingViolation
-                else telling
+                else reporting
                 (with_activity s job (record activity {
                   frames = record g { saved = Some activity.priority } ∷ (h ∷ below);
                   priority = ceiling;
                 }))
-                (tell_priority s job activity.priority ceiling)
+                (report_priority s job activity.priority ceiling)
           ])
           inside None = acts_on s job (record activity { frames = g ∷ (h ∷ below) }) held
           inside (Some ceiling) = lower ceiling (nat_lt ceiling activity.priority)
@@ -207,12 +207,12 @@ module _ (Q : ℕ → ℕ → Type 0) (store : ℕ) where
                 | None ↦ silently (with_activity s job (record activity { frames = g ∷ (h ∷ below) }))
                 | Some ceiling ↦
                     if nat_lt ceiling activity.priority then fault_in s job activity pos CeilingViolation
-                    else telling
+                    else reporting
                     (with_activity s job (record activity {
                       frames = record g { saved = Some activity.priority } ∷ (h ∷ below);
                       priority = ceiling;
                     }))
-                    (tell_priority s job activity.priority ceiling)
+                    (report_priority s job activity.priority ceiling)
               ]))
           full true = fails DepthFull
           full false = inside (ceiling_entered code s g)
@@ -267,7 +267,7 @@ module _ (Q : ℕ → ℕ → Type 0) (store : ℕ) where
           shut = one_closed s h.opened held
 
           of : (fs : List Frame) → Spared
-              (then_do (telling t (tell_priority s job activity.priority (unwrap_or h.saved activity.priority)))
+              (then_do (reporting t (report_priority s job activity.priority (unwrap_or h.saved activity.priority)))
               (λ u. elim fs [ [] ↦ job_ended u job after value | g ∷ gs ↦ silently (with_activity u job after) ]))
           of [] = job_left t job after value shut
           of (g ∷ gs) = acts_on t job after shut
@@ -288,7 +288,7 @@ module _ (Q : ℕ → ℕ → Type 0) (store : ℕ) where
               else (if b then silently after
               else (if c then fault_in s job activity pos TooManyHandlers
               else (let row = new_row code.program r o in
-              telling (record after { registry = after.registry ++ row ∷ [] })
+              reporting (record after { registry = after.registry ++ row ∷ [] })
               (Register s.unit (length s.registry + 1) (class_name code o.class) row.priority ∷ [])))))
           of true b c = fails NotInitializing
           of false true c = plain h

@@ -22,9 +22,9 @@ use Rattle.scj_model.specs.Code.{Code, binding}
 use Rattle.scj_model.specs.State.{MemoryArea, Object, Frame, Activity, Release, ReleaseStatus, Waits, Started, Dropped, ReleaseAt, Ended, State, area_at, activity_in, activity_of, changed, is_exec, is_init, is_waiting, object_at, with_activity, with_status}
 use Rattle.scj_model.specs.Memory.{has_room, has_store_for, rounded_up, with_object, with_slot, with_area, closed, area_with_scope}
 use Rattle.scj_model.specs.Registry.{handler_number}
-use Rattle.scj_model.specs.Steps.{Step, telling, silently, fault_in, closed_all, allocating, opening, job_ended, then_do}
+use Rattle.scj_model.specs.Steps.{Step, reporting, silently, fault_in, closed_all, allocating, opening, job_ended, then_do}
 use Rattle.scj_model.specs.Effects.{Effect, Goes, Prints, Makes, Stores, StoresStatic, SetsHidden, SetsCeiling, Calls, Opens, Leaves, AsksRegistration, AsksRelease, AsksTermination, Faults, Stuck}
-use Rattle.scj_model.specs.Apply.{applied, called, opened_in, frame_left, returned, is_full, ceiling_entered, tell_priority, with_frame, with_first, without, registered, released, release_taken, waiting_of, most_waiting, releases_of, takes_releases, termination, termination_asked, asks_for_end, dropped_release, tell_dropped}
+use Rattle.scj_model.specs.Apply.{applied, called, opened_in, frame_left, returned, is_full, ceiling_entered, report_priority, with_frame, with_first, without, registered, released, release_taken, waiting_of, most_waiting, releases_of, takes_releases, termination, termination_asked, asks_for_end, dropped_release, report_dropped}
 use Rattle.frame_sound.specs.EffectsFine.{IsSame}
 use Rattle.frame_sound.proofs.OwnJobs.{set_activity}
 use Rattle.frame_sound.proofs.Changes.{changed_at, changed_off}
@@ -78,7 +78,7 @@ module _ (code : Code) (row : HandlerRow) (index : ℕ) where
 
   goes_with : (t : State) (activity a : Activity) (events : List Event) →
       activity_of t (ReleaseAt index) ≡ Some activity → Chain code t row a.frames →
-      After (telling (with_activity t (ReleaseAt index) a) events)
+      After (reporting (with_activity t (ReleaseAt index) a) events)
   unfolding with_activity
   goes_with t activity a events is chain = record {
     is = λ left e.
@@ -88,7 +88,7 @@ module _ (code : Code) (row : HandlerRow) (index : ℕ) where
         row a.frames chain));
   }
 
-  ends_with : (t : State) (events : List Event) → After (telling (with_status t index Ended) events)
+  ends_with : (t : State) (events : List Event) → After (reporting (with_status t index Ended) events)
   unfolding activity_of activity_in
   ends_with t events = record { is = λ left e. absurd (of left e (slice_get t.releases index) refl) }
     where
@@ -113,7 +113,7 @@ module _ (code : Code) (row : HandlerRow) (index : ℕ) where
   faults_with t activity pos fault = ends_with (closed_all t activity.frames) _
 
   then_same : (u v : State) (events : List Event) → After (silently u) →
-      activity_of v (ReleaseAt index) ≡ activity_of u (ReleaseAt index) → v.areas ≡ u.areas → After (telling v events)
+      activity_of v (ReleaseAt index) ≡ activity_of u (ReleaseAt index) → v.areas ≡ u.areas → After (reporting v events)
   then_same u v events b same areas = record {
     is = λ left e. chain_stays code u v (same_areas u v areas) row left.frames (b.is left (sym same ∙ e));
   }
@@ -136,10 +136,10 @@ module _ (code : Code) (row : HandlerRow) (index : ℕ) where
   released_after u activity r is b = taken (takes_releases u) (handler_number u.registry r)
     where
       waits : (handler : ℕ) (c : Bool) → After
-          (if c then telling u (Lost u.unit handler ∷ [])
+          (if c then reporting u (Lost u.unit handler ∷ [])
           else (let number = length (releases_of u handler) + 1 in
           let new : Release = record { handler = handler; number = number; status = Waits } in
-          telling (record u { releases = u.releases ++ new ∷ [] }) (Arrive u.unit handler number ∷ [])))
+          reporting (record u { releases = u.releases ++ new ∷ [] }) (Arrive u.unit handler number ∷ [])))
       waits handler true = then_same u u _ b refl refl
       waits handler false =
           let new : Release = record { handler = handler; number = length (releases_of u handler) + 1; status = Waits } in
@@ -176,8 +176,8 @@ module _ (code : Code) (row : HandlerRow) (index : ℕ) where
           of (Some x) e = rw (slice_get-map dropped_release u.releases index, e) (dropped_same x)
 
       asked : (c d : Bool) → After
-          (if c then (if d then telling (record u { is_end_asked = true; releases = map dropped_release u.releases })
-          (Terminate u.unit ∷ tell_dropped u)
+          (if c then (if d then reporting (record u { is_end_asked = true; releases = map dropped_release u.releases })
+          (Terminate u.unit ∷ report_dropped u)
           else silently (record u { is_end_asked = true })) else silently u)
       asked true true =
           then_same u (record u { is_end_asked = true; releases = map dropped_release u.releases }) _ b mapped refl
@@ -190,7 +190,7 @@ module _ (code : Code) (row : HandlerRow) (index : ℕ) where
       (f : Frame) (below : List Frame) (chain : Chain code s row (f ∷ below)) where
     -- with other objects or static fields
     goes_to : (t : State) (h : Frame) (events : List Event) → activity_of t (ReleaseAt index) ≡ Some activity →
-        t.areas ≡ s.areas → IsSame f h → After (telling (with_frame t (ReleaseAt index) activity h below) events)
+        t.areas ≡ s.areas → IsSame f h → After (reporting (with_frame t (ReleaseAt index) activity h below) events)
     goes_to t h events there areas same =
         goes_with t activity (record activity { frames = h ∷ below }) events there
         (chain_stays code s t (same_areas s t areas) row (h ∷ below) (chain_goes code s row f h below same chain))
@@ -240,12 +240,12 @@ module _ (code : Code) (row : HandlerRow) (index : ℕ) where
 
         lower : (ceiling : ℕ) (t : Bool) → After
             (if t then fault_in s (ReleaseAt index) activity pos CeilingViolation
-            else telling
+            else reporting
             (with_activity s (ReleaseAt index) (record activity {
               frames = record g { saved = Some activity.priority } ∷ (h ∷ below);
               priority = ceiling;
             }))
-            (tell_priority s (ReleaseAt index) activity.priority ceiling))
+            (report_priority s (ReleaseAt index) activity.priority ceiling))
         lower ceiling true = faults_with s activity pos CeilingViolation
         lower ceiling false = goes_with s activity _ _ is (with_saved (Some activity.priority))
 
@@ -255,12 +255,12 @@ module _ (code : Code) (row : HandlerRow) (index : ℕ) where
               | None ↦ silently (with_activity s (ReleaseAt index) (record activity { frames = g ∷ (h ∷ below) }))
               | Some ceiling ↦
                   if nat_lt ceiling activity.priority then fault_in s (ReleaseAt index) activity pos CeilingViolation
-                  else telling
+                  else reporting
                   (with_activity s (ReleaseAt index) (record activity {
                     frames = record g { saved = Some activity.priority } ∷ (h ∷ below);
                     priority = ceiling;
                   }))
-                  (tell_priority s (ReleaseAt index) activity.priority ceiling)
+                  (report_priority s (ReleaseAt index) activity.priority ceiling)
             ]))
         full true o = faults_with s activity pos DepthFull
         full false None = goes_with s activity _ _ is (chain_runs code s row f h g below same link chain)
@@ -373,7 +373,7 @@ module _ (code : Code) (row : HandlerRow) (index : ℕ) where
         }
 
         of : (fs : List Frame) → below ≡ fs → After
-            (then_do (telling t (tell_priority s (ReleaseAt index) activity.priority (unwrap_or h.saved activity.priority)))
+            (then_do (reporting t (report_priority s (ReleaseAt index) activity.priority (unwrap_or h.saved activity.priority)))
             (λ u. elim fs [
               | [] ↦ job_ended u (ReleaseAt index) after value
               | g ∷ gs ↦ silently (with_activity u (ReleaseAt index) after)

@@ -36,14 +36,14 @@ use Rattle.scope_sound.proofs.Safe.{has_facts}
 use Rattle.certain_faults.proofs.RunsOfNodes.{ClassesAskNothing}
 use Rattle.certain_faults.proofs.Runs.{classes_ask_nothing, invariant_of}
 use Rattle.memory_needs.specs.Causes.{class_with_form, only_argument, storage, storage_node}
-use Rattle.memory_bounds.specs.Theorem.{RowsTell, Storage}
+use Rattle.memory_bounds.specs.Theorem.{RowsReport, Storage}
 use Rattle.memory_bounds.proofs.FormBodies.{constructors}
 use Rattle.memory_bounds.proofs.FormClass.{OnWay, handler_form}
 use Rattle.memory_bounds.proofs.Forms.{FormFacts}
 use Rattle.memory_bounds.proofs.FormSaid.{form_says}
 use Rattle.memory_bounds.proofs.FormWays.{on_the_way}
 use Rattle.memory_bounds.proofs.Inner.{Inner, StandWithoutObject, inner_laws}
-use Rattle.memory_bounds.proofs.RowsTelling.{always_tells}
+use Rattle.memory_bounds.proofs.RowsReporting.{always_reports}
 use Rattle.memory_bounds.proofs.WithoutObject.{InSuper, without_object}
 
 module _ (forest : Forest) (a : IsAcceptedProgram forest) where
@@ -59,21 +59,21 @@ module _ (forest : Forest) (a : IsAcceptedProgram forest) where
   of_handler class =
       holds (class_with_form p class >>= superclass_in p.classes) (λ s. not (s == mission_sequencer))
 
-  abbrev is_told : ℕ → Bool
-  is_told class = nat_lt class (length p.classes) && (is_handler p class && of_handler class)
+  abbrev is_reported : ℕ → Bool
+  is_reported class = nat_lt class (length p.classes) && (is_handler p class && of_handler class)
 
-  abbrev told_storage : Storage
-  told_storage class = if is_told class then storage p class else None
+  abbrev reported_storage : Storage
+  reported_storage class = if is_reported class then storage p class else None
 
-  record Told (class n : ℕ) : Type 0 where
+  record Reported (class n : ℕ) : Type 0 where
     within : class < length p.classes
     handler : is_handler p class ≡ true
     kept : of_handler class ≡ true
     is : storage p class ≡ Some n
 
-  told_is : (class n : ℕ) → told_storage class ≡ Some n → Told class n
-  told_is class n e =
-      (let q = if_some (is_told class) (storage p class) n e in
+  reported_is : (class n : ℕ) → reported_storage class ≡ Some n → Reported class n
+  reported_is class n e =
+      (let q = if_some (is_reported class) (storage p class) n e in
       let first = and_true (nat_lt class (length p.classes)) (is_handler p class && of_handler class) q.0 in
       let second = and_true (is_handler p class) (of_handler class) first.1 in
       let test = first.0 in
@@ -95,9 +95,9 @@ module _ (forest : Forest) (a : IsAcceptedProgram forest) where
       (t.0, t.1))
 
   -- a handler class has the form of a handler
-  told_of : (class n : ℕ) → class < length p.classes → is_handler p class ≡ true → storage p class ≡ Some n →
-      told_storage class ≡ Some n
-  told_of class n l handler e =
+  reported_of : (class n : ℕ) → class < length p.classes → is_handler p class ≡ true → storage p class ≡ Some n →
+      reported_storage class ≡ Some n
+  reported_of class n l handler e =
       ap (λ t. if t then storage p class else None) all ∙ e
     where
       d : (d : ℕ) × (class_with_form p class ≡ Some d)
@@ -119,7 +119,7 @@ module _ (forest : Forest) (a : IsAcceptedProgram forest) where
       less : nat_lt class (length p.classes) ≡ true
       less = grind (arith, nat_tests, l)
 
-      all : is_told class ≡ true
+      all : is_reported class ≡ true
       all =
           ap (λ t. t && (is_handler p class && of_handler class)) less
           ∙ (ap (λ t. t && of_handler class) handler ∙ kept)
@@ -138,24 +138,24 @@ module _ (forest : Forest) (a : IsAcceptedProgram forest) where
   abbrev I : Op → Type 0
   I = Inner (code_of forest) facts.bodies (InSuper forest a.is_accepted a.whole sorted) stand
 
-  hides : (class n : ℕ) → told_storage class ≡ Some n → 2 ≤ hidden_fields p.classes class
+  hides : (class n : ℕ) → reported_storage class ≡ Some n → 2 ≤ hidden_fields p.classes class
   unfolding hidden_fields
   hides class n e =
       of (is_among periodic_handler (superclasses p.classes class))
-      (is_among aperiodic_handler (superclasses p.classes class)) (told_is class n e).handler
+      (is_among aperiodic_handler (superclasses p.classes class)) (reported_is class n e).handler
     where
       of : (x y : Bool) → (x || y) ≡ true → 2 ≤ (if x then 4 else (if y then 2 else 0))
       of true y h = omega arith
       of false true h = omega arith
       of false false h = absurd (cc (h))
 
-  no_array : (class n : ℕ) → told_storage class ≡ Some n → element_kind p class ≡ None
+  no_array : (class n : ℕ) → reported_storage class ≡ Some n → element_kind p class ≡ None
   unfolding element_kind
   no_array class n e = ap (λ t. if t then None else behind) less
     where
       l : class < length p.names
       l =
-          (let w = (told_is class n e).within in
+          (let w = (reported_is class n e).within in
           let same = names_and_classes forest in
           omega (arith, w, same))
 
@@ -168,15 +168,15 @@ module _ (forest : Forest) (a : IsAcceptedProgram forest) where
           else (if class == first_array_class p + 1 then Some TruthKind
           else (if nat_lt class (first_array_class p + 2 + length p.names) then Some ReferenceSlot else None))
 
-  forms : FormFacts (code_of forest) told_storage I (OnWay forest a)
+  forms : FormFacts (code_of forest) reported_storage I (OnWay forest a)
   unfolding code_of
   forms = record {
     laws = inner_laws (code_of forest) facts.bodies (InSuper forest a.is_accepted a.whole sorted) stand;
-    starts = λ class n e. (let t = told_is class n e in let d = with_form class n t.is in
+    starts = λ class n e. (let t = reported_is class n e in let d = with_form class n t.is in
         record { within = t.within; of = d.0; is = d.1 });
     constructors = constructors (code_of forest) facts.bodies bare (InSuper forest a.is_accepted a.whole sorted) stand
         (OnWay forest a) (on_the_way forest a);
-    form = λ b c sig body id call superclass bound_to form class n sub e. (let t = told_is class n e in
+    form = λ b c sig body id call superclass bound_to form class n sub e. (let t = reported_is class n e in
         form_says forest a facts.bodies (behind_children forest a.whole) b c sig body id call superclass bound_to form class n
         t.within sub t.is t.kept);
     hides = hides;
@@ -185,13 +185,13 @@ module _ (forest : Forest) (a : IsAcceptedProgram forest) where
 
   -- ---- all states
 
-  pub rows_tell : (plan : Plan) (choices : List ℕ) (s : State) →
-      Reached (code_of forest) plan (by_list choices) Arrived s → RowsTell (storage p) s
+  pub rows_report : (plan : Plan) (choices : List ℕ) (s : State) →
+      Reached (code_of forest) plan (by_list choices) Arrived s → RowsReport (storage p) s
   unfolding code_of is_concrete
-  rows_tell plan choices s h zero row bytes there told = absurd (cc (there))
-  rows_tell plan choices s h (suc k) row bytes there told =
-      (always_tells (code_of forest) facts bare told_storage I (OnWay forest a) forms plan choices Arrived s h).rows (suc k)
-      row bytes there (told_of row.class bytes within handler told)
+  rows_report plan choices s h zero row bytes there reported = absurd (cc (there))
+  rows_report plan choices s h (suc k) row bytes there reported =
+      (always_reports (code_of forest) facts bare reported_storage I (OnWay forest a) forms plan choices Arrived s h).rows (suc k)
+      row bytes there (reported_of row.class bytes within handler reported)
     where
       i : Invariant (code_of forest) s
       i = invariant_of (code_of forest) facts bare plan choices Arrived s h

@@ -200,7 +200,7 @@ module _ (forest : Forest) (a : IsAcceptedProgram forest) where
     -- ---- what the form says
 
     module _ (class n : ℕ) (l : class < length p.classes) (sub : is_sub p.classes class c ≡ true)
-        (told : storage p class ≡ Some n) where
+        (reported : storage p class ≡ Some n) where
       one : class_with_form p class ≡ Some c
       one = one_class forest a class c superclass l within up form sub
 
@@ -220,7 +220,7 @@ module _ (forest : Forest) (a : IsAcceptedProgram forest) where
       unfolding storage storage_node
       stored =
           let d = bound (class_with_form p class >>= form_in p >>= (λ (parts : List ℕ). slice_get parts 1)
-          >>= read p.nodes only_argument) (read p.nodes number_literal) n told in
+          >>= read p.nodes only_argument) (read p.nodes number_literal) n reported in
           let e = bound (class_with_form p class >>= form_in p >>= (λ (parts : List ℕ). slice_get parts 1))
           (read p.nodes only_argument) d.0 d.1 in
           let f = bound (class_with_form p class >>= form_in p) (λ (parts : List ℕ). slice_get parts 1) e.0 e.1 in

@@ -17,14 +17,14 @@ use Rattle.scope_sound.specs.Sound.{HasFacts}
 use Rattle.certain_faults.proofs.Jobs.{Jobs}
 use Rattle.certain_faults.proofs.Runs.{All}
 use Rattle.certain_faults.proofs.RunsOfNodes.{ClassesAskNothing}
-use Rattle.memory_bounds.specs.Theorem.{RowsTell, Storage}
+use Rattle.memory_bounds.specs.Theorem.{RowsReport, Storage}
 use Rattle.memory_bounds.proofs.Forms.{FormFacts}
 use Rattle.memory_bounds.proofs.InitSteps.{InInit}
 use Rattle.scj_model.specs.declared.plans.ReadingRow.{ReadingRow}
 use Rattle.scj_model.specs.Operations.{effect_of}
 use Rattle.frame_sound.specs.OwnJob.{HasFaulted, HasLeft, JobGoesOn, KeepsItsJob}
 use Rattle.frame_sound.specs.Places.{world_of}
-use Rattle.memory_bounds.proofs.InitRows.{does, init_stays, kept, rows_tell}
+use Rattle.memory_bounds.proofs.InitRows.{does, init_stays, kept, rows_report}
 use Rattle.memory_bounds.proofs.RegistryKept.{rows_stay}
 use Rattle.memory_bounds.proofs.RowsStill.{After, same_rows}
 
@@ -36,7 +36,7 @@ module _ (code : Code) (facts : HasFacts code) (bare : ClassesAskNothing code) (
   module _ (readings : List ReadingRow) (s : State) (i : Invariant code s) (refs : ReferencesHold s (areas_of i.base))
       (held : Jobs (All code) s) (outcome : s.outcome ≡ None) (going : is_over s.phase ≡ false)
       (init : is_init s.phase ≡ true → InInit code facts bare storage Inner OnWay forms s)
-      (rows : RowsTell storage s) where
+      (rows : RowsReport storage s) where
     -- ---- the sequencer's frames
 
     module _ (f : Frame) (below : List Frame) (acts_is : s.activity.frames ≡ f ∷ below) (quiet : is_exec s.phase ≡ false)
@@ -103,15 +103,15 @@ module _ (code : Code) (facts : HasFacts code) (bare : ClassesAskNothing code) (
               does code facts bare storage Inner OnWay forms readings s i refs held outcome f below acts_is step done op rest
               ops
 
-          by : (b : Bool) → is_init s.phase ≡ b → RowsTell storage step.state
+          by : (b : Bool) → is_init s.phase ≡ b → RowsReport storage step.state
           by true e =
-              rows_tell code facts bare storage Inner OnWay forms readings s i refs held outcome f below
+              rows_report code facts bare storage Inner OnWay forms readings s i refs held outcome f below
               acts_is step done op rest ops (init e) rows
           by false e =
               of ((rows_stay code s s.activity below (position_of_op code op)
               (effect_of code (environment readings s) (record f { rest = rest }) op)).is step did)
             where
-              of : (step.state.registry ≡ s.registry) ⊎ (is_init s.phase ≡ true) → RowsTell storage step.state
+              of : (step.state.registry ≡ s.registry) ⊎ (is_init s.phase ≡ true) → RowsReport storage step.state
               of (inl q) = same_rows storage s step.state q rows
               of (inr q) = absurd (cc (q, e))
 

@@ -33,9 +33,9 @@ use Rattle.certain_faults.proofs.GivenAsBound.{GivesSo}
 use Rattle.certain_faults.proofs.Jobs.{Jobs}
 use Rattle.certain_faults.proofs.Runs.{All}
 use Rattle.certain_faults.proofs.RunsOfNodes.{ClassesAskNothing}
-use Rattle.memory_bounds.specs.Theorem.{RowsTell, Storage}
+use Rattle.memory_bounds.specs.Theorem.{RowsReport, Storage}
 use Rattle.memory_bounds.proofs.Forms.{FormFacts}
-use Rattle.memory_bounds.proofs.InitSteps.{InInit, Making, Stands, Told, begin, environment_lacks, gives, objects_stand, says, stays}
+use Rattle.memory_bounds.proofs.InitSteps.{InInit, Making, Stands, Reported, begin, environment_lacks, gives, objects_stand, says, stays}
 use Rattle.memory_bounds.proofs.MadeMoves.{Is_made, Is_read, MovesOn, moves_on}
 use Rattle.memory_bounds.proofs.Makers.{Made}
 use Rattle.memory_bounds.proofs.Params.{Fault, Not_kept, ReadsForm, Sets, Unread, reads_form}
@@ -60,16 +60,16 @@ behind_frames (f ∷ fs) xs ys e = behind_frames fs xs ys (behind_opened f.opene
 -- ---- rows
 
 -- a row by an object that tells its storage has it
-bytes_told : (code : Code) (storage : Storage) (r : ℕ) (o : Object) (n : ℕ) →
+bytes_reported : (code : Code) (storage : Storage) (r : ℕ) (o : Object) (n : ℕ) →
     2 ≤ hidden_fields code.program.classes o.class → slice_get o.slots storage_slot ≡ Some (Int (pos n)) →
     (new_row code.program r o).bytes ≡ n
 unfolding hidden_number number_in
-bytes_told code storage r o n two told = of (nat_lt storage_slot (hidden_fields code.program.classes o.class)) refl
+bytes_reported code storage r o n two reported = of (nat_lt storage_slot (hidden_fields code.program.classes o.class)) refl
   where
     of : (b : Bool) → nat_lt storage_slot (hidden_fields code.program.classes o.class) ≡ b →
         (if b then (elim (slice_get o.slots storage_slot) as (λ z. ℕ) [ None ↦ 0 | Some value ↦ number_in value ]) else 0)
         ≡ n
-    of true e = ap (λ (v : Option Value). elim v as (λ z. ℕ) [ None ↦ 0 | Some value ↦ number_in value ]) told
+    of true e = ap (λ (v : Option Value). elim v as (λ z. ℕ) [ None ↦ 0 | Some value ↦ number_in value ]) reported
     of false e = absurd (grind (arith, nat_tests))
 
 -- one more row tells what the others tell
@@ -79,14 +79,14 @@ rows_more : (storage : Storage) (registry : List HandlerRow) (row : HandlerRow) 
     ((bytes : ℕ) → storage row.class ≡ Some bytes → row.bytes ≡ bytes) →
     (handler : ℕ) (x : HandlerRow) (bytes : ℕ) → handler_row (registry ++ row ∷ []) handler ≡ Some x →
     storage x.class ≡ Some bytes → x.bytes ≡ bytes
-rows_more storage registry row old new zero x bytes e told = absurd (cc (e))
-rows_more storage registry row old new (suc k) x bytes e told = of (get_either registry row k x e)
+rows_more storage registry row old new zero x bytes e reported = absurd (cc (e))
+rows_more storage registry row old new (suc k) x bytes e reported = of (get_either registry row k x e)
   where
     of : (slice_get registry k ≡ Some x) ⊎ (row ≡ x) → x.bytes ≡ bytes
-    of (inl there) = old (suc k) x bytes there told
+    of (inl there) = old (suc k) x bytes there reported
     of (inr same) =
         ap (λ (y : HandlerRow). y.bytes) (sym same)
-        ∙ new bytes (ap (λ (y : HandlerRow). storage y.class) same ∙ told)
+        ∙ new bytes (ap (λ (y : HandlerRow). storage y.class) same ∙ reported)
 
 more_is_other : (xs : List HandlerRow) (y : HandlerRow) → xs ++ y ∷ [] ≡ xs → ⊥
 more_is_other [] y e = cc (e)
@@ -168,7 +168,7 @@ module _ (code : Code) (facts : HasFacts code) (bare : ClassesAskNothing code) (
           Clean u o (Made code Inner OnWay (GivesSo code) u) s → (row : HandlerRow) → row.at ≡ u →
           step.state.registry ≡ s.registry ++ row ∷ [] → ⊥
       unfolding applied fault_in
-      no_row u o n told c row at more =
+      no_row u o n reported c row at more =
           of (moves_on code Inner OnWay forms.laws (GivesSo code) bare u o s c.heap s.activity (position_of_op code op)
           (environment rows s)
           (environment_lacks code facts bare storage Inner OnWay forms rows s i refs held outcome f below acts op rest ops u o
@@ -176,7 +176,7 @@ module _ (code : Code) (facts : HasFacts code) (bare : ClassesAskNothing code) (
           (stays code facts bare storage Inner OnWay forms rows s i refs held outcome f below acts op rest ops)
           (gives code facts bare storage Inner OnWay forms rows s i refs held outcome f below acts op rest ops)
           (begin code facts bare storage Inner OnWay forms rows s i refs held outcome f below acts op rest ops u o c.heap n
-          told) c.frames)
+          reported) c.frames)
         where
           same_rows : step.state.registry ≡ s.registry → ⊥
           same_rows e = more_is_other s.registry row (sym more ∙ e)
@@ -190,7 +190,7 @@ module _ (code : Code) (facts : HasFacts code) (bare : ClassesAskNothing code) (
               (sym (some_inj (fault_in s TheSequencer s.activity (position_of_op code op) x) step k)))
           read id _ q e own (Not_kept h sequencer) k =
               (says code facts bare storage Inner OnWay forms rows s i refs held outcome f below acts op rest ops id e u o n own
-              c.heap.object told).kept sequencer
+              c.heap.object reported).kept sequencer
           read id _ q e own (Sets h r vs z this top sets) k =
               same_rows ((form_registers_none code s s.activity below (position_of_op code op) h r vs).is step k)
 
@@ -201,7 +201,7 @@ module _ (code : Code) (facts : HasFacts code) (bare : ClassesAskNothing code) (
               (stays code facts bare storage Inner OnWay forms rows s i refs held outcome f below acts op rest ops)
               (gives code facts bare storage Inner OnWay forms rows s i refs held outcome f below acts op rest ops)
               (begin code facts bare storage Inner OnWay forms rows s i refs held outcome f below acts op rest ops u o c.heap n
-              told) → ⊥
+              reported) → ⊥
           of (Is_made g) =
               (let q = last_row s.registry row in
               (g.is step does).heap.rows q.0 row (ap (λ (xs : List HandlerRow). slice_get xs q.0) more ∙ q.1) at)
@@ -212,10 +212,10 @@ module _ (code : Code) (facts : HasFacts code) (bare : ClassesAskNothing code) (
               (effect_of code (environment rows s) (record f { rest = rest }) y)) (sym e) ∙ does)
 
       -- the rows tell the storage afterwards
-      pub rows_tell : InInit code facts bare storage Inner OnWay forms s → RowsTell storage s →
-          RowsTell storage step.state
+      pub rows_report : InInit code facts bare storage Inner OnWay forms s → RowsReport storage s →
+          RowsReport storage step.state
       unfolding activity_of
-      rows_tell h tells =
+      rows_report h reports =
           of (subst (λ (x : Step). RegistryIsKept code s (list_of (areas_of i.base) (f ∷ below)) x.state) same_step
           kept.registry)
         where
@@ -232,10 +232,10 @@ module _ (code : Code) (facts : HasFacts code) (bare : ClassesAskNothing code) (
               by in_immortal e = absurd (let q = h.base i in let r = ap areas_of e in cc (q, r))
               by (in_mission m) e = (m, e)
 
-          new : (r : NewRow code s (list_of (areas_of i.base) (f ∷ below)) step.state) → RowsTell storage step.state
-          new r handler x bytes there told =
-              rows_more storage s.registry (new_row code.program r.r o) tells (λ n k. by n k) handler x bytes
-              (ap (λ (xs : List HandlerRow). handler_row xs handler) (sym r.is) ∙ there) told
+          new : (r : NewRow code s (list_of (areas_of i.base) (f ∷ below)) step.state) → RowsReport storage step.state
+          new r handler x bytes there reported =
+              rows_more storage s.registry (new_row code.program r.r o) reports (λ n k. by n k) handler x bytes
+              (ap (λ (xs : List HandlerRow). handler_row xs handler) (sym r.is) ∙ there) reported
             where
               o : Object
               o = r.fine.there.object
@@ -260,16 +260,16 @@ module _ (code : Code) (facts : HasFacts code) (bare : ClassesAskNothing code) (
                 where
                   stood : Stands code facts bare storage Inner OnWay forms s r.r r.fine.there.object →
                       (new_row code.program r.r r.fine.there.object).bytes ≡ n
-                  stood (Told t) =
-                      bytes_told code storage r.r r.fine.there.object n (forms.hides r.fine.there.object.class n k)
+                  stood (Reported t) =
+                      bytes_reported code storage r.r r.fine.there.object n (forms.hides r.fine.there.object.class n k)
                       (t.is n k)
                   stood (Making c) =
                       absurd (no_row r.r r.fine.there.object n k c (new_row code.program r.r r.fine.there.object) refl r.is)
 
-          of : RegistryIsKept code s (list_of (areas_of i.base) (f ∷ below)) step.state → RowsTell storage step.state
-          of (inl e) handler x bytes there told =
-              tells handler x bytes (ap (λ (xs : List HandlerRow). handler_row xs handler) (sym e) ∙ there) told
-          of (inr r) handler x bytes there told = new r handler x bytes there told
+          of : RegistryIsKept code s (list_of (areas_of i.base) (f ∷ below)) step.state → RowsReport storage step.state
+          of (inl e) handler x bytes there reported =
+              reports handler x bytes (ap (λ (xs : List HandlerRow). handler_row xs handler) (sym e) ∙ there) reported
+          of (inr r) handler x bytes there reported = new r handler x bytes there reported
 
       -- in initialisation all goes on
       pub init_stays : InInit code facts bare storage Inner OnWay forms s → is_init step.state.phase ≡ true →

@@ -59,14 +59,14 @@ use Rattle.memory_bounds.proofs.Makers.{Made}
 use Rattle.memory_bounds.proofs.MakerSteps.{CanBegin}
 use Rattle.memory_bounds.proofs.Params.{Fault, Not_kept, ReadsForm, Sets, Unread, reads_form}
 use Rattle.memory_bounds.proofs.Sources.{An_array, An_object, MadeBy, Sourced, sourced}
-use Rattle.memory_bounds.proofs.StorageKept.{Later, New, SparesStorage, Tells, Was, hidden_tells, objects_later}
+use Rattle.memory_bounds.proofs.StorageKept.{Later, New, SparesStorage, Reports, Was, hidden_reports, objects_later}
 use Rattle.memory_bounds.proofs.Unnamed.{Clean, Heap}
 
 module _ (code : Code) (facts : HasFacts code) (bare : ClassesAskNothing code) (storage : Storage)
     (Inner : Op → Type 0) (OnWay : ℕ → Type 0) (forms : FormFacts code storage Inner OnWay) where
   -- an object tells its storage, or is being made
   pub data Stands (s : State) (u : ℕ) (x : Object) : Type 0 where
-    Told : Tells storage x → Stands s u x
+    Reported : Reports storage x → Stands s u x
     Making : Clean u x (Made code Inner OnWay (GivesSo code) u) s → Stands s u x
 
   -- `first` is the memory of the mission
@@ -145,7 +145,7 @@ module _ (code : Code) (facts : HasFacts code) (bare : ClassesAskNothing code) (
     pub says : (id : ℕ) → op ≡ PARAMS id → (r : ℕ) (o : Object) (n : ℕ) → f.this ≡ Some r → object_at s r ≡ Some o →
         storage o.class ≡ Some n → FormSays code id n
     unfolding pushed Runs IsOfType
-    says id e r o n this there told = of f.body ready.runs need.is_written
+    says id e r o n this there reported = of f.body ready.runs need.is_written
       where
         need : ParamsNeeds code f.body fine.0.class id (before (PARAMS id) e).kinds (before (PARAMS id) e).flow.1.out
         need = (before (PARAMS id) e).flow.1.needed
@@ -165,17 +165,17 @@ module _ (code : Code) (facts : HasFacts code) (bare : ClassesAskNothing code) (
         of : (body : Body) → Runs code.program body fine.0.class fine.0.sig →
             InNode body (λ b. IsSuperCall code.program b id) → FormSays code id n
         of (Written b) runs call =
-            forms.form b fine.0.class fine.0.sig runs id call need.superclass need.is need.form o.class n under told
+            forms.form b fine.0.class fine.0.sig runs id call need.superclass need.is need.form o.class n under reported
         of Empty runs call = absurd call
 
     -- the storage that it sets
     sets_storage : (id : ℕ) → op ≡ PARAMS id → (r : ℕ) (o : Object) (n : ℕ) (z : _) → f.this ≡ Some r →
         object_at s r ≡ Some o → storage o.class ≡ Some n → slice_get f.operands 0 ≡ Some (Int z) →
         Int z ≡ Int (pos n)
-    sets_storage id e r o n z this there told top =
+    sets_storage id e r o n z this there reported top =
         some_inj (Int z) (Int (pos n))
         (sym top
-        ∙ (says id e r o n this there told).last f.operands
+        ∙ (says id e r o n this there reported).last f.operands
         (operands_are (asked code (PARAMS id)) mine.0.stack f.operands
         (subst (λ y. Less (asked code y) mine.0.stack) e passes.0) mine.0.shadows))
 
@@ -184,21 +184,21 @@ module _ (code : Code) (facts : HasFacts code) (bare : ClassesAskNothing code) (
       where
         of : (e : Effect) → effect_of code (environment rows s) (record f { rest = rest }) op ≡ e →
             Sourced code (environment rows s) (record f { rest = rest }) op e → SparesStorage storage s e
-        of (Stores h r slot v) e x = λ o n there told same. stored o n there told same (x.is o there)
+        of (Stores h r slot v) e x = λ o n there reported same. stored o n there reported same (x.is o there)
           where
             stored : (o : Object) (n : ℕ) → object_at s r ≡ Some o → storage o.class ≡ Some n → slot ≡ storage_slot →
                 (hidden_fields code.program.classes o.class ≤ slot) ⊎ ((id : ℕ) × (op ≡ PUTELEM id)) → ⊥
-            stored o n there told same (inl le) =
-                (let two = forms.hides o.class n told in omega (arith, two, le, same))
-            stored o n there told same (inr q) =
+            stored o n there reported same (inl le) =
+                (let two = forms.hides o.class n reported in omega (arith, two, le, same))
+            stored o n there reported same (inr q) =
                 (let some : IsSome (element_kind code.program o.class) =
                 elements_of_arrays code facts.bodies (world_of s).areas (environment rows s)
                 (list_of (areas_of i.base) (f ∷ below)) fine.0.class fine.0.sig f q.0 rest fine.1
                 i.memories.memory.heap i.memories.memory.statics (before (PUTELEM q.0) q.1) h r slot v
                 (ap (λ y. effect_of code (environment rows s) (record f { rest = rest }) y) (sym q.1) ∙ e) o there in
-                let none = forms.no_array o.class n told in
+                let none = forms.no_array o.class n reported in
                 cc (some, none))
-        of (SetsHidden h r vs) e x = λ o n there told. form o n there told (reads q.1)
+        of (SetsHidden h r vs) e x = λ o n there reported. form o n there reported (reads q.1)
           where
             q : (id : ℕ) × (op ≡ PARAMS id)
             q = x.is
@@ -212,8 +212,8 @@ module _ (code : Code) (facts : HasFacts code) (bare : ClassesAskNothing code) (
             form : (o : Object) (n : ℕ) → object_at s r ≡ Some o → storage o.class ≡ Some n →
                 ReadsForm code (record f { rest = rest }) q.0 (SetsHidden h r vs) →
                 slice_get vs storage_slot ≡ Some (Int (pos n))
-            form o n there told (Sets _ _ _ z own top sets) =
-                sets ∙ ap (λ y. Some y) (sets_storage q.0 q.1 r o n z own there told top)
+            form o n there reported (Sets _ _ _ z own top sets) =
+                sets ∙ ap (λ y. Some y) (sets_storage q.0 q.1 r o n z own there reported top)
         of _ e x = tt
 
     -- ---- an object that is being made
@@ -222,7 +222,7 @@ module _ (code : Code) (facts : HasFacts code) (bare : ClassesAskNothing code) (
         (environment rows s).object_at r ≡ Some x → AllLack u x.slots
     environment_lacks u o heap r x there = heap.objects r x there
 
-    module _ (u : ℕ) (o : Object) (heap : Heap u o s) (n : ℕ) (told : storage o.class ≡ Some n) where
+    module _ (u : ℕ) (o : Object) (heap : Heap u o s) (n : ℕ) (reported : storage o.class ≡ Some n) where
       pub begin : (id class : ℕ) → (op ≡ CONSTRUCT id) ⊎ (op ≡ SUPER id) → bound_class (binding code id) ≡ Some class →
           OnWay class →
           CanBegin code Inner OnWay forms.laws (GivesSo code) bare u o s heap s.activity (position_of_op code op)
@@ -282,20 +282,20 @@ module _ (code : Code) (facts : HasFacts code) (bare : ClassesAskNothing code) (
           of _ q (Fault x) =
               gives_some StandsAfter (fault_in s TheSequencer s.activity (position_of_op code op) x)
               (λ init. absurd (cc (init)))
-          of _ q (Not_kept h sequencer) = absurd ((says id e u o n own heap.object told).kept sequencer)
+          of _ q (Not_kept h sequencer) = absurd ((says id e u o n own heap.object reported).kept sequencer)
           of _ q (Sets h r vs z this top sets) =
-              of_set (hidden_tells storage s (SetsHidden h r vs) code s.activity below (position_of_op code op) h r vs
+              of_set (hidden_reports storage s (SetsHidden h r vs) code s.activity below (position_of_op code op) h r vs
               (λ y m there k. sets ∙ ap (λ v. Some v) (sets_storage id e r y m z this there k top)))
             where
               one : r ≡ u
               one = some_inj r u (sym this ∙ own)
 
-              of_set : StepGives (λ t. (x : Object) → object_at t r ≡ Some x → Tells storage x)
+              of_set : StepGives (λ t. (x : Object) → object_at t r ≡ Some x → Reports storage x)
                   (applied code s TheSequencer s.activity below (position_of_op code op) (SetsHidden h r vs)) →
                   StepGives StandsAfter
                   (applied code s TheSequencer s.activity below (position_of_op code op) (SetsHidden h r vs))
               of_set g = record {
-                is = λ step k init x there. Told (g.is step k x (ap (λ m. slice_get step.state.objects m) one ∙ there));
+                is = λ step k init x there. Reported (g.is step k x (ap (λ m. slice_get step.state.objects m) one ∙ there));
               }
 
       made_stands : Made code Inner OnWay (GivesSo code) u s.activity.frames →
@@ -353,7 +353,7 @@ module _ (code : Code) (facts : HasFacts code) (bare : ClassesAskNothing code) (
         of (Some x) e = absurd (past_end s.objects x e)
 
     module _ (id class : ℕ) (e : op ≡ ALLOC id) (bound : bound_class (binding code id) ≡ Some class) (n : ℕ)
-        (told : storage class ≡ Some n) where
+        (reported : storage class ≡ Some n) where
       need : AllocNeeds code f.body fine.0.class fine.0.sig id (before (ALLOC id) e).kinds (before (ALLOC id) e).flow.1.out
       unfolding before pushed
       need = (before (ALLOC id) e).flow.1.needed
@@ -368,7 +368,7 @@ module _ (code : Code) (facts : HasFacts code) (bare : ClassesAskNothing code) (
           of (Written b) runs inside =
               pending_begins code facts.bodies bare Inner OnWay (length s.objects) b fine.0.class fine.0.sig runs id
               need.by_expression.0 inside need.by_expression.1 rest
-              (subst (λ y. Begins code y rest) e passes.1) mine.0.stack class bound (forms.starts class n told) f.this
+              (subst (λ y. Begins code y rest) e passes.1) mine.0.stack class bound (forms.starts class n reported) f.this
               this_other
           of Empty runs inside = absurd inside
 
@@ -398,14 +398,14 @@ module _ (code : Code) (facts : HasFacts code) (bare : ClassesAskNothing code) (
         (effect_of code (environment rows s) (record f { rest = rest }) op) ≡ Some step →
         is_init step.state.phase ≡ true → (u : ℕ) (x : Object) (n : ℕ) → object_at step.state u ≡ Some x →
         h.first ≤ x.area → storage x.class ≡ Some n → Stands step.state u x
-    objects_stand h step e init u x n there le told =
+    objects_stand h step e init u x n there le reported =
         of (((objects_later storage s (effect_of code (environment rows s) (record f { rest = rest }) op) code s.activity
         below (position_of_op code op) (effect_of code (environment rows s) (record f { rest = rest }) op) refl spares).is
         step e).is u x there)
       where
-        old : (o : Object) → object_at s u ≡ Some o → (Tells storage o → Tells storage x) → storage o.class ≡ Some n →
+        old : (o : Object) → object_at s u ≡ Some o → (Reports storage o → Reports storage x) → storage o.class ≡ Some n →
             Stands s u o → Stands step.state u x
-        old o was keeps same (Told k) = Told (keeps k)
+        old o was keeps same (Reported k) = Reported (keeps k)
         old o was keeps same (Making c) = (made_stands u o c.heap n same c.frames).is step e init x there
 
         fresh : (d : Effect) → effect_of code (environment rows s) (record f { rest = rest }) op ≡ d →
@@ -415,18 +415,18 @@ module _ (code : Code) (facts : HasFacts code) (bare : ClassesAskNothing code) (
           where
             by : MadeBy code (environment rows s) (record f { rest = rest }) op g class slots → Stands step.state u x
             by (An_array kind array) =
-                absurd (let none = forms.no_array class n (ap storage (sym same) ∙ told) in cc (none, array))
+                absurd (let none = forms.no_array class n (ap storage (sym same) ∙ reported) in cc (none, array))
             by (An_object id alloc bound top are) =
                 Making (subst (λ m. Clean m x (Made code Inner OnWay (GivesSo code) m) step.state) (sym num)
-                ((new_stands id class alloc bound n (ap storage (sym same) ∙ told) slots are).is step
+                ((new_stands id class alloc bound n (ap storage (sym same) ∙ reported) slots are).is step
                 (ap (applied code s TheSequencer s.activity below (position_of_op code op))
                 (ap (λ (k : Frame). Makes k class slots) (sym top) ∙ (sym made ∙ sym is)) ∙ e) x
                 (ap (λ m. slice_get step.state.objects m) (sym num) ∙ there)))
 
         of : Later storage s (effect_of code (environment rows s) (record f { rest = rest }) op) u x → Stands step.state u x
         of (Was o was class area keeps) =
-            old o was keeps (ap storage (sym class) ∙ told)
-            (h.objects u o n was (subst (λ a. h.first ≤ a) area le) (ap storage (sym class) ∙ told))
+            old o was keeps (ap storage (sym class) ∙ reported)
+            (h.objects u o n was (subst (λ a. h.first ≤ a) area le) (ap storage (sym class) ∙ reported))
         of (New g class slots made num is) =
             fresh (effect_of code (environment rows s) (record f { rest = rest }) op) refl g class slots made num
             (ap (λ (y : Object). y.class) is) source

@@ -57,7 +57,7 @@ pub mod Resting
 pub mod RoomChains
 pub mod Rooms
 pub mod RowsStill
-pub mod RowsTelling
+pub mod RowsReporting
 pub mod RunBodies
 pub mod RunNodes
 pub mod RunTargets
@@ -75,7 +75,7 @@ pub mod StoredForms
 pub mod Suffices
 pub mod Tables
 pub mod Theorem
-pub mod Told
+pub mod Reported
 pub mod Turns
 pub mod Typed
 pub mod Unnamed

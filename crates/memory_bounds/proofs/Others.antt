@@ -14,12 +14,12 @@ use Rattle.scj_model.specs.declared.events.Event.TheVariants.{Arrive, Lost, Term
 use Rattle.scj_model.specs.Code.{Code}
 use Rattle.scj_model.specs.State.{Object, Frame, Activity, Release, ReleaseAt, ReleaseStatus, Waits, Started, Ended, Dropped, is_exec, is_init, object_at, State, activity_in, activity_of, changed, is_waiting}
 use Rattle.scj_model.specs.Memory.{used, with_slot}
-use Rattle.scj_model.specs.Steps.{Step, telling, silently, fault_in}
+use Rattle.scj_model.specs.Steps.{Step, reporting, silently, fault_in}
 use Rattle.scj_base.specs.declared.positions.Position.{Position}
 use Rattle.scj_base.specs.declared.faults.RunFault.TheVariants.{NotInitializing}
 use Rattle.scj_model.specs.Effects.{Effect, Goes, Prints, Makes, Stores, StoresStatic, SetsHidden, SetsCeiling, Calls, Opens, Leaves, AsksRegistration, AsksRelease, AsksTermination, Faults, Stuck}
 use Rattle.scj_model.specs.Registry.{handler_number}
-use Rattle.scj_model.specs.Apply.{applied, registered, with_frame, with_first, released, release_taken, waiting_of, most_waiting, releases_of, takes_releases, termination, termination_asked, asks_for_end, dropped_release, tell_dropped}
+use Rattle.scj_model.specs.Apply.{applied, registered, with_frame, with_first, released, release_taken, waiting_of, most_waiting, releases_of, takes_releases, termination, termination_asked, asks_for_end, dropped_release, report_dropped}
 use Rattle.memory_needs.specs.Need.{Table}
 use Rattle.memory_bounds.specs.Weights.{ops_weight}
 use Rattle.memory_bounds.specs.Accounting.{Within, EffectWithin}
@@ -74,7 +74,7 @@ module _ (code : Code) (table : Table) (index : ℕ) (s : State) (activity : Act
   pub goes_to : (t : State) (h : Frame) (events : List Event) → activity_of t (ReleaseAt index) ≡ Some activity →
       ((a : ℕ) → used t a ≤ used s a) → t.areas ≡ s.areas →
       Within code table (ops_weight code table before.rest) before h 0 →
-      BoundedAfter code table index (telling (with_frame t (ReleaseAt index) activity h below) events)
+      BoundedAfter code table index (reporting (with_frame t (ReleaseAt index) activity h below) events)
   goes_to t h events there in_use areas w =
       goes_with code table index t activity (record activity { frames = h ∷ below }) events there
       (goes_on code table s t before h below (record { in_use = in_use; areas = same_areas code table s t areas }) w.0 w.1
@@ -110,7 +110,7 @@ module _ (code : Code) (table : Table) (index : ℕ) (s : State) (activity : Act
 module _ (code : Code) (table : Table) (index : ℕ) where
   then_same : (u v : State) (events : List Event) → BoundedAfter code table index (silently u) →
       activity_of v (ReleaseAt index) ≡ activity_of u (ReleaseAt index) → v.objects ≡ u.objects → v.areas ≡ u.areas →
-      BoundedAfter code table index (telling v events)
+      BoundedAfter code table index (reporting v events)
   unfolding BoundedAfter
   then_same u v events b same objects areas left e =
       others_keep code table u v left.frames
@@ -135,10 +135,10 @@ module _ (code : Code) (table : Table) (index : ℕ) where
   released_bounded u activity r is b = taken (takes_releases u) (handler_number u.registry r)
     where
       waits : (handler : ℕ) (c : Bool) → BoundedAfter code table index
-          (if c then telling u (Lost u.unit handler ∷ [])
+          (if c then reporting u (Lost u.unit handler ∷ [])
           else (let number = length (releases_of u handler) + 1 in
           let new : Release = record { handler = handler; number = number; status = Waits } in
-          telling (record u { releases = u.releases ++ new ∷ [] }) (Arrive u.unit handler number ∷ [])))
+          reporting (record u { releases = u.releases ++ new ∷ [] }) (Arrive u.unit handler number ∷ [])))
       waits handler true = then_same u u _ b refl refl refl
       waits handler false =
           let new : Release = record { handler = handler; number = length (releases_of u handler) + 1; status = Waits } in
@@ -176,8 +176,8 @@ module _ (code : Code) (table : Table) (index : ℕ) where
           of (Some x) e = rw (slice_get-map dropped_release u.releases index, e) (dropped_same x)
 
       asked : (c d : Bool) → BoundedAfter code table index
-          (if c then (if d then telling (record u { is_end_asked = true; releases = map dropped_release u.releases })
-          (Terminate u.unit ∷ tell_dropped u)
+          (if c then (if d then reporting (record u { is_end_asked = true; releases = map dropped_release u.releases })
+          (Terminate u.unit ∷ report_dropped u)
           else silently (record u { is_end_asked = true })) else silently u)
       asked true true =
           then_same u (record u { is_end_asked = true; releases = map dropped_release u.releases }) _ b mapped refl refl
@@ -198,9 +198,9 @@ module _ (code : Code) (table : Table) (index : ℕ) (s : State) (activity : Act
   abbrev n : ℕ
   n = ops_weight code table before.rest
 
-  told : (u : State) (events : List Event) → BoundedAfter code table index (silently u) →
-      BoundedAfter code table index (telling u events)
-  told u events h = then_same code table index u u events h refl refl refl
+  reported : (u : State) (events : List Event) → BoundedAfter code table index (silently u) →
+      BoundedAfter code table index (reporting u events)
+  reported u events h = then_same code table index u u events h refl refl refl
 
   plain : (h : Frame) → Within code table n before h 0 →
       BoundedAfter code table index (silently (with_frame s (ReleaseAt index) activity h below))
@@ -217,7 +217,7 @@ module _ (code : Code) (table : Table) (index : ℕ) (s : State) (activity : Act
   own_step (Goes h) k w step q = subst (BoundedAfter code table index) (some_inj _ step q) (plain h w)
   own_step (Prints h label value) k w step q =
       subst (BoundedAfter code table index) (some_inj _ step q)
-      (told (with_frame s (ReleaseAt index) activity h below) (Print s.unit label value ∷ []) (plain h w))
+      (reported (with_frame s (ReleaseAt index) activity h below) (Print s.unit label value ∷ []) (plain h w))
   own_step (Makes h class slots) k w step q =
       subst (BoundedAfter code table index) (some_inj _ step q)
       (made_bounded code table index s activity is pos before below b h class slots w)

@@ -20,9 +20,9 @@ use Rattle.scope_sound.specs.Sound.{HasFacts}
 use Rattle.certain_faults.proofs.Jobs.{Jobs}
 use Rattle.certain_faults.proofs.Runs.{All}
 use Rattle.certain_faults.proofs.RunsOfNodes.{ClassesAskNothing}
-use Rattle.memory_bounds.specs.Theorem.{RowsTell, Storage}
+use Rattle.memory_bounds.specs.Theorem.{RowsReport, Storage}
 use Rattle.memory_bounds.proofs.Forms.{FormFacts}
-use Rattle.memory_bounds.proofs.InitSteps.{InInit, Making, Stands, Told}
+use Rattle.memory_bounds.proofs.InitSteps.{InInit, Making, Stands, Reported}
 use Rattle.memory_bounds.proofs.Makers.{Nowhere}
 use Rattle.scj_model.specs.declared.plans.ReadingRow.{ReadingRow}
 use Rattle.frame_sound.specs.Places.{world_of}
@@ -41,7 +41,7 @@ module _ (code : Code) (facts : HasFacts code) (bare : ClassesAskNothing code) (
   module _ (readings : List ReadingRow) (s : State) (i : Invariant code s) (refs : ReferencesHold s (areas_of i.base))
       (held : Jobs (All code) s) (outcome : s.outcome ≡ None) (going : is_over s.phase ≡ false)
       (init : is_init s.phase ≡ true → InInit code facts bare storage Inner OnWay forms s)
-      (rows : RowsTell storage s) where
+      (rows : RowsReport storage s) where
     -- ---- the sequencer's own operations
 
     module _ (none : s.activity.frames ≡ []) (step : Step) (done : sequencer_op code s s.operation ≡ Some step) where
@@ -64,7 +64,7 @@ module _ (code : Code) (facts : HasFacts code) (bare : ClassesAskNothing code) (
             ∙ ((j.memories.jobs TheSequencer step.state.activity refl).is_list
             ∙ ap (list_of (areas_of j.base)) o.frames))
             ∙ ap (λ (xs : List ℕ). length s.areas ∷ xs) (own_areas ∙ ap areas_of before);
-        objects = λ u y n there le told.
+        objects = λ u y n there le reported.
             absurd (past u y (ap (λ (xs : List Object). slice_get xs u) (sym o.objects) ∙ there) le);
       }
         where
@@ -90,8 +90,8 @@ module _ (code : Code) (facts : HasFacts code) (bare : ClassesAskNothing code) (
             ∙ ((j.memories.jobs TheSequencer step.state.activity refl).is_list
             ∙ (ap (list_of (areas_of j.base)) c.frames ∙ unopened_list j)))
             ∙ (own_areas ∙ h.base i);
-        objects = λ u y n there le told.
-            stood u y le (h.objects u y n (ap (λ (xs : List Object). slice_get xs u) (sym c.objects) ∙ there) le told);
+        objects = λ u y n there le reported.
+            stood u y le (h.objects u y n (ap (λ (xs : List Object). slice_get xs u) (sym c.objects) ∙ there) le reported);
       }
         where
           unopened_list : (j : Invariant code step.state) →
@@ -123,7 +123,7 @@ module _ (code : Code) (facts : HasFacts code) (bare : ClassesAskNothing code) (
 
           stood : (u : ℕ) (y : Object) → h.first ≤ y.area → Stands code facts bare storage Inner OnWay forms s u y →
               Stands code facts bare storage Inner OnWay forms step.state u y
-          stood u y le (Told k) = Told k
+          stood u y le (Reported k) = Reported k
           stood u y le (Making k) =
               Making (record {
                 heap = heap_same u y s step.state k.heap c.statics c.objects c.outcome c.registry;

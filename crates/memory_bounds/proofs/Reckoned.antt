@@ -23,7 +23,7 @@ use Rattle.mission_sound.specs.Bases.{areas_of}
 use Rattle.mission_sound.specs.Invariant.{Invariant}
 use Rattle.memory_needs.specs.Need.{Table, too_much}
 use Rattle.memory_bounds.specs.Weights.{op_weight}
-use Rattle.memory_bounds.specs.Theorem.{Storage, RowsTell}
+use Rattle.memory_bounds.specs.Theorem.{Storage, RowsReport}
 use Rattle.memory_bounds.proofs.Begins.{new_is_empty}
 use Rattle.memory_bounds.proofs.Counted.{Knows}
 use Rattle.memory_bounds.proofs.Standing.{IsNext, stand, fine}
@@ -59,7 +59,7 @@ exec_is_no_init Over e = refl
 
 module _ (code : Code) (storage : Storage) (table : Table) (facts : Facts code) (rows : List ReadingRow) (s : State)
     (i : Invariant code s) (exec : is_exec s.phase ≡ true) (counted : AreCounted code table rows s)
-    (tells : RowsTell storage s) where
+    (reports : RowsReport storage s) where
   module _ (index : ℕ) (r : Release) (a : Activity) (f : Frame) (below : List Frame) (op : Op) (rest : List Op)
       (next : IsNext s index r a f below op rest) where
     abbrev list : List ℕ
@@ -98,5 +98,5 @@ module _ (code : Code) (storage : Storage) (table : Table) (facts : Facts code) 
     effects = λ index r a f below op rest there status frames next.
         reckoned index r a f below op rest
         (record { there = there; status = status; frames = frames; ops = next });
-    tells = tells;
+    reports = reports;
   }

@@ -16,7 +16,7 @@ use Rattle.priority_laws.proofs.ReleaseMoves.{LeavesOthers}
 use Rattle.memory_needs.specs.Need.{Table, too_much}
 use Rattle.memory_bounds.specs.Weights.{IsBound, op_weight}
 use Rattle.memory_bounds.specs.Accounting.{IsCounted}
-use Rattle.memory_bounds.specs.Theorem.{Storage, AreBounded, RowsTell}
+use Rattle.memory_bounds.specs.Theorem.{Storage, AreBounded, RowsReport}
 use Rattle.memory_bounds.proofs.Begins.{new_is_empty}
 use Rattle.memory_bounds.proofs.Others.{Situated}
 use Rattle.memory_bounds.proofs.Spares.{PutsInto}
@@ -37,7 +37,7 @@ pub record AreReckoned (code : Code) (storage : Storage) (table : Table) (rows :
   pub effects : (index : ℕ) (r : Release) (a : Activity) (f : Frame) (below : List Frame) (op : Op) (rest : List Op) →
       slice_get s.releases index ≡ Some r → r.status ≡ Started a → a.frames ≡ f ∷ below → f.rest ≡ op ∷ rest →
       IsReckoned code table rows s f op rest
-  pub tells : RowsTell storage s
+  pub reports : RowsReport storage s
 
 module _ (code : Code) (storage : Storage) (table : Table) (bound : IsBound code table)
     (first : ChildrenFirst 0 code.program.nodes) (rows : List ReadingRow) (s : State) (i : Invariant code s)
@@ -63,5 +63,5 @@ module _ (code : Code) (storage : Storage) (table : Table) (bound : IsBound code
   release_keeps step e =
       turn_keeps code rows s (AreBounded code storage table) exec index r there operates
       (λ row scope body waits is_row is leaves same.
-      start_stays code storage table bound s b index r there row scope body is_row is known.tells
+      start_stays code storage table bound s b index r there row scope body is_row is known.reports
       (new_is_empty code s i.memories.memory) leaves same) step e

@@ -25,12 +25,12 @@ pub bounded_still : (code : Code) (storage : Storage) (table : Table) (s t : Sta
     AreBounded code storage table s → AreBounded code storage table t
 bounded_still code storage table s t k b =
     record {
-      is = λ q w row there row_is told.
+      is = λ q w row there row_is reported.
           others_keep code table s t w.activity.frames
           (λ a h. (stays code table s t k.objects (same_areas code table s t k.areas)).in_use a)
           (same_areas code table s t k.areas)
           (b.is q w row (sym (k.started q) ∙ there)
-          (ap (λ (registry : List HandlerRow). handler_row registry w.handler) (sym k.registry) ∙ row_is) told);
+          (ap (λ (registry : List HandlerRow). handler_row registry w.handler) (sym k.registry) ∙ row_is) reported);
     }
 
 pub start_spares : (code : Code) (s : State) (index : ℕ) (row : HandlerRow) (scope : ℕ) (body : Body) (now : ℕ) →

@@ -16,7 +16,7 @@ use Rattle.scj_model.specs.Apply.{most_waiting, release_taken, waiting_of}
 use Rattle.scj_model.specs.Choice.{by_list}
 use Rattle.scj_model.specs.Registry.{handler_row}
 use Rattle.scj_model.specs.State.{Object, Activity, State, is_init}
-use Rattle.scj_model.specs.Steps.{Step, for_each, silently, telling}
+use Rattle.scj_model.specs.Steps.{Step, for_each, silently, reporting}
 use Rattle.scj_model.specs.Reached.{Moment, Between, Arrived, Operated, Reached}
 use Rattle.mission_sound.specs.Bases.{areas_of}
 use Rattle.mission_sound.specs.Invariant.{Invariant}
@@ -26,10 +26,10 @@ use Rattle.scope_sound.proofs.Operated.{operated}
 use Rattle.scope_sound.specs.Sound.{HasFacts, SoundAt}
 use Rattle.certain_faults.proofs.GivenAsBound.{GivesSo}
 use Rattle.certain_faults.proofs.RunsOfNodes.{ClassesAskNothing}
-use Rattle.memory_bounds.specs.Theorem.{RowsTell, Storage}
+use Rattle.memory_bounds.specs.Theorem.{RowsReport, Storage}
 use Rattle.memory_bounds.proofs.Above.{AllLack}
 use Rattle.memory_bounds.proofs.Forms.{FormFacts}
-use Rattle.memory_bounds.proofs.InitSteps.{InInit, Making, Stands, Told}
+use Rattle.memory_bounds.proofs.InitSteps.{InInit, Making, Stands, Reported}
 use Rattle.memory_bounds.proofs.Makers.{Made}
 use Rattle.memory_bounds.proofs.Unnamed.{RowsLack}
 
@@ -59,7 +59,7 @@ fired_static code values s fire e = of (fired_handler code s fire.handler) (Miss
   where
     of : (o : Option ℕ) (events : List Event) → (elim o as (λ z. Step) [
       | Some handler ↦ release_taken s handler
-      | None ↦ telling s events
+      | None ↦ reporting s events
     ]).state.statics ≡ values
     of None events = e
     of (Some handler) events = taken_static values s handler e
@@ -82,9 +82,9 @@ arrivals_static code plan s =
 
 -- ---- rows
 
-pub same_rows : (storage : Storage) (s t : State) → t.registry ≡ s.registry → RowsTell storage s → RowsTell storage t
-same_rows storage s t e h handler row bytes there told =
-    h handler row bytes (ap (λ (xs : List HandlerRow). handler_row xs handler) (sym e) ∙ there) told
+pub same_rows : (storage : Storage) (s t : State) → t.registry ≡ s.registry → RowsReport storage s → RowsReport storage t
+same_rows storage s t e h handler row bytes there reported =
+    h handler row bytes (ap (λ (xs : List HandlerRow). handler_row xs handler) (sym e) ∙ there) reported
 
 module _ (code : Code) (facts : HasFacts code) (bare : ClassesAskNothing code) (storage : Storage)
     (Inner : Op → Type 0) (OnWay : ℕ → Type 0) (forms : FormFacts code storage Inner OnWay) where
@@ -95,7 +95,7 @@ module _ (code : Code) (facts : HasFacts code) (bare : ClassesAskNothing code) (
       (activity : t.activity ≡ s.activity) where
     still_stands : (u : ℕ) (x : Object) → Stands code facts bare storage Inner OnWay forms s u x →
         Stands code facts bare storage Inner OnWay forms t u x
-    still_stands u x (Told k) = Told k
+    still_stands u x (Reported k) = Reported k
     still_stands u x (Making c) =
         Making (record {
           heap = record {
@@ -114,8 +114,8 @@ module _ (code : Code) (facts : HasFacts code) (bare : ClassesAskNothing code) (
     still_in i same h = record {
       first = h.first;
       base = λ j. same j ∙ h.base i;
-      objects = λ u x n there le told.
-          still_stands u x (h.objects u x n (ap (λ (xs : List Object). slice_get xs u) (sym objects) ∙ there) le told);
+      objects = λ u x n there le reported.
+          still_stands u x (h.objects u x n (ap (λ (xs : List Object). slice_get xs u) (sym objects) ∙ there) le reported);
     }
 
     pub same_base : (i : Invariant code s) (j : Invariant code t) → areas_of j.base ≡ areas_of i.base
@@ -126,7 +126,7 @@ module _ (code : Code) (facts : HasFacts code) (bare : ClassesAskNothing code) (
     pub init : is_init t.phase ≡ true → InInit code facts bare storage Inner OnWay forms t
     pub opened : (r : ℕ) (v : Value) → t.operation ≡ OpenMission r → t.outcome ≡ Some v →
         InInit code facts bare storage Inner OnWay forms t
-    pub rows : RowsTell storage t
+    pub rows : RowsReport storage t
 
   -- ---- a run
 
@@ -139,11 +139,11 @@ module _ (code : Code) (facts : HasFacts code) (bare : ClassesAskNothing code) (
     Opened Between s = Unit {0}
     Opened Arrived s = Unit {0}
 
-    pub record TellsAt (moment : Moment) (s : State) : Type 0 where
+    pub record ReportsAt (moment : Moment) (s : State) : Type 0 where
       pub reached : Reached code plan (by_list choices) moment s
       pub init : is_init s.phase ≡ true → InInit code facts bare storage Inner OnWay forms s
       pub opened : Opened moment s
-      pub rows : RowsTell storage s
+      pub rows : RowsReport storage s
 
     pub sound : (moment : Moment) (s : State) → Reached code plan (by_list choices) moment s → SoundAt code moment s
     sound moment s h =

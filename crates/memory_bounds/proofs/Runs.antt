@@ -32,14 +32,14 @@ use Rattle.scope_sound.proofs.Operated.{operated}
 use Rattle.memory_needs.specs.Need.{Table}
 use Rattle.memory_bounds.specs.Weights.{IsBound}
 use Rattle.memory_bounds.specs.Bounded.{IsBounded}
-use Rattle.memory_bounds.specs.Theorem.{Storage, IsYes, IsReleaseOf, AreBounded, RowsTell}
+use Rattle.memory_bounds.specs.Theorem.{Storage, IsYes, IsReleaseOf, AreBounded, RowsReport}
 use Rattle.memory_bounds.proofs.Counted.{is_memory_fault}
 use Rattle.memory_bounds.proofs.Reckoned.{AreCounted, are_reckoned}
 use Rattle.memory_bounds.proofs.ReleaseKeeps.{AreReckoned, release_keeps}
 use Rattle.memory_bounds.proofs.Resting.{bounded_still}
 use Rattle.memory_bounds.proofs.StartedRuns.{all_states}
 use Rattle.memory_bounds.proofs.Steps.{finds}
-use Rattle.memory_bounds.proofs.Told.{TellsNone, HasRoom, applied_none, started_none, never_told}
+use Rattle.memory_bounds.proofs.Reported.{ReportsNone, HasRoom, applied_none, started_none, never_reported}
 use Rattle.memory_bounds.proofs.Turns.{small_next}
 
 -- of the faults of memory, this one
@@ -55,7 +55,7 @@ only_memory_full _ e = refl
 module _ (code : Code) (facts : HasFacts code) (storage : Storage) (table : Table) (bound : IsBound code table)
     (first : ChildrenFirst 0 code.program.nodes) (plan : Plan) (choices : List ℕ)
     (counted : (s : State) → Reached code plan (by_list choices) Arrived s → AreCounted code table plan.readings s)
-    (tells : (s : State) → Reached code plan (by_list choices) Arrived s → RowsTell storage s) where
+    (reports : (s : State) → Reached code plan (by_list choices) Arrived s → RowsReport storage s) where
   sound : (moment : Moment) (s : State) → Reached code plan (by_list choices) moment s → SoundAt code moment s
   sound moment s h =
       reached_is_sound code facts (operated code facts.bodies facts.sequencer) plan choices moment s h
@@ -70,14 +70,14 @@ module _ (code : Code) (facts : HasFacts code) (storage : Storage) (table : Tabl
             (counted s h).is q r a f below op rest
             (record { there = next.there; status = next.status; frames = next.frames; ops = next.ops }) small;
       })
-      (tells s h)
+      (reports s h)
 
   pub all_bounded : (moment : Moment) (s : State) → Reached code plan (by_list choices) moment s →
       AreBounded code storage table s
   unfolding turn_taken
   all_bounded moment s h =
       all_states code facts plan choices (AreBounded code storage table)
-      (λ t none. record { is = λ q w row there row_is told. absurd (none q w there) })
+      (λ t none. record { is = λ q w row there row_is reported. absurd (none q w there) })
       (bounded_still code storage table)
       (λ s h b exec index r there step e.
       release_keeps code storage table bound first plan.readings (with_turn s (TurnOf index))
@@ -88,7 +88,7 @@ module _ (code : Code) (facts : HasFacts code) (storage : Storage) (table : Tabl
   -- ---- no full memory
 
   module _ (s : State) (h : Reached code plan (by_list choices) Arrived s) (index : ℕ) (row : HandlerRow)
-      (of : IsReleaseOf s index row) (told : IsYes code storage table row.class) where
+      (of : IsReleaseOf s index row) (reported : IsYes code storage table row.class) where
     abbrev r : Release
     r = of.release
 
@@ -104,7 +104,7 @@ module _ (code : Code) (facts : HasFacts code) (storage : Storage) (table : Tabl
           ∙ ap (λ (x : ReleaseStatus). started_in (record r { status = x })) status
 
       mine : IsBounded code table s a.frames
-      mine = (all_bounded Arrived s h).is index (started_as of.release.handler a) row began of.is_row told
+      mine = (all_bounded Arrived s h).is index (started_as of.release.handler a) row began of.is_row reported
 
       room : (f : Frame) (below : List Frame) → a.frames ≡ f ∷ below → (op : Op) (rest : List Op) →
           f.rest ≡ op ∷ rest →
@@ -128,7 +128,7 @@ module _ (code : Code) (facts : HasFacts code) (storage : Storage) (table : Tabl
               | [] ↦ None
               | op ∷ rest ↦ applied code s (ReleaseAt index) a below (position_of_op code op)
                   (effect_at code plan.readings s f op rest)
-            ]) ≡ Some step → TellsNone is_memory_full only_memory_full step
+            ]) ≡ Some step → ReportsNone is_memory_full only_memory_full step
         by_ops f below frames [] next q = absurd (cc (q))
         by_ops f below frames (op ∷ rest) next q =
             applied_none is_memory_full only_memory_full code s index a below (position_of_op code op) (effect_at code plan.readings s f op rest)
@@ -142,22 +142,22 @@ module _ (code : Code) (facts : HasFacts code) (storage : Storage) (table : Tabl
                 | op ∷ rest ↦ applied code s (ReleaseAt index) a below (position_of_op code op)
                     (effect_at code plan.readings s f op rest)
               ]
-            ]) ≡ Some step → TellsNone is_memory_full only_memory_full step
+            ]) ≡ Some step → ReportsNone is_memory_full only_memory_full step
         by_frames [] frames q = absurd (cc (q))
         by_frames (f ∷ below) frames q = by_ops f below frames f.rest refl q
 
-        operated_tells : frame_op code plan.readings s (ReleaseAt index) a ≡ Some step → TellsNone is_memory_full only_memory_full step
+        operated_reports : frame_op code plan.readings s (ReleaseAt index) a ≡ Some step → ReportsNone is_memory_full only_memory_full step
         unfolding frame_op
-        operated_tells e = by_frames a.frames refl e
+        operated_reports e = by_frames a.frames refl e
 
-    record NoneTold (o : Option Step) : Type 0 where
-      is : (step : Step) → o ≡ Some step → TellsNone is_memory_full only_memory_full step
+    record NoneReported (o : Option Step) : Type 0 where
+      is : (step : Step) → o ≡ Some step → ReportsNone is_memory_full only_memory_full step
 
-    none_of : {A : Type 0} (o : Option A) (f : A → Option Step) → ((a : A) → NoneTold (f a)) → NoneTold (o >>= f)
+    none_of : {A : Type 0} (o : Option A) (f : A → Option Step) → ((a : A) → NoneReported (f a)) → NoneReported (o >>= f)
     none_of None f h = record { is = λ step e. absurd (cc (e)) }
     none_of (Some a) f h = h a
 
-    by_status : (status : ReleaseStatus) → r.status ≡ status → NoneTold (elim status as (λ z. Option Step) [
+    by_status : (status : ReleaseStatus) → r.status ≡ status → NoneReported (elim status as (λ z. Option Step) [
       | Waits ↦ start_op code s index r
       | Started activity ↦ frame_op code plan.readings s (ReleaseAt index) activity
       | Ended ↦ None
@@ -169,20 +169,20 @@ module _ (code : Code) (facts : HasFacts code) (storage : Storage) (table : Tabl
         none_of (defined_by_chain code.program x.class) _ (λ scope.
         none_of (body_named code.program x.class (codes "handleAsyncEvent")) _ (λ body. record {
           is = λ step k.
-              subst (TellsNone is_memory_full only_memory_full) (some_inj (started_with code s index x scope body) step k)
+              subst (ReportsNone is_memory_full only_memory_full) (some_inj (started_with code s index x scope body) step k)
               (started_none is_memory_full only_memory_full code s index no_activity [] nowhere x scope body (inl refl));
         })))
-    by_status (Started a) e = record { is = λ step k. operated_tells a e step k }
+    by_status (Started a) e = record { is = λ step k. operated_reports a e step k }
     by_status Ended e = record { is = λ step k. absurd (cc (k)) }
     by_status Dropped e = record { is = λ step k. absurd (cc (k)) }
 
-    pub tells_none : (step : Step) → ref_op code plan.readings s (ReleaseAt index) ≡ Some step → TellsNone is_memory_full only_memory_full step
+    pub reports_none : (step : Step) → ref_op code plan.readings s (ReleaseAt index) ≡ Some step → ReportsNone is_memory_full only_memory_full step
     unfolding ref_op release_op_of
-    tells_none step e =
+    reports_none step e =
         (by_status of.release.status refl).is step
         (sym (ap (λ (o : Option Release). o >>= release_op_of code plan.readings s index) of.is) ∙ e)
 
     pub never_full : (step : Step) → ref_op code plan.readings s (ReleaseAt index) ≡ Some step →
         (unit : ℕ) (pos : Position) → Contains step.events (Fault unit MemoryFull pos) → ⊥
     unfolding is_memory_full
-    never_full step e = never_told is_memory_full only_memory_full step (tells_none step e) MemoryFull refl
+    never_full step e = never_reported is_memory_full only_memory_full step (reports_none step e) MemoryFull refl

@@ -17,7 +17,7 @@ use Rattle.scj_model.specs.Arrivals.{arrivals}
 use Rattle.scj_model.specs.Choice.{by_list}
 use Rattle.scj_model.specs.Run.{acts, sequencer_turn, turn_taken, turn_acts, with_turn, ref_op, release_op_of, next_unit, empty_state}
 use Rattle.scj_model.specs.Reached.{Moment, Arrived, Operated, Reached, at_first, on_arrival, on_operation, on_phase}
-use Rattle.scj_model.proofs.Reaching.{Gives, gives_some, gives_told, reached_keeps}
+use Rattle.scj_model.proofs.Reaching.{Gives, gives_some, gives_reported, reached_keeps}
 use Rattle.mission_sound.specs.Invariant.{Invariant}
 use Rattle.mission_sound.proofs.Jobs.{not_under_way}
 use Rattle.priority_laws.specs.Started.{StartedRelease, started_at}
@@ -72,11 +72,11 @@ module _ (code : Code) (facts : HasFacts code) (plan : Plan) (choices : List ℕ
         Gives P (then_try (turn_taken s turn) (turn_acts code plan.readings turn))
     unfolding turn_taken turn_acts
     any_turn IdleTurn exec =
-        gives_told P (turn_taken s IdleTurn) (Some (silently (with_turn s IdleTurn)))
+        gives_reported P (turn_taken s IdleTurn) (Some (silently (with_turn s IdleTurn)))
         (λ second e. subst (λ (x : Step). P x.state) (some_inj (silently (with_turn s IdleTurn)) second e)
         (still s (with_turn s IdleTurn) (still_turn s IdleTurn) b))
     any_turn (TurnOf index) exec =
-        gives_told P (turn_taken s (TurnOf index)) (ref_op code plan.readings (with_turn s (TurnOf index)) (ReleaseAt index))
+        gives_reported P (turn_taken s (TurnOf index)) (ref_op code plan.readings (with_turn s (TurnOf index)) (ReleaseAt index))
         (λ second e. (chosen exec index).is second e)
 
     operation_keeps : (step : Step) → acts code plan.readings (by_list choices) s ≡ Some step →

@@ -24,7 +24,7 @@ use Rattle.reference_sound.proofs.Lists.{last_or_before}
 use Rattle.memory_bounds.specs.Theorem.{Storage}
 
 -- the storage slot has what the form of the class says
-pub record Tells (storage : Storage) (o : Object) : Type 0 where
+pub record Reports (storage : Storage) (o : Object) : Type 0 where
   pub is : (n : ℕ) → storage o.class ≡ Some n → slice_get o.slots storage_slot ≡ Some (Int (pos n))
 
 -- what an effect has to spare of the objects
@@ -39,7 +39,7 @@ SparesStorage storage s _ = Unit {0}
 -- the object was there, or the effect has made it
 pub data Later (storage : Storage) (s : State) (e : Effect) (r : ℕ) (x : Object) : Type 0 where
   Was : (o : Object) → object_at s r ≡ Some o → x.class ≡ o.class → x.area ≡ o.area →
-      (Tells storage o → Tells storage x) → Later storage s e r x
+      (Reports storage o → Reports storage x) → Later storage s e r x
   New : (f : Frame) (class : ℕ) (slots : List Value) → e ≡ Makes f class slots → r ≡ length s.objects →
       x ≡ new_object class f.area slots → Later storage s e r x
 
@@ -62,7 +62,7 @@ module _ (storage : Storage) (s : State) (e : Effect) where
   -- one object has changed
   one_changed : (f : Object → Object) (index : ℕ) → ((x : Object) → (f x).class ≡ x.class) →
       ((x : Object) → (f x).area ≡ x.area) →
-      ((x : Object) → object_at s index ≡ Some x → Tells storage x → Tells storage (f x)) → (t : State) →
+      ((x : Object) → object_at s index ≡ Some x → Reports storage x → Reports storage (f x)) → (t : State) →
       t.objects ≡ changed f index s.objects → AllLater storage s e t
   one_changed f index class area keeps t objects = record {
     is = λ r x h. of r x (ap (λ (xs : List Object). slice_get xs r) (sym objects) ∙ h) (cases_eq index r);
@@ -81,7 +81,7 @@ module _ (storage : Storage) (s : State) (e : Effect) where
           (sym h ∙ (ap (slice_get (changed f index s.objects)) (sym one) ∙ changed_at f index s.objects o there)) in
           Was o (ap (slice_get s.objects) (sym one) ∙ there) (ap (λ (y : Object). y.class) now ∙ class o)
           (ap (λ (y : Object). y.area) now ∙ area o)
-          (λ k. subst (Tells storage) (sym now) (keeps o there k))
+          (λ k. subst (Reports storage) (sym now) (keeps o there k))
 
       of : (r : ℕ) (x : Object) → slice_get (changed f index s.objects) r ≡ Some x →
           (index ≡ r) ⊎ (index ≡ r → ⊥) → Later storage s e r x
@@ -190,29 +190,29 @@ module _ (storage : Storage) (s : State) (e : Effect) where
 
     -- a slot that isn't the storage's leaves it
     slot_kept : (r slot : ℕ) (v : Value) (x : Object) →
-        ((n : ℕ) → storage x.class ≡ Some n → slot ≡ storage_slot → ⊥) → Tells storage x →
-        Tells storage (record x { slots = slice_set x.slots slot v })
+        ((n : ℕ) → storage x.class ≡ Some n → slot ≡ storage_slot → ⊥) → Reports storage x →
+        Reports storage (record x { slots = slice_set x.slots slot v })
     slot_kept r slot v x other k = record {
       is = λ n h. get_set_other x.slots slot storage_slot v (λ q. other n h q) ∙ k.is n h;
     }
 
     hidden_kept : (values : List Value) (x : Object) →
-        ((n : ℕ) → storage x.class ≡ Some n → slice_get values storage_slot ≡ Some (Int (pos n))) → Tells storage x →
-        Tells storage (with_first values x)
+        ((n : ℕ) → storage x.class ≡ Some n → slice_get values storage_slot ≡ Some (Int (pos n))) → Reports storage x →
+        Reports storage (with_first values x)
     hidden_kept values x sets k = record {
       is = λ n h. get_left values (drop (length values) x.slots) storage_slot _ (sets n h);
     }
 
     -- the hidden fields that are set tell the storage
-    pub hidden_tells : (f : Frame) (r : ℕ) (values : List Value) → ((o : Object) (n : ℕ) → object_at s r ≡ Some o →
+    pub hidden_reports : (f : Frame) (r : ℕ) (values : List Value) → ((o : Object) (n : ℕ) → object_at s r ≡ Some o →
         storage o.class ≡ Some n → slice_get values storage_slot ≡ Some (Int (pos n))) →
-        StepGives (λ t. (x : Object) → object_at t r ≡ Some x → Tells storage x)
+        StepGives (λ t. (x : Object) → object_at t r ≡ Some x → Reports storage x)
         (applied code s TheSequencer activity below position (SetsHidden f r values))
     unfolding applied with_activity
-    hidden_tells f r values w = gives_some _ _ (λ x h. of x h (slice_get s.objects r) refl)
+    hidden_reports f r values w = gives_some _ _ (λ x h. of x h (slice_get s.objects r) refl)
       where
         of : (x : Object) → slice_get (changed (with_first values) r s.objects) r ≡ Some x → (found : Option Object) →
-            slice_get s.objects r ≡ found → Tells storage x
+            slice_get s.objects r ≡ found → Reports storage x
         of x h None none =
             let whole : changed (with_first values) r s.objects ≡ s.objects =
             ap (λ (y : Option Object). elim y as (λ z. List Object)
@@ -221,7 +221,7 @@ module _ (storage : Storage) (s : State) (e : Effect) where
         of x h (Some o) there =
             let now : x ≡ with_first values o =
             some_inj x (with_first values o) (sym h ∙ changed_at (with_first values) r s.objects o there) in
-            subst (Tells storage) (sym now) (record {
+            subst (Reports storage) (sym now) (record {
               is = λ n q. get_left values (drop (length values) o.slots) storage_slot _ (w o n there q);
             })
 

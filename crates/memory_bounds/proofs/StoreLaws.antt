@@ -26,13 +26,13 @@ use Rattle.scj_model.specs.Steps.{Step}
 use Rattle.certain_faults.proofs.Jobs.{Jobs}
 use Rattle.certain_faults.proofs.Runs.{All, all_explained, classes_ask_nothing}
 use Rattle.memory_needs.specs.declared.answers.BoundRow.{BoundRow}
-use Rattle.memory_needs.specs.Rows.{AllSuffice, AreRows, IsRoom, TellsStore, handler_classes, store_needed}
+use Rattle.memory_needs.specs.Rows.{AllSuffice, AreRows, IsRoom, ReportsStore, handler_classes, store_needed}
 use Rattle.memory_bounds.specs.Theorem.{NeedSuffices, NeverLacksStore}
 use Rattle.memory_bounds.proofs.ChainSteps.{EffectLinks}
 use Rattle.memory_bounds.proofs.Counted.{is_memory_fault}
 use Rattle.memory_bounds.proofs.LinkedEffects.{IsLinked, links}
 use Rattle.memory_bounds.proofs.StoreRooms.{entering_has_store, facts, i, k, listed, starting_has_store}
-use Rattle.memory_bounds.proofs.Told.{HasRoom, TellsNone, applied_none, never_told, started_none}
+use Rattle.memory_bounds.proofs.Reported.{HasRoom, ReportsNone, applied_none, never_reported, started_none}
 
 -- of the faults of memory, this one
 is_store_full : RunFault → Bool
@@ -44,11 +44,11 @@ unfolding is_store_full
 only_store_full StoreFull e = absurd (cc (e))
 only_store_full _ e = refl
 
-record NoneTold (o : Option Step) : Type 0 where
-  is : (step : Step) → o ≡ Some step → TellsNone is_store_full only_store_full step
+record NoneReported (o : Option Step) : Type 0 where
+  is : (step : Step) → o ≡ Some step → ReportsNone is_store_full only_store_full step
 
-none_of : {A : Type 0} (o : Option A) (f : A → Option Step) → ((a : A) → o ≡ Some a → NoneTold (f a)) →
-    NoneTold (o >>= f)
+none_of : {A : Type 0} (o : Option A) (f : A → Option Step) → ((a : A) → o ≡ Some a → NoneReported (f a)) →
+    NoneReported (o >>= f)
 none_of None f h = record { is = λ step e. absurd (cc (e)) }
 none_of (Some a) f h = h a refl
 
@@ -110,7 +110,7 @@ module _ (forest : Forest) (a : IsAcceptedProgram forest) (rows : List BoundRow)
               | [] ↦ None
               | op ∷ rest ↦ applied (code_of forest) s (ReleaseAt index) b below (position_of_op (code_of forest) op)
                   (effect_at (code_of forest) plan.readings s f op rest)
-            ]) ≡ Some step → TellsNone is_store_full only_store_full step
+            ]) ≡ Some step → ReportsNone is_store_full only_store_full step
         by_ops f below frames [] next q = absurd (cc (q))
         by_ops f below frames (op ∷ rest) next q =
             applied_none is_store_full only_store_full (code_of forest) s index b below (position_of_op (code_of forest) op)
@@ -124,18 +124,18 @@ module _ (forest : Forest) (a : IsAcceptedProgram forest) (rows : List BoundRow)
                 | op ∷ rest ↦ applied (code_of forest) s (ReleaseAt index) b below (position_of_op (code_of forest) op)
                     (effect_at (code_of forest) plan.readings s f op rest)
               ]
-            ]) ≡ Some step → TellsNone is_store_full only_store_full step
+            ]) ≡ Some step → ReportsNone is_store_full only_store_full step
         by_frames [] frames q = absurd (cc (q))
         by_frames (f ∷ below) frames q = by_ops f below frames f.rest refl q
 
-        operated_tells : frame_op (code_of forest) plan.readings s (ReleaseAt index) b ≡ Some step →
-            TellsNone is_store_full only_store_full step
+        operated_reports : frame_op (code_of forest) plan.readings s (ReleaseAt index) b ≡ Some step →
+            ReportsNone is_store_full only_store_full step
         unfolding frame_op
-        operated_tells e = by_frames b.frames refl e
+        operated_reports e = by_frames b.frames refl e
 
     -- ---- a start
 
-    by_status : (status : ReleaseStatus) → r.status ≡ status → NoneTold (elim status as (λ z. Option Step) [
+    by_status : (status : ReleaseStatus) → r.status ≡ status → NoneReported (elim status as (λ z. Option Step) [
       | Waits ↦ start_op (code_of forest) s index r
       | Started activity ↦ frame_op (code_of forest) plan.readings s (ReleaseAt index) activity
       | Ended ↦ None
@@ -146,47 +146,47 @@ module _ (forest : Forest) (a : IsAcceptedProgram forest) (rows : List BoundRow)
         none_of (handler_row s.registry r.handler) _ (λ x is_row.
         none_of (defined_by_chain (code_of forest).program x.class) _ (λ scope is_scope.
         none_of (body_named (code_of forest).program x.class (codes "handleAsyncEvent")) _ (λ body is_body. record {
-          is = λ step told.
-              subst (TellsNone is_store_full only_store_full)
-              (some_inj (started_with (code_of forest) s index x scope body) step told)
+          is = λ step reported.
+              subst (ReportsNone is_store_full only_store_full)
+              (some_inj (started_with (code_of forest) s index x scope body) step reported)
               (started_none is_store_full only_store_full (code_of forest) s index no_activity [] nowhere x scope body
               (inr (starting_has_store forest a rows are all rooms are_rooms plan s reached exec index turn x e is_row
               suffices)));
         })))
-    by_status (Started b) e = record { is = λ step told. operated_tells b e step told }
-    by_status Ended e = record { is = λ step told. absurd (cc (told)) }
-    by_status Dropped e = record { is = λ step told. absurd (cc (told)) }
+    by_status (Started b) e = record { is = λ step reported. operated_reports b e step reported }
+    by_status Ended e = record { is = λ step reported. absurd (cc (reported)) }
+    by_status Dropped e = record { is = λ step reported. absurd (cc (reported)) }
 
-    tells_none : (step : Step) → ref_op (code_of forest) plan.readings s (ReleaseAt index) ≡ Some step →
-        TellsNone is_store_full only_store_full step
+    reports_none : (step : Step) → ref_op (code_of forest) plan.readings s (ReleaseAt index) ≡ Some step →
+        ReportsNone is_store_full only_store_full step
     unfolding ref_op release_op_of
-    tells_none step e =
+    reports_none step e =
         (by_status r.status refl).is step
         (sym (ap (λ (o : Option Release). o >>= release_op_of (code_of forest) plan.readings s index) there) ∙ e)
 
     pub never_full : (step : Step) → ref_op (code_of forest) plan.readings s (ReleaseAt index) ≡ Some step →
         (unit : ℕ) (pos : Position) → Contains step.events (Fault unit StoreFull pos) → ⊥
     unfolding is_store_full
-    never_full step e = never_told is_store_full only_store_full step (tells_none step e) StoreFull refl
+    never_full step e = never_reported is_store_full only_store_full step (reports_none step e) StoreFull refl
 
 -- ---- what is told is enough
 
 pub never_lacks : (forest : Forest) → IsAcceptedProgram forest → (rows : List BoundRow) → AreRows (code_of forest) rows →
-    (bytes : ℕ) → TellsStore (code_of forest) rows (Some bytes) → NeverLacksStore (code_of forest) bytes
-never_lacks forest a rows are bytes told plan s index step large reached exec turn e =
-    never_full forest a rows are told.0 told.1.rooms told.1.are_rooms plan
-    (subst (λ n. n ≤ plan.store) told.1.is large) s reached exec index turn step e
+    (bytes : ℕ) → ReportsStore (code_of forest) rows (Some bytes) → NeverLacksStore (code_of forest) bytes
+never_lacks forest a rows are bytes reported plan s index step large reached exec turn e =
+    never_full forest a rows are reported.0 reported.1.rooms reported.1.are_rooms plan
+    (subst (λ n. n ≤ plan.store) reported.1.is large) s reached exec index turn step e
 
 pub need_suffices : (forest : Forest) → IsAcceptedProgram forest → (rows : List BoundRow) →
-    AreRows (code_of forest) rows → (need : Option ℕ) → TellsStore (code_of forest) rows need →
+    AreRows (code_of forest) rows → (need : Option ℕ) → ReportsStore (code_of forest) rows need →
     NeedSuffices (code_of forest) need
-need_suffices forest a rows are need told bytes is =
-    never_lacks forest a rows are bytes (subst (TellsStore (code_of forest) rows) is told)
+need_suffices forest a rows are need reported bytes is =
+    never_lacks forest a rows are bytes (subst (ReportsStore (code_of forest) rows) is reported)
 
 -- of rows and a need that are found, if any are
 pub need_found : {A E : Type 0} (forest : Forest) → IsAcceptedProgram forest → (rows : A → List BoundRow)
     (need : A → Option ℕ) (o : Result A E) → IfOk o (λ found. AreRows (code_of forest) (rows found)) →
-    IfOk o (λ found. TellsStore (code_of forest) (rows found) (need found)) →
+    IfOk o (λ found. ReportsStore (code_of forest) (rows found) (need found)) →
     IfOk o (λ found. NeedSuffices (code_of forest) (need found))
-need_found forest a rows need (Ok found) are told = need_suffices forest a (rows found) are (need found) told
-need_found forest a rows need (Err e) are told = tt
+need_found forest a rows need (Ok found) are reported = need_suffices forest a (rows found) are (need found) reported
+need_found forest a rows need (Err e) are reported = tt

@@ -55,7 +55,7 @@ use Rattle.memory_bounds.proofs.BaseAreas.{InBase, base_fits, opened_with}
 use Rattle.memory_bounds.proofs.ChainRuns.{AreChained, all_chained}
 use Rattle.memory_bounds.proofs.Chains.{Chain}
 use Rattle.memory_bounds.proofs.ChainSteps.{EntersIn}
-use Rattle.memory_bounds.proofs.FormProgram.{rows_tell}
+use Rattle.memory_bounds.proofs.FormProgram.{rows_report}
 use Rattle.memory_bounds.proofs.HandlerClasses.{IsConcreteHandler, is_listed, one_of_highest}
 use Rattle.memory_bounds.proofs.OpenBytes.{total}
 use Rattle.memory_bounds.proofs.Programs.{first}
@@ -178,7 +178,7 @@ module _ (forest : Forest) (a : IsAcceptedProgram forest) (rows : List BoundRow)
     fits_class h row there =
         (let k = row_is_handler forest a plan listed.0 s listed.1 h row there in
         let m = class_storage row.class k in
-        let same : row.bytes ≡ m.0 = rows_tell forest a plan listed.0 s listed.1 h row m.0 there m.1 in
+        let same : row.bytes ≡ m.0 = rows_report forest a plan listed.0 s listed.1 h row m.0 there m.1 in
         let bytes : rounded_or_0 (storage p row.class) ≡ rounded_up row.bytes =
         ap rounded_or_0 m.1 ∙ ap (λ n. rounded_up n) (sym same) in
         let most = one_of_highest (release_bytes p rooms) (handler_classes p) row.class (is_listed p row.class k) in

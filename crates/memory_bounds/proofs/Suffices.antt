@@ -349,12 +349,12 @@ module _ (code : Code) (plain : IsPlain code) (class : ℕ) (table : Table) (rea
     (reach : IsReach code class reached) (are : AreNeeds code class table)
     (none : (cause : NoBound) → IsNowhere (Shows code class table cause)) where
   -- the Need of a body that is reached, and too much for any other
-  unfoldable pub told : Table
-  told body = if reached body then table body else too_much
+  unfoldable pub reported : Table
+  reported body = if reached body then table body else too_much
 
-  told_is : (body : Body) → reached body ≡ true → told body ≡ table body
-  unfolding told
-  told_is body e = rw e refl
+  reported_is : (body : Body) → reached body ≡ true → reported body ≡ table body
+  unfolding reported
+  reported_is body e = rw e refl
 
   module _ (body : Body) (r : reached body ≡ true) (comes : Reaches code class body) where
     reaches : (id : ℕ) (node : Node) → IsInBody code id body → slice_get code.program.nodes id ≡ Some node →
@@ -362,16 +362,16 @@ module _ (code : Code) (plain : IsPlain code) (class : ℕ) (table : Table) (rea
     reaches id node inside is = record { body = body; reached = comes; is_in = inside; is = is }
 
     runs : (id : ℕ) (node : Node) → IsInBody code id body → slice_get code.program.nodes id ≡ Some node →
-        (b : Body) → Contains (targets_here code id node ++ targets_entered code id node) b → told b ≡ table b
+        (b : Body) → Contains (targets_here code id node ++ targets_entered code id node) b → reported b ≡ table b
     unfolding targets
     runs id node inside is b c =
         let same : targets code id ≡ targets_here code id node ++ targets_entered code id node =
         ap (λ (o : Option Node). elim o [ None ↦ [] | Some n ↦ targets_here code id n ++ targets_entered code id n ]) is in
-        told_is b (reach.closed body b r
+        reported_is b (reach.closed body b r
         (record { id = id; is_in = inside; is_target = subst (λ (bs : List Body). Contains bs b) (sym same) c }))
 
     harmless : (id : ℕ) (node : Node) → IsInBody code id body → slice_get code.program.nodes id ≡ Some node →
-        IsHarmless code told table id node
+        IsHarmless code reported table id node
     unfolding Shows
     harmless id node inside is = record {
       is = is;
@@ -387,8 +387,8 @@ module _ (code : Code) (plain : IsPlain code) (class : ℕ) (table : Table) (rea
         rn : ReachesNode code class id node
         rn = reaches id node inside is
 
-        is_told : (b : Body) → Contains (targets_entered code id node) b → told b ≡ table b
-        is_told b c = runs id node inside is b
+        is_reported : (b : Body) → Contains (targets_entered code id node) b → reported b ≡ table b
+        is_reported b c = runs id node inside is b
             (Contains-append_right (targets_here code id node) (targets_entered code id node) b c)
 
         numbers : (m : ℕ) → number_asked code id node ≡ Some m → (o : Option ℕ) →
@@ -400,15 +400,15 @@ module _ (code : Code) (plain : IsPlain code) (class : ℕ) (table : Table) (rea
         numbers m asked (Some n) e = (n, e, plain.small m n e)
 
         fit : (n : ℕ) → size_entered code id node ≡ Some n → (b : Body) → Contains (targets_entered code id node) b →
-            (lt : Bool) → nat_lt n (table b) ≡ lt → told b ≤ n
+            (lt : Bool) → nat_lt n (table b) ≡ lt → reported b ≤ n
         fit n written b c true e =
             let l : n < table b = grind (arith, nat_tests) in
             absurd (none TooSmall (position_of_node code id) (entered id node n b rn written c l refl))
         fit n written b c false e =
-            let l : table b ≤ n = grind (arith, nat_tests) in let s = is_told b c in omega (arith, l, s)
+            let l : table b ≤ n = grind (arith, nat_tests) in let s = is_reported b c in omega (arith, l, s)
 
         empty : executes_in_area (binding code id) ≡ true → (b : Body) → Contains (targets_entered code id node) b →
-            (lt : Bool) → nat_lt 0 (table b) ≡ lt → told b ≡ 0
+            (lt : Bool) → nat_lt 0 (table b) ≡ lt → reported b ≡ 0
         empty executes b c true e =
             let l : 0 < table b = grind (arith, nat_tests) in
             absurd (none OuterArea (position_of_node code id) (record {
@@ -422,7 +422,7 @@ module _ (code : Code) (plain : IsPlain code) (class : ℕ) (table : Table) (rea
               is_position = refl;
             }))
         empty executes b c false e =
-            let l : table b ≤ 0 = grind (arith, nat_tests) in let s = is_told b c in omega (arith, l, s)
+            let l : table b ≤ 0 = grind (arith, nat_tests) in let s = is_reported b c in omega (arith, l, s)
 
     still : (id : ℕ) (node : Node) → IsInBody code id body → slice_get code.program.nodes id ≡ Some node →
         is_loop node ≡ true → need code table id ≡ 0
@@ -443,25 +443,25 @@ module _ (code : Code) (plain : IsPlain code) (class : ℕ) (table : Table) (rea
         of false e = let l : need code table id ≤ 0 = grind (arith, nat_tests) in omega (arith, l)
 
     weight_step : (id : ℕ) → IsInBody code id body →
-        ((x : ℕ) → x < id → IsInBody code x body → weight code told x ≤ need code table x) →
-        weight code told id ≤ need code table id
+        ((x : ℕ) → x < id → IsInBody code x body → weight code reported x ≤ need code table x) →
+        weight code reported id ≤ need code table id
     unfolding weight next_weight need next_need
     weight_step id inside before =
-        let a = by_smaller-is 0 (next_weight code told) id in
+        let a = by_smaller-is 0 (next_weight code reported) id in
         let b = by_smaller-is 0 (next_need code table) id in
         let c = of (slice_get code.program.nodes id) refl in
         omega (arith, a, b, c)
       where
         of : (o : Option Node) → slice_get code.program.nodes id ≡ o →
-            (elim o [ None ↦ 0 | Some node ↦ node_weight code told (below 0 id (weight code told)) id node ])
+            (elim o [ None ↦ 0 | Some node ↦ node_weight code reported (below 0 id (weight code reported)) id node ])
             ≤ (elim o [ None ↦ 0 | Some node ↦ node_need code table (below 0 id (need code table)) id node ])
         of None e = omega arith
         of (Some node) e =
-            node_le code told table (below 0 id (weight code told)) (below 0 id (need code table)) id node (harmless id node inside e)
+            node_le code reported table (below 0 id (weight code reported)) (below 0 id (need code table)) id node (harmless id node inside e)
             (λ x c.
             (let l : x < id = part_is_smaller code.program.nodes plain.first id x node e c in
             let d = before x l (part_inside code body id x node inside e c) in
-            let p = below_lt 0 id (weight code told) x l in
+            let p = below_lt 0 id (weight code reported) x l in
             let q = below_lt 0 id (need code table) x l in
             omega (arith, d, p, q)))
             (λ loops.
@@ -471,33 +471,33 @@ module _ (code : Code) (plain : IsPlain code) (class : ℕ) (table : Table) (rea
             ∙ ap (λ (o : Option Node). elim o [ None ↦ 0 | Some n ↦ node_need code table (below 0 id (need code table)) id n ]) e in
             sym y ∙ z))
 
-    weight_up_to : (bound id : ℕ) → id < bound → IsInBody code id body → weight code told id ≤ need code table id
+    weight_up_to : (bound id : ℕ) → id < bound → IsInBody code id body → weight code reported id ≤ need code table id
     weight_up_to zero id l inside = absurd (omega (arith, l))
     weight_up_to (suc bound) id l inside =
         weight_step id inside (λ x m. weight_up_to bound x (omega (arith, l, m)))
 
-    pub weight_le : (id : ℕ) → IsInBody code id body → weight code told id ≤ need code table id
+    pub weight_le : (id : ℕ) → IsInBody code id body → weight code reported id ≤ need code table id
     weight_le id inside = weight_up_to (suc id) id (omega arith) inside
 
   -- a number of no node weighs nothing
-  no_weight : (node : ℕ) → length code.program.nodes ≤ node → weight code told node ≡ 0
+  no_weight : (node : ℕ) → length code.program.nodes ≤ node → weight code reported node ≡ 0
   unfolding weight next_weight
   no_weight node l =
-      by_smaller-is 0 (next_weight code told) node
+      by_smaller-is 0 (next_weight code reported) node
       ∙ ap (λ (o : Option Node). elim o [
         | None ↦ 0
-        | Some n ↦ node_weight code told (below 0 node (weight code told)) node n
+        | Some n ↦ node_weight code reported (below 0 node (weight code reported)) node n
       ]) (no_node code.program.nodes node l)
 
   -- ---- so the class's storage suffices
 
-  pub is_bound : IsBound code told
-  unfolding told body_ops ops_weight op_weight body_need IsInBody
+  pub is_bound : IsBound code reported
+  unfolding reported body_ops ops_weight op_weight body_need IsInBody
   is_bound = record { bodies = λ body. of body (reached body) refl }
     where
       -- by whether the program has the node
       written : (node : ℕ) → reached (Written node) ≡ true → (there : Bool) →
-          nat_lt node (length code.program.nodes) ≡ there → weight code told node ≤ table (Written node)
+          nat_lt node (length code.program.nodes) ≡ there → weight code reported node ≤ table (Written node)
       written node e true t =
           let l : node < length code.program.nodes = grind (arith, nat_tests) in
           let comes = reach.only node l e in
@@ -511,9 +511,9 @@ module _ (code : Code) (plain : IsPlain code) (class : ℕ) (table : Table) (rea
           omega (arith, c)
 
       of : (body : Body) (b : Bool) → reached body ≡ b →
-          min too_much (ops_weight code told (body_ops code body)) ≤ (if b then table body else too_much)
+          min too_much (ops_weight code reported (body_ops code body)) ≤ (if b then table body else too_much)
       of (Written node) true e =
-          let a = ops_covered code told plain.first node in
+          let a = ops_covered code reported plain.first node in
           let c = written node e (nat_lt node (length code.program.nodes)) refl in
           omega (arith, a, c)
       of Empty true e = omega arith
@@ -521,11 +521,11 @@ module _ (code : Code) (plain : IsPlain code) (class : ℕ) (table : Table) (rea
       of Empty false e = omega arith
 
   pub is_yes : (bytes : ℕ) → Suffices code class table bytes →
-      (form : (m : ℕ) × (storage_node code.program class ≡ Some m)) → IsYes code (storage code.program) told class
+      (form : (m : ℕ) × (storage_node code.program class ≡ Some m)) → IsYes code (storage code.program) reported class
   unfolding storage Shows handler_body
   is_yes bytes fits form = of (read code.program.nodes number_literal form.0) refl
     where
-      of : (o : Option ℕ) → read code.program.nodes number_literal form.0 ≡ o → IsYes code (storage code.program) told class
+      of : (o : Option ℕ) → read code.program.nodes number_literal form.0 ≡ o → IsYes code (storage code.program) reported class
       of None e =
           absurd (none NotLiteral (position_of_node code form.0)
           (record { number = form.0; is_asked = of_form form.1; is_none = e; is_position = refl }))
@@ -534,13 +534,13 @@ module _ (code : Code) (plain : IsPlain code) (class : ℕ) (table : Table) (rea
           is_storage : storage code.program class ≡ Some n
           is_storage = ap (λ (o : Option ℕ). o >>= read code.program.nodes number_literal) form.1 ∙ e
 
-          test : (lt : Bool) → nat_lt n (table fits.body) ≡ lt → IsYes code (storage code.program) told class
+          test : (lt : Bool) → nat_lt n (table fits.body) ≡ lt → IsYes code (storage code.program) reported class
           test true q =
               let l : n < table fits.body = grind (arith, nat_tests) in
               absurd (none TooSmall (class_position code.program class) (stored n fits.body is_storage fits.is_body l refl))
           test false q =
               let l : table fits.body ≤ n = grind (arith, nat_tests) in
-              let s = told_is fits.body (reach.begins fits.body fits.is_body) in
+              let s = reported_is fits.body (reach.begins fits.body fits.is_body) in
               record {
                 bound = is_bound;
                 body = fits.body;

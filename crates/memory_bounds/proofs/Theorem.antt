@@ -14,15 +14,15 @@ use Rattle.scope_sound.proofs.Safe.{has_facts}
 use Rattle.certain_faults.proofs.RunsOfNodes.{ClassesAskNothing}
 use Rattle.certain_faults.proofs.Runs.{all_explained, classes_ask_nothing, invariant_of}
 use Rattle.memory_needs.specs.Causes.{storage}
-use Rattle.memory_bounds.specs.Theorem.{Storage, NeverFull, RowsTell}
+use Rattle.memory_bounds.specs.Theorem.{Storage, NeverFull, RowsReport}
 use Rattle.memory_bounds.proofs.AllCounted.{are_counted}
-use Rattle.memory_bounds.proofs.FormProgram.{rows_tell}
+use Rattle.memory_bounds.proofs.FormProgram.{rows_report}
 use Rattle.memory_bounds.proofs.Programs.{first}
 use Rattle.memory_bounds.proofs.Runs.{never_full}
 
 module _ (forest : Forest) (accepted : IsAcceptedProgram forest) (storage : Storage)
-    (tells : (plan : Plan) (choices : List ℕ) (s : State) → Reached (code_of forest) plan (by_list choices) Arrived s →
-    RowsTell storage s) where
+    (reports : (plan : Plan) (choices : List ℕ) (s : State) → Reached (code_of forest) plan (by_list choices) Arrived s →
+    RowsReport storage s) where
   abbrev code : Code
   code = code_of forest
 
@@ -37,12 +37,12 @@ module _ (forest : Forest) (accepted : IsAcceptedProgram forest) (storage : Stor
   bare = classes_ask_nothing forest accepted
 
   pub never_full_in : NeverFull (code_of forest) storage
-  never_full_in plan choices s place row table step h may of told e =
-      never_full (code_of forest) facts storage table told.bound (first forest accepted) plan choices
+  never_full_in plan choices s place row table step h may of reported e =
+      never_full (code_of forest) facts storage table reported.bound (first forest accepted) plan choices
       (λ t k. are_counted (code_of forest) facts.bodies behind table plan.readings t
       (invariant_of (code_of forest) facts bare plan choices Arrived t k)
       (all_explained (code_of forest) facts bare plan choices Arrived t k))
-      (λ t k. tells plan choices t k) s h place row of told step e
+      (λ t k. reports plan choices t k) s h place row of reported step e
 
 -- and they do in each run
 pub never_full_at : (forest : Forest) → IsAcceptedProgram forest →
@@ -50,4 +50,4 @@ pub never_full_at : (forest : Forest) → IsAcceptedProgram forest →
 unfolding code_of
 never_full_at forest accepted =
     never_full_in forest accepted (storage (code_of forest).program) (λ plan choices s h.
-    rows_tell forest accepted plan choices s h)
+    rows_report forest accepted plan choices s h)

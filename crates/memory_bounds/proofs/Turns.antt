@@ -72,34 +72,34 @@ module _ (code : Code) (storage : Storage) (table : Table) (bound : IsBound code
       handler_row step.state.registry w.handler ≡ Some row → IsYes code storage table row.class →
       IsBounded code table step.state w.activity.frames
   unfolding BoundedAfter
-  own w row e row_is told =
+  own w row e row_is reported =
       let mine : handler_row s.registry r.handler ≡ Some row =
       ap (handler_row s.registry) (sym (same_handler w e)) ∙ row_before w.handler row row_is in
       let before : IsBounded code table s (f ∷ below) =
-      subst (IsBounded code table s) frames (b.is index (started_as r.handler a) row began mine told) in
+      subst (IsBounded code table s) frames (b.is index (started_as r.handler a) row began mine reported) in
       keeps code table bound first rows s index a is f below before op rest next (counted (small_next code table s f below op rest next before)) situated step does
       w.activity (started_activity step.state index w e)
 
   other : (q : ℕ) → (index ≡ q → ⊥) → (w : StartedRelease) (row : HandlerRow) →
       started_at step.state.releases q ≡ Some w → handler_row step.state.registry w.handler ≡ Some row →
       IsYes code storage table row.class → IsBounded code table step.state w.activity.frames
-  other q differ w row e row_is told =
+  other q differ w row e row_is reported =
       let was : started_at s.releases q ≡ Some w = sym (leaves.others q differ) ∙ e in
       other_stays code s i.base i.memories (ReleaseAt index) (ReleaseAt q) (λ same. differ (cc (same))) a w.activity is
       (started_activity s q w was) table f below frames step.state
       (effect_spares code table s (ReleaseAt index) a (position_of_op code op) below f.area (effect_at code rows s f op rest)
       puts step does)
-      (b.is q w row was (row_before w.handler row row_is) told)
+      (b.is q w row was (row_before w.handler row row_is) reported)
 
   pub operation_keeps : AreBounded code storage table step.state
-  operation_keeps = record { is = λ q w row e row_is told. of q w row e row_is told (index == q) refl }
+  operation_keeps = record { is = λ q w row e row_is reported. of q w row e row_is reported (index == q) refl }
     where
       of : (q : ℕ) (w : StartedRelease) (row : HandlerRow) → started_at step.state.releases q ≡ Some w →
           handler_row step.state.registry w.handler ≡ Some row → IsYes code storage table row.class → (c : Bool) →
           (index == q) ≡ c → IsBounded code table step.state w.activity.frames
-      of q w row e row_is told true p =
+      of q w row e row_is reported true p =
           let same : index ≡ q = grind (arith, nat_tests) in
-          own w row (ap (started_at step.state.releases) same ∙ e) row_is told
-      of q w row e row_is told false p =
+          own w row (ap (started_at step.state.releases) same ∙ e) row_is reported
+      of q w row e row_is reported false p =
           let differ : index ≡ q → ⊥ = grind (arith, nat_tests) in
-          other q differ w row e row_is told
+          other q differ w row e row_is reported

@@ -31,7 +31,7 @@ use Rattle.memory_bounds.specs.Theorem.{IsYes, NeverFillsMemory, YesNeverFull}
 use Rattle.memory_bounds.proofs.Deciding.{Decides, decided, is_reach, reached_by}
 use Rattle.memory_bounds.proofs.HandlerClasses.{IsConcreteHandler}
 use Rattle.memory_bounds.proofs.StoredForms.{has_storage}
-use Rattle.memory_bounds.proofs.Suffices.{is_yes, told}
+use Rattle.memory_bounds.proofs.Suffices.{is_yes, reported}
 use Rattle.memory_bounds.proofs.Theorem.{never_full_at}
 use Rattle.memory_bounds.proofs.WellFormed.{is_plain}
 
@@ -80,19 +80,19 @@ module _ (forest : Forest) (a : IsAcceptedProgram forest) where
         IsConcreteHandler p class →
         (bound : Table) × IsYes (code_of forest) (storage (code_of forest).program) bound class
     yes_by test d k = (
-      told (code_of forest) (is_plain forest a) class answer.table (reached_by (code_of forest) class test d)
+      reported (code_of forest) (is_plain forest a) class answer.table (reached_by (code_of forest) class test d)
           (is_reach (code_of forest) class test d) needs none,
       is_yes (code_of forest) (is_plain forest a) class answer.table (reached_by (code_of forest) class test d)
           (is_reach (code_of forest) class test d) needs none bytes answer.is (stored k),
     )
 
     pub yes_never_full : NeverFillsMemory (code_of forest) class
-    yes_never_full plan choices s place row step h may of same e unit pos told =
+    yes_never_full plan choices s place row step h may of same e unit pos reported =
         decided (λ n. Reaches (code_of forest) class (Written n)) (length p.nodes) (λ test d.
         (let y = yes_by test d
         (subst (IsConcreteHandler p) same (row_is_handler plan choices s h of.release.handler row of.is_row)) in
         never_full_at forest a plan choices s place row y.0 step h may of
-        (subst (IsYes (code_of forest) (storage (code_of forest).program) y.0) (sym same) y.1) e unit pos told))
+        (subst (IsYes (code_of forest) (storage (code_of forest).program) y.0) (sym same) y.1) e unit pos reported))
 
 pub yes_rows : (forest : Forest) → IsAcceptedProgram forest → (rows : List BoundRow) →
     AreRows (code_of forest) rows → YesNeverFull (code_of forest) rows

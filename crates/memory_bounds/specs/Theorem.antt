@@ -84,7 +84,7 @@ pub record AreBounded (code : Code) (storage : Storage) (table : Table) (s : Sta
       IsBounded code table s w.activity.frames
 
 -- the storage that the row of a handler has is the one of the form
-abbrev pub RowsTell : Storage → State → Type 0
-RowsTell storage s =
+abbrev pub RowsReport : Storage → State → Type 0
+RowsReport storage s =
     (handler : ℕ) (row : HandlerRow) (bytes : ℕ) → handler_row s.registry handler ≡ Some row →
     storage row.class ≡ Some bytes → row.bytes ≡ bytes

@@ -2,7 +2,7 @@
 
 ghost use Rattle.std.specs.Prelude.{◌≡◌, IfOk};
 ghost use Rattle.scj_model.specs.Code.{code_of};
-ghost use Rattle.memory_needs.specs.Rows.{AreRows, TellsStore};
+ghost use Rattle.memory_needs.specs.Rows.{AreRows, ReportsStore};
 ghost use Rattle.memory_bounds.specs.Theorem.{NeedSuffices, YesNeverFull};
 
 use accepted_laws::nodes::checked_is_accepted;
@@ -25,7 +25,7 @@ pub fn bounds(
     requires classes { table.now ≡ checked.now.program }
     requires layout { layout.now ≡ checked.now.program }
     ensures rows { IfOk result (λ found. AreRows (code_of checked.now.program) found.rows) }
-    ensures need { IfOk result (λ found. TellsStore (code_of checked.now.program) found.rows found.need) }
+    ensures need { IfOk result (λ found. ReportsStore (code_of checked.now.program) found.rows found.need) }
     ensures never_full { IfOk result (λ found. YesNeverFull (code_of checked.now.program) found.rows) }
     ensures never_lacks_store { IfOk result (λ found. NeedSuffices (code_of checked.now.program) found.need) }
 {

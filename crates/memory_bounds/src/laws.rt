@@ -8,7 +8,7 @@ ghost use Rattle.memory_needs.specs.declared.answers.BoundAnswer.TheVariants.{Ye
 ghost use Rattle.memory_needs.specs.declared.answers.BoundRow.{BoundRow as Row};
 ghost use Rattle.memory_needs.specs.Need.{HasNeed};
 ghost use Rattle.memory_needs.specs.Room.{HasRoom};
-ghost use Rattle.memory_needs.specs.Rows.{AreRows, IsAnswer, TellsStore};
+ghost use Rattle.memory_needs.specs.Rows.{AreRows, IsAnswer, ReportsStore};
 ghost use Rattle.memory_bounds.specs.Theorem.{NeverFillsMemory, NeverLacksStore};
 
 use accepted_laws::nodes::checked_is_accepted;
@@ -45,7 +45,7 @@ pub fn never_full(checked: &Checked)
 /// store as large as that too small: in no run in which the machine chooses by priority.
 pub fn never_lacks_store(checked: &Checked)
     ensures { (rows : List Row) (bytes : ℕ) → AreRows (code_of checked.now.program) rows →
-        TellsStore (code_of checked.now.program) rows (Some bytes) →
+        ReportsStore (code_of checked.now.program) rows (Some bytes) →
         NeverLacksStore (code_of checked.now.program) bytes }
 {
     checked_is_accepted(checked);

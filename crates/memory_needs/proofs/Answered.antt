@@ -23,7 +23,7 @@ use Rattle.memory_needs.specs.Need.{Table, need, AreNeeds, too_much}
 use Rattle.memory_needs.specs.Room.{entered_with}
 use Rattle.memory_needs.specs.Causes.{storage_node, storage, Recurs, of_form, of_node, AsksNumber, entered, stored, Shows, order_of, IsNowhere}
 use Rattle.memory_needs.specs.Rows.{IsAnswer}
-use Rattle.memory_needs.specs.Solved.{told_by, solved, zero_rows, AreCapped}
+use Rattle.memory_needs.specs.Solved.{reported_by, solved, zero_rows, AreCapped}
 use Rattle.memory_needs.specs.Edges.{count, body_vertex, IsGraphOf}
 use Rattle.memory_needs.specs.Shown.{IsShown, no_number, fills, makes, small}
 use Rattle.memory_needs.specs.Chosen.{is_before, IsChosen}
@@ -43,20 +43,20 @@ module _ (code : Code) (first : ChildrenFirst 0 code.program.nodes) (graph : Gra
   exact = solved code order (zero_rows code)
 
   abbrev table : Table
-  table = told_by exact
+  table = reported_by exact
 
   -- what the rows tell is above what is below the ceiling where the Needs are
-  told_capped : (b : Body) → told_by rows b ≡ min too_much (told_by (solved code order (zero_rows code)) b)
-  unfolding told_by
-  told_capped (Written node) = capped.each node
-  told_capped Empty = refl
+  reported_capped : (b : Body) → reported_by rows b ≡ min too_much (reported_by (solved code order (zero_rows code)) b)
+  unfolding reported_by
+  reported_capped (Written node) = capped.each node
+  reported_capped Empty = refl
 
-  above_told : (n : ℕ) (b : Body) → n < told_by (solved code order (zero_rows code)) b → n < too_much →
-      n < told_by rows b
-  above_told n b l s = let e = told_capped b in omega (arith, l, s, e)
+  above_reported : (n : ℕ) (b : Body) → n < reported_by (solved code order (zero_rows code)) b → n < too_much →
+      n < reported_by rows b
+  above_reported n b l s = let e = reported_capped b in omega (arith, l, s, e)
 
-  told_above : (n : ℕ) (b : Body) → n < told_by rows b → n < told_by (solved code order (zero_rows code)) b
-  told_above n b l = let e = told_capped b in omega (arith, l, e)
+  reported_above : (n : ℕ) (b : Body) → n < reported_by rows b → n < reported_by (solved code order (zero_rows code)) b
+  reported_above n b l = let e = reported_capped b in omega (arith, l, e)
 
   -- a number that is read is below the ceiling
   read_small : (o : Option ℕ) (n : ℕ) → (o >>= read code.program.nodes number_literal) ≡ Some n → n < too_much
@@ -71,7 +71,7 @@ module _ (code : Code) (first : ChildrenFirst 0 code.program.nodes) (graph : Gra
           slice_index_or loops (body_vertex code body) false ≡ true →
           ClassShows (record { cause = Recursion; at = position_of_node code body })
       by_node : (id : ℕ) (node : Node) (cause : NoBound) (at : Position) → slice_get code.program.nodes id ≡ Some node →
-          slice_index_or marks id false ≡ true → IsShown code (told_by rows) (lookup 0 rows) id node cause at →
+          slice_index_or marks id false ≡ true → IsShown code (reported_by rows) (lookup 0 rows) id node cause at →
           ClassShows (record { cause = cause; at = at })
       by_form : (number : ℕ) → storage_node code.program class ≡ Some number →
           read code.program.nodes number_literal number ≡ None →
@@ -80,16 +80,16 @@ module _ (code : Code) (first : ChildrenFirst 0 code.program.nodes) (graph : Gra
           ClassShows (record { cause = TooSmall; at = class_position code.program class })
 
     handler_below : (n : ℕ) (body : Body) → handler_body code class ≡ Some body →
-        n < told_by (solved code order (zero_rows code)) body → n < too_much → n < lookup 0 rows handler
-    unfolding told_by
+        n < reported_by (solved code order (zero_rows code)) body → n < too_much → n < lookup 0 rows handler
+    unfolding reported_by
     handler_below n body h l s =
         (let same : body ≡ Written handler = cc (h, handles) in
-        above_told n (Written handler)
-        (subst (λ (b : Body). n < told_by (solved code order (zero_rows code)) b) same l) s)
+        above_reported n (Written handler)
+        (subst (λ (b : Body). n < reported_by (solved code order (zero_rows code)) b) same l) s)
 
-    told_handler : (n : ℕ) → n < lookup 0 rows handler → n < told_by rows (Written handler)
-    unfolding told_by
-    told_handler n l = l
+    reported_handler : (n : ℕ) → n < lookup 0 rows handler → n < reported_by rows (Written handler)
+    unfolding reported_by
+    reported_handler n l = l
 
     mark_of_node : (id : ℕ) → id < count code → IsReached graph (body_vertex code handler) id →
         slice_index_or marks id false ≡ true
@@ -111,7 +111,7 @@ module _ (code : Code) (first : ChildrenFirst 0 code.program.nodes) (graph : Gra
         ((ordered.exact (body_vertex code h.0) (omega (arith, l, w))).1 h.3))
 
     not_recursion : (id : ℕ) (node : Node) (cause : NoBound) (at : Position) →
-        IsShown code (told_by rows) (lookup 0 rows) id node cause at → cause ≡ Recursion → ⊥
+        IsShown code (reported_by rows) (lookup 0 rows) id node cause at → cause ≡ Recursion → ⊥
     not_recursion id node _ _ (no_number number a b) e = cc (e)
     not_recursion id node _ _ (fills target a b c) e = cc (e)
     not_recursion id node _ _ (makes a b) e = cc (e)
@@ -141,13 +141,13 @@ module _ (code : Code) (first : ChildrenFirst 0 code.program.nodes) (graph : Gra
               (there_recurs code first graph is class handler handles there body l r
               ((ordered.exact (body_vertex code body) (let w = is.whole in omega (arith, l, w))).0 e)))
 
-      pub needs : AreNeeds code class (told_by (solved code order (zero_rows code)))
+      pub needs : AreNeeds code class (reported_by (solved code order (zero_rows code)))
       needs =
           are_needs code first graph is class handler handles there order loops ordered straight
           (zero_rows code) (length-replicate (count code) 0)
 
       loop_need : (id : ℕ) (node : Node) → ReachesNode code class id node →
-          need code (told_by (solved code order (zero_rows code))) id
+          need code (reported_by (solved code order (zero_rows code))) id
           ≡ lookup 0 (solved code order (zero_rows code)) id
       loop_need id node r =
           node_need_is code first graph is class handler handles there order loops ordered straight
@@ -156,14 +156,14 @@ module _ (code : Code) (first : ChildrenFirst 0 code.program.nodes) (graph : Gra
       -- ---- the other causes
 
       at_node : (id : ℕ) (node : Node) → ReachesNode code class id node → (cause : NoBound) (at : Position) →
-          IsShown code (told_by rows) (lookup 0 rows) id node cause at → ClassShows (record { cause = cause; at = at })
+          IsShown code (reported_by rows) (lookup 0 rows) id node cause at → ClassShows (record { cause = cause; at = at })
       at_node id node r cause at s =
           by_node id node cause at r.is
           (mark_of_node id (there_is code first graph is code.program.nodes id node r.is)
           (node_reached code first graph is class handler handles there id node r)) s
 
       pub shows_found : (cause : NoBound) (at : Position) →
-          Shows code class (told_by (solved code order (zero_rows code))) cause at →
+          Shows code class (reported_by (solved code order (zero_rows code))) cause at →
           ClassShows (record { cause = cause; at = at })
       unfolding Shows storage
       shows_found Recursion at s = recurs_shown at s
@@ -179,7 +179,7 @@ module _ (code : Code) (first : ChildrenFirst 0 code.program.nodes) (graph : Gra
       shows_found OuterArea at s =
           subst (λ z. ClassShows (record { cause = OuterArea; at = z })) s.is_position
           (at_node s.id s.node s.reached OuterArea (position_of_node code s.id)
-          (fills s.target s.executes s.is_target (above_told 0 s.target s.needs (omega arith))))
+          (fills s.target s.executes s.is_target (above_reported 0 s.target s.needs (omega arith))))
       shows_found NewInLoop at s =
           subst (λ z. ClassShows (record { cause = NewInLoop; at = z })) s.is_position
           (at_node s.id s.node s.reached NewInLoop (position_of_node code s.id)
@@ -188,19 +188,19 @@ module _ (code : Code) (first : ChildrenFirst 0 code.program.nodes) (graph : Gra
       shows_found TooSmall at (entered id node size target r e c l p) =
           subst (λ z. ClassShows (record { cause = TooSmall; at = z })) p
           (at_node id node r TooSmall (position_of_node code id)
-          (small size target e c (above_told size target l (read_small (entered_with (binding code id) node) size e))))
+          (small size target e c (above_reported size target l (read_small (entered_with (binding code id) node) size e))))
       shows_found TooSmall at (stored bytes body e h l p) =
           subst (λ z. ClassShows (record { cause = TooSmall; at = z })) p
           (by_storage bytes e
           (handler_below bytes body h l (read_small (storage_node code.program class) bytes e)))
 
       pub found_shows : (s : Shown) → ClassShows s → (s.cause ≡ Recursion → ⊥) →
-          Shows code class (told_by (solved code order (zero_rows code))) s.cause s.at
+          Shows code class (reported_by (solved code order (zero_rows code))) s.cause s.at
       unfolding Shows
       found_shows _ (recursion body l m t) n = absurd (n refl)
       found_shows _ (by_form number a b) n = record { number = number; is_asked = of_form a; is_none = b; is_position = refl }
       found_shows _ (by_storage bytes a b) n =
-          stored bytes (Written handler) a handles (told_above bytes (Written handler) (told_handler bytes b)) refl
+          stored bytes (Written handler) a handles (reported_above bytes (Written handler) (reported_handler bytes b)) refl
       found_shows _ (by_node id node cause at e m s) n = by_cause cause at s
         where
           r : ReachesNode code class id node
@@ -208,8 +208,8 @@ module _ (code : Code) (first : ChildrenFirst 0 code.program.nodes) (graph : Gra
               reached_node code first graph is class handler handles there id node e
               (node_of_mark id (there_is code first graph is code.program.nodes id node e) m)
 
-          by_cause : (cause : NoBound) (at : Position) → IsShown code (told_by rows) (lookup 0 rows) id node cause at →
-              Shows code class (told_by (solved code order (zero_rows code))) cause at
+          by_cause : (cause : NoBound) (at : Position) → IsShown code (reported_by rows) (lookup 0 rows) id node cause at →
+              Shows code class (reported_by (solved code order (zero_rows code))) cause at
           by_cause _ _ (no_number number a b) =
               record { number = number; is_asked = of_node id node r a; is_none = b; is_position = refl }
           by_cause _ _ (fills target a b c) = record {
@@ -219,7 +219,7 @@ module _ (code : Code) (first : ChildrenFirst 0 code.program.nodes) (graph : Gra
             executes = a;
             target = target;
             is_target = b;
-            needs = told_above 0 target c;
+            needs = reported_above 0 target c;
             is_position = refl;
           }
           by_cause _ _ (makes a b) = record {
@@ -230,7 +230,7 @@ module _ (code : Code) (first : ChildrenFirst 0 code.program.nodes) (graph : Gra
             needs = (let x = loop_need id node r in let y = capped.each id in omega (arith, b, x, y));
             is_position = refl;
           }
-          by_cause _ _ (small size target a b c) = entered id node size target r a b (told_above size target c) refl
+          by_cause _ _ (small size target a b c) = entered id node size target r a b (reported_above size target c) refl
 
     -- ---- the answer
 
@@ -256,23 +256,23 @@ module _ (code : Code) (first : ChildrenFirst 0 code.program.nodes) (graph : Gra
     module _ (has_storage : (number : ℕ) × (storage_node code.program class ≡ Some number)) where
       pub answers : (o : Option Shown) → IsChosen ClassShows o →
           IsAnswer code class (answer_for o (lookup 0 rows handler))
-      unfolding Shows answer_for order_of told_by storage
+      unfolding Shows answer_for order_of reported_by storage
       answers None c = record {
-        table = told_by (solved code order (zero_rows code));
+        table = reported_by (solved code order (zero_rows code));
         are_needs = needs;
         is = record {
           no_cause = λ cause at s. c.nothing (record { cause = cause; at = at }) (shows_found none cause at s);
           body = Written handler;
           is_body = handles;
-          is_need = tells;
+          is_need = reports;
         };
       }
         where
           none : IsNowhere (Recurs code class)
           none at r = c.nothing (record { cause = Recursion; at = at }) (recurs_shown at r)
 
-          tells : told_by (solved code order (zero_rows code)) (Written handler) ≡ lookup 0 rows handler
-          tells = of (read code.program.nodes number_literal has_storage.0) refl
+          reports : reported_by (solved code order (zero_rows code)) (Written handler) ≡ lookup 0 rows handler
+          reports = of (read code.program.nodes number_literal has_storage.0) refl
             where
               of : (o : Option ℕ) → read code.program.nodes number_literal has_storage.0 ≡ o →
                   lookup 0 (solved code order (zero_rows code)) handler ≡ lookup 0 rows handler
@@ -297,22 +297,22 @@ module _ (code : Code) (first : ChildrenFirst 0 code.program.nodes) (graph : Gra
 
           of : (s.cause ≡ Recursion) ⊎ (s.cause ≡ Recursion → ⊥) → IsAnswer code class (No s.cause s.at)
           of (inl e) = record {
-            table = told_by (solved code order (zero_rows code));
+            table = reported_by (solved code order (zero_rows code));
             are_needs = λ none. absurd (none s.at (shown_recurs s c.that e));
             is = record {
               none_before = λ other l. absurd (others_later s.cause other l e);
               first = record {
-                here = subst (λ x. Shows code class (told_by (solved code order (zero_rows code))) x s.at) (sym e)
+                here = subst (λ x. Shows code class (reported_by (solved code order (zero_rows code))) x s.at) (sym e)
                     (shown_recurs s c.that e);
                 none_before = λ at h b. c.first (record { cause = Recursion; at = at })
-                    (recurs_shown at (subst (λ x. Shows code class (told_by (solved code order (zero_rows code))) x at)
+                    (recurs_shown at (subst (λ x. Shows code class (reported_by (solved code order (zero_rows code))) x at)
                     e h))
                     (earlier_position (record { cause = Recursion; at = at }) s (ap order_of (sym e)) b);
               };
             };
           }
           of (inr n) = record {
-            table = told_by (solved code order (zero_rows code));
+            table = reported_by (solved code order (zero_rows code));
             are_needs = needs;
             is = record {
               none_before = λ other l at h. c.first (record { cause = other; at = at }) (shows_found none other at h)

@@ -15,7 +15,7 @@ use Rattle.scj_model.specs.Code.{Code}
 use Rattle.memory_needs.specs.Targets.{targets_here}
 use Rattle.memory_needs.specs.Reach.{run_parts}
 use Rattle.memory_needs.specs.Need.{Table, greatest, sum_of, node_need, next_need, too_much}
-use Rattle.memory_needs.specs.Solved.{told_by, need_by, solved_by, solved, zero_rows, AreCapped}
+use Rattle.memory_needs.specs.Solved.{reported_by, need_by, solved_by, solved, zero_rows, AreCapped}
 
 abbrev cap : ℕ → ℕ
 cap n = min too_much n
@@ -65,14 +65,14 @@ module _ (rows exact : List ℕ) (are : AreCapped rows exact) where
   row_capped : (id : ℕ) → cap (lookup 0 rows id) ≡ cap (lookup 0 exact id)
   row_capped id = let a = are.each id in omega (arith, a)
 
-  told_capped : (b : Body) → cap (told_by rows b) ≡ cap (told_by exact b)
-  unfolding told_by
-  told_capped (Written node) = row_capped node
-  told_capped Empty = refl
+  reported_capped : (b : Body) → cap (reported_by rows b) ≡ cap (reported_by exact b)
+  unfolding reported_by
+  reported_capped (Written node) = row_capped node
+  reported_capped Empty = refl
 
   pub need_capped : (code : Code) (id : ℕ) → cap (need_by code rows id) ≡ cap (need_by code exact id)
   need_capped code id =
-      next_capped code (told_by rows) (told_by exact) (lookup 0 rows) (lookup 0 exact) told_capped row_capped id
+      next_capped code (reported_by rows) (reported_by exact) (lookup 0 rows) (lookup 0 exact) reported_capped row_capped id
 
 pub set_beyond : (xs : List ℕ) (k v : ℕ) → length xs ≤ k → slice_set xs k v ≡ xs
 set_beyond [] k v l = refl

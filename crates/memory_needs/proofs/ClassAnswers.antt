@@ -170,11 +170,11 @@ module _ (code : Code) (first : ChildrenFirst 0 code.program.nodes) (tables : Ta
   listed_all _ (by_node id node cause at e m h) =
       (let l = there_is code first (rows_of tables.edges.items) (graph_is code tables.edges.items are.edges)
       code.program.nodes id node e in
-      let told = row_is id l ∙ is_shown code tables.needs.items id node e cause at h in
+      let reported = row_is id l ∙ is_shown code tables.needs.items id node e cause at h in
       inl (node_of id cause at
       (among id l (ap (λ (o : Option Shown). slice_index_or tables.order.loops.items (body_vertex code id) false || is_some o)
-      told ∙ or_true (slice_index_or tables.order.loops.items (body_vertex code id) false)))
-      (ap (λ x. if x then lookup None tables.shown.items id else None) m ∙ told)))
+      reported ∙ or_true (slice_index_or tables.order.loops.items (body_vertex code id) false)))
+      (ap (λ x. if x then lookup None tables.shown.items id else None) m ∙ reported)))
     where
       node_of : (id : ℕ) (cause : NoBound) (at : Position) → Contains tables.points.items id →
           reached_at marks tables.shown.items id ≡ Some (record { cause = cause; at = at }) →

@@ -14,10 +14,10 @@ use Rattle.scj_model.specs.Code.{Code, position_of_node}
 use Rattle.memory_needs.specs.Reach.{IsIn, itself, IsInBody, MayRun, Leads, at_once, by_another, handler_body, Reaches, begins, goes_on, ReachesNode}
 use Rattle.memory_needs.specs.Need.{body_need, RunsHere, HasNeed, by_targets, need, AreNeeds}
 use Rattle.memory_needs.specs.Causes.{Recurs}
-use Rattle.memory_needs.specs.Solved.{told_by, need_by, solved}
+use Rattle.memory_needs.specs.Solved.{reported_by, need_by, solved}
 use Rattle.memory_needs.specs.Edges.{count, body_vertex, IsGraphOf}
 use Rattle.memory_needs.proofs.Agree.{need_agrees, need_is_one, runs_here}
-use Rattle.memory_needs.proofs.Settled.{alone_there, in_then, no_node, told_is}
+use Rattle.memory_needs.proofs.Settled.{alone_there, in_then, no_node, reported_is}
 use Rattle.memory_needs.proofs.ProgramEdges.{body_edge, from_body}
 use Rattle.memory_needs.proofs.Leading.{there_is, inside_reached, leads_reached, runs_something, IsOn, in_itself, in_other, at_body, reached_on, body_led, itself_led, loop_has_body, reaches_led, led_reaches}
 use Rattle.memory_needs.proofs.Solving.{IsGood, solved_needs, solved_whole}
@@ -215,9 +215,9 @@ module _ (code : Code) (first : ChildrenFirst 0 code.program.nodes) (graph : Gra
           HasNeed code (Written id) (lookup 0 (solved code order rows) id)
       node_needs id l r = solved_needs code first graph is order loops ordered rows whole id l (is_good id r)
 
-      pub are_needs : AreNeeds code class (told_by (solved code order rows))
+      pub are_needs : AreNeeds code class (reported_by (solved code order rows))
       are_needs = record {
-        each = λ body r. told_is code first (solved code order rows) whole_exact body (λ id l e.
+        each = λ body r. reported_is code first (solved code order rows) whole_exact body (λ id l e.
             node_needs id l (node_of id l (subst (Reaches code class) e r)));
       }
         where
@@ -226,7 +226,7 @@ module _ (code : Code) (first : ChildrenFirst 0 code.program.nodes) (graph : Gra
           node_of id l r = along (body_vertex code id) id (body_reached id l r) (body_edge code graph is id l)
 
       pub node_need_is : (id : ℕ) (node : Node) → ReachesNode code class id node →
-          need code (told_by (solved code order rows)) id ≡ lookup 0 (solved code order rows) id
+          need code (reported_by (solved code order rows)) id ≡ lookup 0 (solved code order rows) id
       unfolding IsInBody body_need
       node_need_is id node r =
           of (lookup 0 (solved code order rows) id)
@@ -243,9 +243,9 @@ module _ (code : Code) (first : ChildrenFirst 0 code.program.nodes) (graph : Gra
                   MayRun code (Written b) target
               runs_in b k target m = record { id = m.id; is_in = in_then code.program.nodes b id m.id k m.is_in; is_target = m.is_target }
 
-          of : (n : ℕ) → HasNeed code (Written id) n → need code (told_by (solved code order rows)) id ≡ n
+          of : (n : ℕ) → HasNeed code (Written id) n → need code (reported_by (solved code order rows)) id ≡ n
           of n (by_targets t e h) =
-              need_agrees code first (told_by (solved code order rows)) t (Written id)
-              (λ target k. need_is_one code first target (told_by (solved code order rows) target) (t target)
+              need_agrees code first (reported_by (solved code order rows)) t (Written id)
+              (λ target k. need_is_one code first target (reported_by (solved code order rows) target) (t target)
               (are_needs.each target (target_reached target k)) (h target k)) id itself
               ∙ e

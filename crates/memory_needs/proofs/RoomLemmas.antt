@@ -26,7 +26,7 @@ use Rattle.memory_needs.specs.Need.{Table, greatest}
 use Rattle.memory_needs.specs.Room.{entered_with, own_room, target_room}
 use Rattle.memory_needs.specs.Edges.{count, written_nodes}
 use Rattle.memory_needs.specs.Sites.{asked_body, has_body, is_any}
-use Rattle.memory_needs.specs.Solved.{told_by, room_by, solved_by, solved_rooms, zero_rows}
+use Rattle.memory_needs.specs.Solved.{reported_by, room_by, solved_by, solved_rooms, zero_rows}
 use Rattle.memory_needs.specs.Stores.{opened_room}
 use Rattle.memory_needs.proofs.Capped.{dropped}
 use Rattle.memory_needs.proofs.NeedLemmas.{highest_written}
@@ -116,16 +116,16 @@ opened code id node there = of (entered_with (binding code id) node) refl
         (only_entered code id node size there e)
 
 pub target_room_is : (code : Code) (rows : List ℕ) (id : ℕ) (node : Node) → slice_get code.program.nodes id ≡ Some node →
-    target_room code (told_by rows) id node
+    target_room code (reported_by rows) id node
     ≡ max (highest (lookup 0 rows) (written_nodes (targets_here code id node)))
     (highest (lookup 0 rows) (written_nodes (targets_entered code id node))) + opened_room code id node
 unfolding targets
 target_room_is code rows id node there =
-    let a = greatest_plus (told_by rows) (own_room code id node) (targets code id) in
+    let a = greatest_plus (reported_by rows) (own_room code id node) (targets code id) in
     let b = opened code id node there in
-    let c = ap (λ (o : Option Node). greatest (told_by rows)
+    let c = ap (λ (o : Option Node). greatest (reported_by rows)
     (elim o [ None ↦ [] | Some n ↦ targets_here code id n ++ targets_entered code id n ])) there in
-    let d = greatest_both (told_by rows) (targets_here code id node) (targets_entered code id node) in
+    let d = greatest_both (reported_by rows) (targets_here code id node) (targets_entered code id node) in
     let h = highest_written rows (targets_here code id node) in
     let e = highest_written rows (targets_entered code id node) in
     omega (arith, a, b, c, d, h, e)

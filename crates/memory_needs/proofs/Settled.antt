@@ -13,7 +13,7 @@ use Rattle.scj_model.specs.Code.{Code}
 use Rattle.memory_needs.specs.Targets.{targets_here, targets_entered, targets}
 use Rattle.memory_needs.specs.Reach.{run_parts, IsIn, itself, in_part, IsInBody, MayRun}
 use Rattle.memory_needs.specs.Need.{node_need, next_need, need, body_need, RunsHere, HasNeed, by_targets}
-use Rattle.memory_needs.specs.Solved.{told_by, need_by}
+use Rattle.memory_needs.specs.Solved.{reported_by, need_by}
 use Rattle.memory_needs.proofs.Agree.{below_lt, part_is_smaller, node_agrees, need_agrees, need_is_one}
 
 -- ---- nodes in nodes
@@ -71,8 +71,8 @@ module _ (code : Code) (first : ChildrenFirst 0 code.program.nodes) (rows : List
   unfolding body_need need IsInBody next_need
   needs_none id l =
       let none = no_node code.program.nodes id l in
-      by_targets (told_by rows)
-      (by_smaller-is 0 (next_need code (told_by rows)) id ∙ of (slice_get code.program.nodes id) none)
+      by_targets (reported_by rows)
+      (by_smaller-is 0 (next_need code (reported_by rows)) id ∙ of (slice_get code.program.nodes id) none)
       (λ target r. absurd (let e = alone_there code.program.nodes id r.id none r.is_in in
       let a : slice_get code.program.nodes r.id ≡ None = ap (slice_get code.program.nodes) e ∙ none in
       let b = r.is in cc (a, b)))
@@ -80,21 +80,21 @@ module _ (code : Code) (first : ChildrenFirst 0 code.program.nodes) (rows : List
       of : (o : Option Node) → o ≡ None →
           (elim o as (λ z. ℕ) [
             | None ↦ 0
-            | Some node ↦ node_need code (told_by rows) (below 0 id (need code (told_by rows))) id node
+            | Some node ↦ node_need code (reported_by rows) (below 0 id (need code (reported_by rows))) id node
           ]) ≡ 0
       of None e = refl
       of (Some node) e = absurd (cc (e))
 
   pub empty_needs_none : HasNeed code Empty 0
   unfolding body_need IsInBody
-  empty_needs_none = by_targets (told_by rows) refl (λ target r. absurd r.is_in)
+  empty_needs_none = by_targets (reported_by rows) refl (λ target r. absurd r.is_in)
 
   -- what is told of a body is its Need, if it is settled
-  pub told_is : (body : Body) → ((id : ℕ) → id < length code.program.nodes → body ≡ Written id → IsSettled id) →
-      HasNeed code body (told_by rows body)
-  unfolding told_by
-  told_is Empty h = empty_needs_none
-  told_is (Written id) h = of (nat_lt id (length code.program.nodes)) refl
+  pub reported_is : (body : Body) → ((id : ℕ) → id < length code.program.nodes → body ≡ Written id → IsSettled id) →
+      HasNeed code body (reported_by rows body)
+  unfolding reported_by
+  reported_is Empty h = empty_needs_none
+  reported_is (Written id) h = of (nat_lt id (length code.program.nodes)) refl
     where
       of : (b : Bool) → nat_lt id (length code.program.nodes) ≡ b → HasNeed code (Written id) (lookup 0 rows id)
       of true e = h id (grind (arith, nat_tests)) refl
@@ -104,7 +104,7 @@ module _ (code : Code) (first : ChildrenFirst 0 code.program.nodes) (rows : List
 
   module _ (id : ℕ) (node : Node) (is : slice_get code.program.nodes id ≡ Some node)
       (parts : (x : ℕ) → Contains (run_parts node) x → IsSettled x)
-      (runs : (target : Body) → RunsHere code (Written id) target → HasNeed code target (told_by rows target)) where
+      (runs : (target : Body) → RunsHere code (Written id) target → HasNeed code target (reported_by rows target)) where
     -- what a part runs the whole runs
     of_part : (x : ℕ) → Contains (run_parts node) x → (target : Body) → RunsHere code (Written x) target →
         RunsHere code (Written id) target
@@ -117,41 +117,41 @@ module _ (code : Code) (first : ChildrenFirst 0 code.program.nodes) (rows : List
       is_target = r.is_target;
     }
 
-    part_is : (x : ℕ) → Contains (run_parts node) x → need code (told_by rows) x ≡ lookup 0 rows x
+    part_is : (x : ℕ) → Contains (run_parts node) x → need code (reported_by rows) x ≡ lookup 0 rows x
     unfolding body_need IsInBody
     part_is x c = of (lookup 0 rows x) (parts x c)
       where
-        of : (n : ℕ) → HasNeed code (Written x) n → need code (told_by rows) x ≡ n
+        of : (n : ℕ) → HasNeed code (Written x) n → need code (reported_by rows) x ≡ n
         of n (by_targets t e h) =
-            need_agrees code first (told_by rows) t (Written x)
-            (λ target r. need_is_one code first target (told_by rows target) (t target)
+            need_agrees code first (reported_by rows) t (Written x)
+            (λ target r. need_is_one code first target (reported_by rows target) (t target)
             (runs target (of_part x c target r)) (h target r)) x itself
             ∙ e
 
-    next_is : need code (told_by rows) id ≡ need_by code rows id
+    next_is : need code (reported_by rows) id ≡ need_by code rows id
     unfolding need next_need
     next_is =
-        by_smaller-is 0 (next_need code (told_by rows)) id ∙ of (slice_get code.program.nodes id) is
+        by_smaller-is 0 (next_need code (reported_by rows)) id ∙ of (slice_get code.program.nodes id) is
       where
         of : (o : Option Node) → o ≡ Some node →
             (elim o as (λ z. ℕ) [
               | None ↦ 0
-              | Some n ↦ node_need code (told_by rows) (below 0 id (need code (told_by rows))) id n
+              | Some n ↦ node_need code (reported_by rows) (below 0 id (need code (reported_by rows))) id n
             ])
             ≡ (elim o as (λ z. ℕ) [
               | None ↦ 0
-              | Some n ↦ node_need code (told_by rows) (lookup 0 rows) id n
+              | Some n ↦ node_need code (reported_by rows) (lookup 0 rows) id n
             ])
         of None e = absurd (cc (e))
         of (Some n) e =
             let same : n ≡ node = cc (e) in
-            node_agrees code (told_by rows) (told_by rows) (below 0 id (need code (told_by rows))) (lookup 0 rows) id n
+            node_agrees code (reported_by rows) (reported_by rows) (below 0 id (need code (reported_by rows))) (lookup 0 rows) id n
             (λ x c.
             (let d = subst (λ (m : Node). Contains (run_parts m) x) same c in
             let l = part_is_smaller code.program.nodes first id x node is d in
-            below_lt 0 id (need code (told_by rows)) x l ∙ part_is x d))
+            below_lt 0 id (need code (reported_by rows)) x l ∙ part_is x d))
             (λ b c. refl)
 
     pub settles : HasNeed code (Written id) (need_by code rows id)
     unfolding body_need
-    settles = by_targets (told_by rows) next_is runs
+    settles = by_targets (reported_by rows) next_is runs

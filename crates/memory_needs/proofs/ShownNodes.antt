@@ -10,7 +10,7 @@ use Rattle.memory_needs.specs.declared.answers.NoBound.{NoBound}
 use Rattle.memory_needs.specs.declared.shown.Shown.{Shown}
 use Rattle.memory_needs.specs.Targets.{targets_entered}
 use Rattle.memory_needs.specs.Need.{greatest}
-use Rattle.memory_needs.specs.Solved.{told_by}
+use Rattle.memory_needs.specs.Solved.{reported_by}
 use Rattle.memory_needs.specs.Edges.{runs_entered, written_nodes}
 use Rattle.memory_needs.specs.Shown.{IsShown, ShowsOne, node_shown, shown_at}
 use Rattle.memory_needs.proofs.NeedLemmas.{highest_written}
@@ -34,17 +34,17 @@ entered_are code id node e =
     ap (λ (o : Option Node). elim o [ None ↦ [] | Some n ↦ written_nodes (targets_entered code id n) ]) e
 
 entered_most : (code : Code) (rows : List ℕ) (id : ℕ) (node : Node) → slice_get code.program.nodes id ≡ Some node →
-    greatest (told_by rows) (targets_entered code id node) ≡ highest (lookup 0 rows) (runs_entered code id)
+    greatest (reported_by rows) (targets_entered code id node) ≡ highest (lookup 0 rows) (runs_entered code id)
 entered_most code rows id node e =
     sym (ap (highest (lookup 0 rows)) (entered_are code id node e) ∙ highest_written rows (targets_entered code id node))
 
 shown_one : (code : Code) (rows : List ℕ) (id : ℕ) (node : Node) → slice_get code.program.nodes id ≡ Some node →
-    ShowsOne code (told_by rows) (lookup 0 rows) id node (shown_at code rows id)
+    ShowsOne code (reported_by rows) (lookup 0 rows) id node (shown_at code rows id)
 unfolding shown_at
 shown_one code rows id node there = of (slice_get code.program.nodes id) there
   where
     of : (o : Option Node) → o ≡ Some node →
-        ShowsOne code (told_by rows) (lookup 0 rows) id node
+        ShowsOne code (reported_by rows) (lookup 0 rows) id node
         (elim o [
           | None ↦ None
           | Some n ↦ node_shown code (lookup 0 rows) (highest (lookup 0 rows) (runs_entered code id)) id n
@@ -52,30 +52,30 @@ shown_one code rows id node there = of (slice_get code.program.nodes id) there
     of None e = absurd (cc (e))
     of (Some n) e =
         let same : node ≡ n = cc (e) in
-        subst (λ (m : Node). ShowsOne code (told_by rows) (lookup 0 rows) id node
+        subst (λ (m : Node). ShowsOne code (reported_by rows) (lookup 0 rows) id node
         (node_shown code (lookup 0 rows) (highest (lookup 0 rows) (runs_entered code id)) id m)) same
-        (subst (λ k. ShowsOne code (told_by rows) (lookup 0 rows) id node (node_shown code (lookup 0 rows) k id node))
+        (subst (λ k. ShowsOne code (reported_by rows) (lookup 0 rows) id node (node_shown code (lookup 0 rows) k id node))
         (entered_most code rows id node there)
-        (shows_one code (told_by rows) (lookup 0 rows) id node))
+        (shows_one code (reported_by rows) (lookup 0 rows) id node))
 
 pub shown_is : (code : Code) (rows : List ℕ) (id : ℕ) (node : Node) → slice_get code.program.nodes id ≡ Some node →
-    (s : Shown) → shown_at code rows id ≡ Some s → IsShown code (told_by rows) (lookup 0 rows) id node s.cause s.at
+    (s : Shown) → shown_at code rows id ≡ Some s → IsShown code (reported_by rows) (lookup 0 rows) id node s.cause s.at
 shown_is code rows id node there s e =
     of (shown_at code rows id) e (shown_one code rows id node there)
   where
-    of : (o : Option Shown) → o ≡ Some s → ShowsOne code (told_by rows) (lookup 0 rows) id node o →
-        IsShown code (told_by rows) (lookup 0 rows) id node s.cause s.at
+    of : (o : Option Shown) → o ≡ Some s → ShowsOne code (reported_by rows) (lookup 0 rows) id node o →
+        IsShown code (reported_by rows) (lookup 0 rows) id node s.cause s.at
     of None e h = absurd (cc (e))
     of (Some t) e h =
         let same : t ≡ s = cc (e) in
-        subst (λ (u : Shown). IsShown code (told_by rows) (lookup 0 rows) id node u.cause u.at) same h.that
+        subst (λ (u : Shown). IsShown code (reported_by rows) (lookup 0 rows) id node u.cause u.at) same h.that
 
 pub is_shown : (code : Code) (rows : List ℕ) (id : ℕ) (node : Node) → slice_get code.program.nodes id ≡ Some node →
-    (cause : NoBound) (at : Position) → IsShown code (told_by rows) (lookup 0 rows) id node cause at →
+    (cause : NoBound) (at : Position) → IsShown code (reported_by rows) (lookup 0 rows) id node cause at →
     shown_at code rows id ≡ Some (record { cause = cause; at = at })
 is_shown code rows id node there cause at k = of (shown_at code rows id) (shown_one code rows id node there)
   where
-    of : (o : Option Shown) → ShowsOne code (told_by rows) (lookup 0 rows) id node o →
+    of : (o : Option Shown) → ShowsOne code (reported_by rows) (lookup 0 rows) id node o →
         o ≡ Some (record { cause = cause; at = at })
     of None h = absurd (h.nothing cause at k)
     of (Some t) h =

@@ -21,8 +21,8 @@ use Rattle.memory_needs.specs.Edges.{count, body_vertex, IsGraphOf}
 use Rattle.memory_needs.proofs.Agree.{runs_here, part_is_smaller}
 use Rattle.memory_needs.proofs.ProgramEdges.{part_edge, body_edge}
 use Rattle.memory_needs.proofs.Leading.{run_reached}
-use Rattle.memory_needs.proofs.Settled.{told_is, settles}
-use Rattle.memory_needs.proofs.Roomed.{told_room, room_settles}
+use Rattle.memory_needs.proofs.Settled.{reported_is, settles}
+use Rattle.memory_needs.proofs.Roomed.{reported_room, room_settles}
 
 pub solved_whole : (next : List ℕ → ℕ → ℕ) (order rows : List ℕ) → length (solved_by next order rows) ≡ length rows
 unfolding solved_by
@@ -176,7 +176,7 @@ module _ (code : Code) (first : ChildrenFirst 0 code.program.nodes) (graph : Gra
       HasNeed code (Written id) (need_by code rows id)
   need_next rows whole id node there parts runs =
       settles code first rows whole id node there parts
-      (λ target r. told_is code first rows whole target
+      (λ target r. reported_is code first rows whole target
       (λ t l e. runs t l (subst (MayRun code (Written id)) e (runs_here code (Written id) target r))))
 
   pub solved_needs : (rows : List ℕ) → length rows ≡ count code → (id : ℕ) → id < count code → IsGood id →
@@ -192,7 +192,7 @@ module _ (code : Code) (first : ChildrenFirst 0 code.program.nodes) (graph : Gra
       HasRoom code (Written id) (room_by code rows id)
   room_next rows whole id node there parts runs =
       room_settles code first rows whole id node there parts
-      (λ target r. told_room code first rows whole target
+      (λ target r. reported_room code first rows whole target
       (λ t l e. runs t l (subst (MayRun code (Written id)) e r)))
 
   pub solved_room : (rows : List ℕ) → length rows ≡ count code → (id : ℕ) → id < count code → IsGood id →

@@ -17,10 +17,10 @@ use Rattle.memory_needs.specs.declared.program_tables.Tables.{Tables}
 use Rattle.memory_needs.specs.Reach.{handler_body}
 use Rattle.memory_needs.specs.Room.{HasRoom}
 use Rattle.memory_needs.specs.Causes.{Recurs, Shows, IsNowhere}
-use Rattle.memory_needs.specs.Rows.{IsAnswer, handler_classes, AreRows, is_no, AllSuffice, IsRoom, store_needed, TellsStore}
+use Rattle.memory_needs.specs.Rows.{IsAnswer, handler_classes, AreRows, is_no, AllSuffice, IsRoom, store_needed, ReportsStore}
 use Rattle.memory_needs.specs.Edges.{count, body_vertex, written_nodes, IsGraphOf}
 use Rattle.memory_needs.specs.ProgramTables.{AreTablesOf}
-use Rattle.memory_needs.specs.Solved.{told_by, solved_rooms, zero_rows}
+use Rattle.memory_needs.specs.Solved.{reported_by, solved_rooms, zero_rows}
 use Rattle.memory_needs.specs.Stores.{class_room, all_yes}
 use Rattle.memory_needs.specs.WellFormed.{IsWellFormed}
 use Rattle.memory_needs.proofs.ProgramEdges.{body_edge}
@@ -57,11 +57,11 @@ module _ (code : Code) (formed : IsWellFormed code) (class : ℕ) (listed : Cont
       (subst (λ n. handler_body code class ≡ Some (Written n)) one h.2, subst (λ n. n < count code) one h.3)
 
 -- it is told by the row of the node
-pub room_told : (code : Code) (rows : List ℕ) (class node : ℕ) → handler_body code class ≡ Some (Written node) →
+pub room_reported : (code : Code) (rows : List ℕ) (class node : ℕ) → handler_body code class ≡ Some (Written node) →
     lookup 0 rows node ≡ class_room code rows class
-unfolding class_room told_by
-room_told code rows class node e =
-    sym (ap (λ (o : Option Body). elim o [ None ↦ 0 | Some body ↦ told_by rows body ]) e)
+unfolding class_room reported_by
+room_reported code rows class node e =
+    sym (ap (λ (o : Option Body). elim o [ None ↦ 0 | Some body ↦ reported_by rows body ]) e)
 
 -- where the answer isn't No, no body that is reached leads to itself
 never_recurs : (code : Code) (class : ℕ) (answer : BoundAnswer) → IsAnswer code class answer → is_no answer ≡ false →
@@ -132,30 +132,30 @@ module _ (code : Code) (first : ChildrenFirst 0 code.program.nodes) (tables : Ta
   module _ (formed : IsWellFormed code) (rows : List BoundRow) (listed : AreRows code rows) where
     class_room_is : AllSuffice rows → (class : ℕ) → Contains (handler_classes code.program) class →
         IsRoom code class (class_room code (solved_rooms code tables.order.vertices.items (zero_rows code)) class)
-    unfolding class_room told_by
+    unfolding class_room reported_by
     class_room_is all class c =
         let h = formed.handles class c in
         let r = row_there rows class (subst (λ cs. Contains cs class) (sym listed.of_handlers) c) in
         let none = never_recurs code r.0.handler r.0.answer (listed.are_answers r.0 r.1) (all r.0 r.1) in
-        let told : class_room code (solved_rooms code tables.order.vertices.items (zero_rows code)) class
+        let reported : class_room code (solved_rooms code tables.order.vertices.items (zero_rows code)) class
         ≡ lookup 0 (solved_rooms code tables.order.vertices.items (zero_rows code)) h.0 =
         ap (λ (o : Option Body). elim o [
           | None ↦ 0
-          | Some body ↦ told_by (solved_rooms code tables.order.vertices.items (zero_rows code)) body
+          | Some body ↦ reported_by (solved_rooms code tables.order.vertices.items (zero_rows code)) body
         ]) h.1 in
         record {
           body = Written h.0;
           is_body = h.1;
-          is = subst (HasRoom code (Written h.0)) (sym told)
+          is = subst (HasRoom code (Written h.0)) (sym reported)
               (room_is class h.0 h.1 h.2 (subst (λ k. IsNowhere (Recurs code k)) r.2 none));
         }
 
-    pub tells_store : (bytes : ℕ) → all_yes rows ≡ true →
+    pub reports_store : (bytes : ℕ) → all_yes rows ≡ true →
         bytes
         ≡ store_needed code.program
         (class_room code (solved_rooms code tables.order.vertices.items (zero_rows code))) →
-        TellsStore code rows (Some bytes)
-    tells_store bytes all e = (
+        ReportsStore code rows (Some bytes)
+    reports_store bytes all e = (
       yes_each rows all,
       record {
         rooms = class_room code (solved_rooms code tables.order.vertices.items (zero_rows code));

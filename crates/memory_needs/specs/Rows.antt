@@ -101,6 +101,6 @@ pub record IsStoreNeeded (code : Code) (bytes : ℕ) : Type 0 where
   pub are_rooms : (class : ℕ) → Contains (handler_classes code.program) class → IsRoom code class (rooms class)
   pub is : bytes ≡ store_needed code.program rooms
 
-abbrev pub TellsStore : Code → List BoundRow → Option ℕ → Type 0
-TellsStore code rows (Some bytes) = AllSuffice rows × IsStoreNeeded code bytes
-TellsStore code rows None = (row : BoundRow) × Contains rows row × (is_no row.answer ≡ true)
+abbrev pub ReportsStore : Code → List BoundRow → Option ℕ → Type 0
+ReportsStore code rows (Some bytes) = AllSuffice rows × IsStoreNeeded code bytes
+ReportsStore code rows None = (row : BoundRow) × Contains rows row × (is_no row.answer ≡ true)

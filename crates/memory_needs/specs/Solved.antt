@@ -7,17 +7,17 @@ use Rattle.memory_needs.specs.Need.{Table, next_need, too_much}
 use Rattle.memory_needs.specs.Room.{next_room}
 
 -- what rows of nodes tell of bodies; an empty one needs nothing
-unfoldable pub told_by : List ℕ → Table
-told_by rows (Written node) = lookup 0 rows node
-told_by rows Empty = 0
+unfoldable pub reported_by : List ℕ → Table
+reported_by rows (Written node) = lookup 0 rows node
+reported_by rows Empty = 0
 
 -- the row of the next node, by the rows of all: its Need
 abbrev pub need_by : Code → List ℕ → ℕ → ℕ
-need_by code rows id = next_need code (told_by rows) id (lookup 0 rows)
+need_by code rows id = next_need code (reported_by rows) id (lookup 0 rows)
 
 -- or its Room
 abbrev pub room_by : Code → List ℕ → ℕ → ℕ
-room_by code rows id = next_room code (told_by rows) id (lookup 0 rows)
+room_by code rows id = next_room code (reported_by rows) id (lookup 0 rows)
 
 -- the rows of nodes are set one after the other
 unfoldable pub solved_by : (List ℕ → ℕ → ℕ) → List ℕ → List ℕ → List ℕ

@@ -7,7 +7,7 @@ use Rattle.memory_needs.specs.Reach.{handler_body}
 use Rattle.memory_needs.specs.Room.{own_room}
 use Rattle.memory_needs.specs.Rows.{is_no}
 use Rattle.memory_needs.specs.Sites.{is_any}
-use Rattle.memory_needs.specs.Solved.{told_by}
+use Rattle.memory_needs.specs.Solved.{reported_by}
 use Rattle.memory_needs.specs.Targets.{memory_targets}
 
 -- what a node opens for what it runs there
@@ -17,7 +17,7 @@ opened_room code id node =
 
 -- the Room of a class's handleAsyncEvent, by the rows of nodes
 unfoldable pub class_room : Code → List ℕ → ℕ → ℕ
-class_room code rows class = elim (handler_body code class) [ None ↦ 0 | Some body ↦ told_by rows body ]
+class_room code rows class = elim (handler_body code class) [ None ↦ 0 | Some body ↦ reported_by rows body ]
 
 -- no row is No
 unfoldable pub all_yes : List BoundRow → Bool

@@ -3,7 +3,7 @@
 ghost use Rattle.std.specs.Prelude.{◌≡◌, IfOk};
 ghost use Rattle.scj_model.specs.Code.{code_of};
 ghost use Rattle.memory_needs.specs.ProgramTables.{AreTablesOf};
-ghost use Rattle.memory_needs.specs.Rows.{AreRows, TellsStore, is_no, store_needed};
+ghost use Rattle.memory_needs.specs.Rows.{AreRows, ReportsStore, is_no, store_needed};
 ghost use Rattle.memory_needs.specs.Solved.{solved_rooms, zero_rows};
 ghost use Rattle.memory_needs.specs.Stores.{all_yes, class_room};
 ghost use Rattle.memory_needs.specs.WellFormed.{IsWellFormed};
@@ -72,7 +72,7 @@ fn need(
     requires tables { AreTablesOf (code_of code.now) tables.now }
     requires formed { IsWellFormed (code_of code.now) }
     requires rows { AreRows (code_of code.now) rows.now }
-    ensures { IfOk result (TellsStore (code_of code.now) rows.now) }
+    ensures { IfOk result (ReportsStore (code_of code.now) rows.now) }
 {
     code.children_first();
     if all_yes(rows) {
@@ -92,7 +92,7 @@ pub fn find_bounds(
     requires layout { layout.now ≡ checked.now.program }
     requires facts { IsWellFormed (code_of checked.now.program) }
     ensures rows { IfOk result (λ found. AreRows (code_of checked.now.program) found.rows) }
-    ensures need { IfOk result (λ found. TellsStore (code_of checked.now.program) found.rows found.need) }
+    ensures need { IfOk result (λ found. ReportsStore (code_of checked.now.program) found.rows found.need) }
 {
     let code = Code::new(checked, classes, layout);
     let tables = tables_of(alloc, &code)?;

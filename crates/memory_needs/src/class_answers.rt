@@ -22,7 +22,7 @@ use crate::sites::node_of;
 use crate::storage::storage_node;
 use directed_graphs::reached;
 use scj_base::{ClassId, Memory, NodeId};
-use scj_tree::told;
+use scj_tree::row_or;
 use std::alloc::Global;
 
 /// That a body which is reached leads to itself.
@@ -46,7 +46,7 @@ fn reached_at(marks: &[bool], shown: &[Option<Shown>], node: NodeId) -> Option<S
     ensures { result ≡ reached_at marks.now shown.now node }
 {
     if is_marked(marks, node.number()) {
-        return told(shown, None, node);
+        return row_or(shown, None, node);
     }
     None
 }
@@ -153,6 +153,6 @@ pub fn answer(
     let shown = tables.shown.as_slice();
     let points = tables.points.as_slice();
     let best = first_shown(code, marks.as_slice(), loops, shown, points);
-    let need = told(tables.needs.as_slice(), 0, handler);
+    let need = row_or(tables.needs.as_slice(), 0, handler);
     Ok(answer_for(first_of(best, storage_shown(code, class, need)), need))
 }

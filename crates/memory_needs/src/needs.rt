@@ -13,14 +13,14 @@ ghost use Rattle.memory_needs.specs.Need.{array_bytes, node_need, object_bytes, 
 ghost use Rattle.memory_needs.specs.Targets.{targets_here};
 ghost use Rattle.memory_needs.specs.Edges.{count, runs_here, written_nodes};
 ghost use Rattle.memory_needs.specs.Sites.{IsTable};
-ghost use Rattle.memory_needs.specs.Solved.{AreCapped, need_by, zero_rows, solved, told_by};
+ghost use Rattle.memory_needs.specs.Solved.{AreCapped, need_by, zero_rows, solved, reported_by};
 
 use crate::code::Code;
 use crate::edges::run_parts_of;
 use crate::sums::{sum, sum_of};
 use scj_base::{Memory, NodeId};
 use scj_rules::Binding;
-use scj_tree::{Node, Parts, Program, told};
+use scj_tree::{Node, Parts, Program, row_or};
 use std::alloc::Global;
 
 /// The number that a node writes.
@@ -93,7 +93,7 @@ pub fn highest(rows: &[u64], nodes: &[NodeId]) -> u64
     let mut most = 0;
     let mut rest = nodes;
     while let [node, others @ ..] = rest {
-        most = most.max(told(rows, 0, *node));
+        most = most.max(row_or(rows, 0, *node));
         rest = others;
     }
     most
@@ -105,7 +105,7 @@ fn optional_need(rows: &[u64], node: Option<NodeId>) -> u64
     ensures { min too_much result ≡ min too_much (sum_of (lookup 0 rows.now) (optional node)) }
 {
     match node {
-        Some(node) => told(rows, 0, node),
+        Some(node) => row_or(rows, 0, node),
         None => 0,
     }
 }
@@ -136,15 +136,15 @@ fn if_need(rows: &[u64], condition: NodeId, then_part: NodeId, else_part: Option
     ensures { result ≡ min too_much (lookup 0 rows.now condition
         + max (lookup 0 rows.now then_part) (sum_of (lookup 0 rows.now) (optional else_part))) }
 {
-    let branches = told(rows, 0, then_part).max(optional_need(rows, else_part));
-    sum(told(rows, 0, condition), branches)
+    let branches = row_or(rows, 0, then_part).max(optional_need(rows, else_part));
+    sum(row_or(rows, 0, condition), branches)
 }
 
 /// What a node needs, by the rows of all nodes.
 #[tactic(auto, using(crate::proofs::NeedLemmas::highest_written), unfolding(crate::specs::Need::node_need))]
 fn node_need(code: &Code<'_>, rows: &[u64], here: &[NodeId], id: NodeId, node: &Node) -> u64
     requires { here.now ≡ written_nodes (targets_here (code_of code.now) id node.now) }
-    ensures { result ≡ min too_much (node_need (code_of code.now) (told_by rows.now) (lookup 0 rows.now) id node.now) }
+    ensures { result ≡ min too_much (node_need (code_of code.now) (reported_by rows.now) (lookup 0 rows.now) id node.now) }
 {
     match node {
         Node::If {

@@ -10,7 +10,7 @@ ghost use Rattle.memory_needs.specs.RowLists.{if_picked};
 use crate::code::Code;
 use crate::shown::Shown;
 use scj_base::{Memory, NodeId};
-use scj_tree::told;
+use scj_tree::row_or;
 use std::alloc::Global;
 
 /// The mark of a vertex.
@@ -28,7 +28,7 @@ pub fn is_marked(marks: &[bool], vertex: usize) -> bool
 fn is_point(code: &Code<'_>, loops: &[bool], shown: &[Option<Shown>], id: NodeId) -> bool
     ensures { result ≡ is_point (code_of code.now) loops.now shown.now id }
 {
-    is_marked(loops, code.count() + id.number()) || told(shown, None, id).is_some()
+    is_marked(loops, code.count() + id.number()) || row_or(shown, None, id).is_some()
 }
 
 /// Notes a number, if something may be shown there.

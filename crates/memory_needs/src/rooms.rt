@@ -13,7 +13,7 @@ ghost use Rattle.memory_needs.specs.Edges.{count, runs_entered, runs_here, writt
 ghost use Rattle.memory_needs.specs.Reach.{run_parts};
 ghost use Rattle.memory_needs.specs.Room.{entered_with, next_room, own_room, target_room};
 ghost use Rattle.memory_needs.specs.Sites.{IsTable, has_body, is_any};
-ghost use Rattle.memory_needs.specs.Solved.{room_by, solved_rooms, told_by, zero_rows};
+ghost use Rattle.memory_needs.specs.Solved.{room_by, solved_rooms, reported_by, zero_rows};
 ghost use Rattle.memory_needs.specs.Stores.{opened_room};
 ghost use Rattle.memory_needs.specs.Targets.{memory_targets, targets_entered, targets_here};
 
@@ -23,7 +23,7 @@ use crate::needs::{highest, number_literal};
 use scj_base::ids::{MANAGED_MEMORY_ENTER_PRIVATE_MEMORY, MANAGED_MEMORY_EXECUTE_IN_AREA_OF};
 use scj_base::{ClassId, Memory, NodeId};
 use scj_rules::Binding;
-use scj_tree::{Node, Parts, told};
+use scj_tree::{Node, Parts, row_or};
 use std::alloc::Global;
 
 /// Bytes in whole words.
@@ -132,7 +132,7 @@ fn optional_row(rows: &[u64], node: Option<NodeId>) -> u64
     ensures { result ≡ highest (lookup 0 rows.now) (optional node) }
 {
     match node {
-        Some(node) => told(rows, 0, node),
+        Some(node) => row_or(rows, 0, node),
         None => 0,
     }
 }
@@ -171,7 +171,7 @@ fn node_room(
     requires entered { entered.now ≡ written_nodes (targets_entered (code_of code.now) id node.now) }
     requires there { slice_get (code_of code.now).program.nodes id ≡ Some node.now }
     ensures { IfSome result (λ n. n
-        ≡ max (target_room (code_of code.now) (told_by rows.now) id node.now)
+        ≡ max (target_room (code_of code.now) (reported_by rows.now) id node.now)
         (highest (lookup 0 rows.now) (run_parts node.now))) }
 {
     let inner = highest(rows, here).max(highest(rows, entered));

@@ -14,7 +14,7 @@ use crate::needs::{highest, number_literal};
 use scj_base::ids::{MANAGED_MEMORY_ENTER_PRIVATE_MEMORY, MANAGED_MEMORY_EXECUTE_IN_AREA_OF};
 use scj_base::{Memory, NodeId, Position};
 use scj_rules::Binding;
-use scj_tree::{Node, told};
+use scj_tree::{Node, row_or};
 use std::alloc::Global;
 
 /// A cause, and the place that shows it.
@@ -118,8 +118,8 @@ fn node_shown(
 {
     match node {
         Node::NewArray { length, .. } => number_shown(code, *length),
-        Node::While { .. } => shown_if_needed(code, id, NoBound::NewInLoop, told(rows, 0, id)),
-        Node::For { .. } => shown_if_needed(code, id, NoBound::NewInLoop, told(rows, 0, id)),
+        Node::While { .. } => shown_if_needed(code, id, NoBound::NewInLoop, row_or(rows, 0, id)),
+        Node::For { .. } => shown_if_needed(code, id, NoBound::NewInLoop, row_or(rows, 0, id)),
         Node::Call { arguments, .. } => call_shown(
             code,
             id,

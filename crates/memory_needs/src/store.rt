@@ -18,7 +18,7 @@ use crate::rows::is_concrete_handler;
 use crate::storage::storage_node;
 use scj_base::ClassId;
 use scj_base::ids::MISSION;
-use scj_tree::told;
+use scj_tree::row_or;
 
 /// The most jobs that are started at once.
 const MOST_STARTED: u64 = 28;
@@ -46,13 +46,13 @@ fn storage(code: &Code<'_>, class: ClassId) -> Option<u32>
 }
 
 /// The Room of a handler class.
-#[tactic(auto, using(crate::proofs::Stores::room_told))]
+#[tactic(auto, using(crate::proofs::Stores::room_reported))]
 fn class_room(code: &Code<'_>, rooms: &[u64], class: ClassId) -> u64
     requires formed { IsWellFormed (code_of code.now) }
     requires listed { Contains (handler_classes (code_of code.now).program) class }
     ensures { result ≡ class_room (code_of code.now) rooms.now class }
 {
-    told(rooms, 0, handler_node(code, class))
+    row_or(rooms, 0, handler_node(code, class))
 }
 
 /// What a release of a handler class may have open.

@@ -5,7 +5,7 @@ ghost use Rattle.scj_tree.specs.Recursion.{lookup};
 ghost use Rattle.memory_needs.specs.Need.{sum_of, too_much};
 
 use scj_base::NodeId;
-use scj_tree::told;
+use scj_tree::row_or;
 
 /// More than any memory has.
 const TOO_MUCH: u64 = 4_294_967_296;
@@ -25,7 +25,7 @@ pub fn sum_of(rows: &[u64], ids: &[NodeId]) -> u64
     let mut all = 0;
     let mut rest = ids;
     while let [id, others @ ..] = rest {
-        all = sum(all, told(rows, 0, *id));
+        all = sum(all, row_or(rows, 0, *id));
         rest = others;
     }
     all

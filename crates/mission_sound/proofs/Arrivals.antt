@@ -10,7 +10,7 @@ use Rattle.scj_model.specs.Code.{Code}
 use Rattle.scj_model.specs.Plan.{Plan}
 use Rattle.scj_model.specs.State.{State}
 use Rattle.scj_model.specs.Registry.{aperiodic_of}
-use Rattle.scj_model.specs.Steps.{Step, silently, telling, for_each}
+use Rattle.scj_model.specs.Steps.{Step, silently, reporting, for_each}
 use Rattle.scj_model.specs.Apply.{takes_releases, release_taken}
 use Rattle.scj_model.specs.Arrivals.{executes_since, is_due, numbers_where, handlers_due, due_handlers, fired_handler, fired, fired_at, fires_due, arrivals}
 use Rattle.mission_sound.specs.Invariant.{Settled}
@@ -96,7 +96,7 @@ module _ (code : Code) where
           (class_number code.program.names fire.handler >>= aperiodic_of s.registry) ≡ o →
           Settled code (elim o as (λ z. Step) [
             | Some handler ↦ release_taken s handler
-            | None ↦ telling s (Miss s.unit fire.handler ∷ [])
+            | None ↦ reporting s (Miss s.unit fire.handler ∷ [])
           ]).state
       taken e None is = settled
       taken e (Some handler) is =
@@ -111,7 +111,7 @@ module _ (code : Code) where
           (elim (if b then class_number code.program.names fire.handler >>= aperiodic_of s.registry else None) as
           (λ z. Step) [
             | Some handler ↦ release_taken s handler
-            | None ↦ telling s (Miss s.unit fire.handler ∷ [])
+            | None ↦ reporting s (Miss s.unit fire.handler ∷ [])
           ]).state
       go true e = taken e (class_number code.program.names fire.handler >>= aperiodic_of s.registry) refl
       go false e = settled

@@ -7,7 +7,7 @@ use Rattle.scj_model.specs.declared.handlers.HandlerRow.{HandlerRow}
 use Rattle.scj_model.specs.declared.events.Event.TheVariants.{Arrive, Lost}
 use Rattle.scj_model.specs.Code.{Code}
 use Rattle.scj_model.specs.State.{Activity, Waits, Release, Job, TheSequencer, ReleaseAt, State, activity_in, activity_of, is_started}
-use Rattle.scj_model.specs.Steps.{telling}
+use Rattle.scj_model.specs.Steps.{reporting}
 use Rattle.scj_model.specs.Apply.{takes_releases, release_taken, releases_of, waiting_of, most_waiting}
 use Rattle.mission_sound.specs.Bases.{Base, areas_of}
 use Rattle.mission_sound.specs.Invariant.{IsOpenedBy, IsPrivate, MemoriesFine, SequencerFine, Invariant, Settled}
@@ -140,7 +140,7 @@ module _ (code : Code) (s : State) (settled : Settled code s) (takes : takes_rel
   unfolding release_taken
   is_taken = go (not (nat_lt (length (waiting_of s handler)) most_waiting))
     where
-      go : (b : Bool) → Takes code s.registry (if b then telling s (Lost s.unit handler ∷ [])
-          else telling after_taken (Arrive s.unit handler (length (releases_of s handler) + 1) ∷ [])).state
+      go : (b : Bool) → Takes code s.registry (if b then reporting s (Lost s.unit handler ∷ [])
+          else reporting after_taken (Arrive s.unit handler (length (releases_of s handler) + 1) ∷ [])).state
       go true = record { settled = settled; takes = takes; same = refl }
       go false = record { settled = waits_settled; takes = takes; same = refl }

@@ -12,8 +12,8 @@ use Rattle.scj_model.specs.Code.{Code}
 use Rattle.scj_model.specs.State.{Object, Frame, Activity, ReleaseStatus, Waits, Started, Ended, Dropped, Release, Job, TheSequencer, ReleaseAt, State, activity_in, activity_of, is_waiting, is_started, with_activity, with_status, is_exec, is_init}
 use Rattle.scj_model.specs.Registry.{handler_number, most_handlers, new_row}
 use Rattle.scj_model.specs.Memory.{closed}
-use Rattle.scj_model.specs.Steps.{Step, silently, telling, closed_all, fault_in, job_ended}
-use Rattle.scj_model.specs.Apply.{registered, released, release_taken, takes_releases, termination, termination_asked, asks_for_end, tell_dropped, dropped_release, releases_of, waiting_of, most_waiting, class_name}
+use Rattle.scj_model.specs.Steps.{Step, silently, reporting, closed_all, fault_in, job_ended}
+use Rattle.scj_model.specs.Apply.{registered, released, release_taken, takes_releases, termination, termination_asked, asks_for_end, report_dropped, dropped_release, releases_of, waiting_of, most_waiting, class_name}
 use Rattle.frame_sound.specs.Places.{world_of}
 use Rattle.frame_sound.proofs.Keeps.{ObjectsAreKept}
 use Rattle.mission_sound.specs.Bases.{Base}
@@ -107,8 +107,8 @@ module _ (code : Code) (base : Base) where
       new handler = record { handler = handler; number = length (releases_of s handler) + 1; status = Waits }
 
       taken : (handler : ℕ) → takes_releases s ≡ true → handler_number s.registry r ≡ Some handler → (b : Bool) →
-          Handlers (if b then telling s (Lost s.unit handler ∷ [])
-          else telling (record s { releases = s.releases ++ new handler ∷ [] })
+          Handlers (if b then reporting s (Lost s.unit handler ∷ [])
+          else reporting (record s { releases = s.releases ++ new handler ∷ [] })
           (Arrive s.unit handler (length (releases_of s handler) + 1) ∷ [])).state
       taken handler takes is true = h
       taken handler takes is false =
@@ -133,8 +133,8 @@ module _ (code : Code) (base : Base) where
   end_is_asked s r h = go (asks_for_end s.mission s.phase s.is_end_asked r)
     where
       asked : (b : Bool) → is_exec s.phase ≡ b → Handlers (if b
-          then telling (record s { is_end_asked = true; releases = map dropped_release s.releases })
-          (Terminate s.unit ∷ tell_dropped s)
+          then reporting (record s { is_end_asked = true; releases = map dropped_release s.releases })
+          (Terminate s.unit ∷ report_dropped s)
           else silently (record s { is_end_asked = true })).state
       asked true e = end_asked code base s e h
       asked false e = end_kept code base s e h
@@ -160,13 +160,13 @@ module _ (code : Code) (base : Base) where
       event = Register s.unit (length s.registry + 1) (class_name code o.class) (new_row code.program r o).priority ∷ []
 
       added : is_init s.phase ≡ true → (b : Bool) → Handlers (if b then fault_in s job activity position TooManyHandlers
-          else telling (record after { registry = after.registry ++ new_row code.program r o ∷ [] }) event).state
+          else reporting (record after { registry = after.registry ++ new_row code.program r o ∷ [] }) event).state
       added e true = fault_handled s job activity position TooManyHandlers outside h
       added e false = row_added code base after (new_row code.program r o) (row e) later
 
       known : is_init s.phase ≡ true → (b : Bool) → Handlers (if b then silently after
           else (if not (nat_lt (length s.registry) most_handlers) then fault_in s job activity position TooManyHandlers
-          else telling (record after { registry = after.registry ++ new_row code.program r o ∷ [] }) event)).state
+          else reporting (record after { registry = after.registry ++ new_row code.program r o ∷ [] }) event)).state
       known e true = later
       known e false = added e (not (nat_lt (length s.registry) most_handlers))
 
@@ -174,6 +174,6 @@ module _ (code : Code) (base : Base) where
           Handlers (if not b then fault_in s job activity position NotInitializing
           else (if is_some (handler_number s.registry r) then silently after
           else (if not (nat_lt (length s.registry) most_handlers) then fault_in s job activity position TooManyHandlers
-          else telling (record after { registry = after.registry ++ new_row code.program r o ∷ [] }) event))).state
+          else reporting (record after { registry = after.registry ++ new_row code.program r o ∷ [] }) event))).state
       go true e = known e (is_some (handler_number s.registry r))
       go false e = fault_handled s job activity position NotInitializing outside h

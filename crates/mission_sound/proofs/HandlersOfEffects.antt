@@ -12,9 +12,9 @@ use Rattle.scj_model.specs.Code.{Code}
 use Rattle.scj_model.specs.State.{Object, Frame, Activity, Job, State, changed, activity_of, with_activity, object_at, is_init}
 use Rattle.scj_model.specs.Registry.{new_row}
 use Rattle.scj_model.specs.Memory.{new_object, closed, has_room, has_store_for, area_with_scope, with_object, with_area, with_slot}
-use Rattle.scj_model.specs.Steps.{Step, silently, telling, allocating, opening, fault_in, job_ended}
+use Rattle.scj_model.specs.Steps.{Step, silently, reporting, allocating, opening, fault_in, job_ended}
 use Rattle.scj_model.specs.Effects.{Effect, Goes, Prints, Makes, Stores, StoresStatic, SetsHidden, SetsCeiling, Calls, Opens, Leaves, AsksRegistration, AsksRelease, AsksTermination, Faults, Stuck}
-use Rattle.scj_model.specs.Apply.{applied, called, opened_in, returned, without, frame_left, is_full, ceiling_entered, tell_priority, registered, with_first, with_ceiling, with_frame, is_sequencer}
+use Rattle.scj_model.specs.Apply.{applied, called, opened_in, returned, without, frame_left, is_full, ceiling_entered, report_priority, registered, with_first, with_ceiling, with_frame, is_sequencer}
 use Rattle.frame_sound.specs.Places.{world_of}
 use Rattle.frame_sound.proofs.Changes.{new_is_kept, change_is_kept, with_value}
 use Rattle.frame_sound.proofs.OwnJobs.{same_activity}
@@ -114,7 +114,7 @@ module _ (code : Code) (base : Base) (s : State) (job : Job) (activity : Activit
     where
       entered : (ceiling : ℕ) (b : Bool) (events : List Event) → HandlersIf code base (Some (if b
           then fault_in s job activity position CeilingViolation
-          else telling
+          else reporting
           (with_activity s job (record activity {
             frames = record g { saved = Some activity.priority } ∷ (f ∷ below);
             priority = ceiling;
@@ -127,16 +127,16 @@ module _ (code : Code) (base : Base) (s : State) (job : Job) (activity : Activit
             | None ↦ silently (with_activity s job (record activity { frames = g ∷ (f ∷ below) }))
             | Some ceiling ↦
                 if nat_lt ceiling activity.priority then fault_in s job activity position CeilingViolation
-                else telling
+                else reporting
                 (with_activity s job (record activity {
                   frames = record g { saved = Some activity.priority } ∷ (f ∷ below);
                   priority = ceiling;
-                })) (tell_priority s job activity.priority ceiling)
+                })) (report_priority s job activity.priority ceiling)
           ])))
       go true o = some_if _ (fault DepthFull)
       go false None = some_if _ (here _)
       go false (Some ceiling) =
-          entered ceiling (nat_lt ceiling activity.priority) (tell_priority s job activity.priority ceiling)
+          entered ceiling (nat_lt ceiling activity.priority) (report_priority s job activity.priority ceiling)
 
   opens : (f g : Frame) (scope bytes : ℕ) → Kept (Opens f g scope bytes)
   unfolding applied opened_in opening

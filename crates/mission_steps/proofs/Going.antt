@@ -21,14 +21,14 @@ use Rattle.run_state.proofs.StepLemmas.{applied_as}
 
 -- ---- steps
 
-pub still : (code : Listing) (st : RunState) (told : List Event) →
-    IsStep code (silently (state_of code st)) st told told
-still code st told = record { state = refl; told = sym (append-nil told) }
+pub still : (code : Listing) (st : RunState) (reported : List Event) →
+    IsStep code (silently (state_of code st)) st reported reported
+still code st reported = record { state = refl; reported = sym (append-nil reported) }
 
 -- a step that leads to this state and tells nothing
-pub quietly : (code : Listing) (st : RunState) (told : List Event) (s : State) → state_of code st ≡ s →
-    IsStep code (silently s) st told told
-quietly code st told s e = record { state = e; told = sym (append-nil told) }
+pub quietly : (code : Listing) (st : RunState) (reported : List Event) (s : State) → state_of code st ≡ s →
+    IsStep code (silently s) st reported reported
+quietly code st reported s e = record { state = e; reported = sym (append-nil reported) }
 
 pub no_step : (code : Listing) (st : RunState) (before after : List Event) (found : Option Step) → found ≡ None →
     IsTry code found false st before after

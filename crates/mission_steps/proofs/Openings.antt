@@ -14,7 +14,7 @@ use Rattle.scj_model.specs.Code.{code_of}
 use Rattle.op_list.specs.Listed.{Listing}
 use Rattle.scj_model.specs.State.{Activity, Job, ReleaseAt, State, TheSequencer, with_activity}
 use Rattle.scj_model.specs.Memory.{has_store_for, new_slots, with_area}
-use Rattle.scj_model.specs.Steps.{Step, allocating, fault_in, opening, silently, telling}
+use Rattle.scj_model.specs.Steps.{Step, allocating, fault_in, opening, silently, reporting}
 use Rattle.scj_model.specs.Effects.{new_frame}
 use Rattle.scj_model.specs.Sequencer.{area_opened, innermost, safelet_made}
 use Rattle.scj_model.specs.Run.{no_activity, started_with}
@@ -49,12 +49,12 @@ module _ (s : State) (job : Job) (activity : Activity) (position : Position) (sc
       quiet t m = silently t
 
       loud : State → ℕ → Step
-      loud t m = telling t (Halted 0 ∷ [])
+      loud t m = reporting t (Halted 0 ∷ [])
 
       by_room : (b : Bool) → has_store_for s bytes ≡ b → after ≡ with_area s scope parent bytes
       by_room true e = ap (λ (x : Step). x.state) (sym (h.there quiet n refl) ∙ opened_there quiet e)
       by_room false e = absurd (
-          let same : silently after ≡ telling after (Halted 0 ∷ []) =
+          let same : silently after ≡ reporting after (Halted 0 ∷ []) =
           sym (h.there quiet n refl)
           ∙ (opened_nowhere quiet e ∙ (sym (opened_nowhere loud e) ∙ h.there loud n refl)) in
           let none : [] ≡ Halted 0 ∷ [] = ap (λ (x : Step). x.events) same in cc)
@@ -87,20 +87,20 @@ module _ (code : Listing) (was : RunState) (position : Position) (scope bytes : 
       (subst (λ (p : Option ℕ). GoesOn s (opening s TheSequencer s.activity position scope p bytes)
       (fault_in s TheSequencer s.activity position StoreFull) found after) e h)
 
-  pub opened_inside : (middle : RunState) (areas : List ℕ) (n : ℕ) (told : List Event) →
+  pub opened_inside : (middle : RunState) (areas : List ℕ) (n : ℕ) (reported : List Event) →
       IsOpened (Some n) (state_of code middle) → areas ≡ n ∷ middle.activity.areas →
       IsStep code (area_opened s position scope bytes)
-      (record middle { activity = record middle.activity { areas = areas }; outcome = Some Null }) told told
+      (record middle { activity = record middle.activity { areas = areas }; outcome = Some Null }) reported reported
   unfolding state_of area_opened
-  opened_inside middle areas n told opened pushed =
+  opened_inside middle areas n reported opened pushed =
       let t : State = state_of code middle in
       let after : Activity → State = λ a. record t { activity = record a { areas = n ∷ a.areas }; outcome = Some Null }
       in
       let st : RunState =
       record middle { activity = record middle.activity { areas = areas }; outcome = Some Null } in
       let there : area_opened s position scope bytes ≡ silently (after s.activity) = opened.there _ n refl in
-      same_step code st told told (silently (after s.activity)) (area_opened s position scope bytes) there
-      (quietly code st told (after s.activity)
+      same_step code st reported reported (silently (after s.activity)) (area_opened s position scope bytes) there
+      (quietly code st reported (after s.activity)
       (ap (λ (xs : List ℕ).
       (let x : State = record t { activity = record t.activity { areas = xs }; outcome = Some Null } in x))
       pushed
@@ -140,16 +140,16 @@ module _ (code : Listing) (was : RunState) (position : Position) (class area : �
       (subst (λ (c : ℕ). GoesOn t (allocating t TheSequencer t.activity position c area slots)
       (fault_in t TheSequencer t.activity position MemoryFull) found after) e h)
 
-  pub made_there : (middle : RunState) (n : ℕ) (told : List Event) → new_slots (code_of code.program).program class ≡ slots →
+  pub made_there : (middle : RunState) (n : ℕ) (reported : List Event) → new_slots (code_of code.program).program class ≡ slots →
       IsMade (Some n) (state_of code middle) →
-      IsStep code (safelet_made (code_of code.program) t position class area) (record middle { outcome = Some (At n) }) told told
+      IsStep code (safelet_made (code_of code.program) t position class area) (record middle { outcome = Some (At n) }) reported reported
   unfolding state_of safelet_made
-  made_there middle n told same made =
+  made_there middle n reported same made =
       let st : RunState = record middle { outcome = Some (At n) } in
       let after : State = state_of code st in
-      same_step code st told told (silently after) (safelet_made (code_of code.program) t position class area)
+      same_step code st reported reported (silently after) (safelet_made (code_of code.program) t position class area)
       (ap makes same ∙ made.there _ n refl)
-      (quietly code st told after refl)
+      (quietly code st reported after refl)
 
   pub not_made : (middle st : RunState) (before after : List Event) → new_slots (code_of code.program).program class ≡ slots →
       IsMade None (state_of code middle) →
@@ -192,17 +192,17 @@ module _ (code : Listing) (was : RunState) (n : ℕ) (row : HandlerRow) (scope :
   }
 
   pub started_there : (middle st : RunState) (area : ℕ) (activity : StoredActivity) (areas : List ℕ)
-      (told : List Event) →
+      (reported : List Event) →
       IsPrivate (Some area) (state_of code middle) → areas ≡ u.activity.areas →
       activity_seen code activity ≡ first_activity areas area →
       state_of code st ≡ with_activity (state_of code middle) (ReleaseAt n) (activity_seen code activity) →
-      IsStep code (started_with (code_of code.program) u n row scope body) st told told
+      IsStep code (started_with (code_of code.program) u n row scope body) st reported reported
   unfolding started_with
-  started_there middle st area activity areas told opened same seen put =
-      same_step code st told told
+  started_there middle st area activity areas reported opened same seen put =
+      same_step code st reported reported
       (silently (with_activity (state_of code middle) (ReleaseAt n) (first_activity u.activity.areas area)))
       (started_with (code_of code.program) u n row scope body) (opened.there _ area refl)
-      (quietly code st told
+      (quietly code st reported
       (with_activity (state_of code middle) (ReleaseAt n) (first_activity u.activity.areas area))
       (put ∙ ap (λ (a : Activity). with_activity (state_of code middle) (ReleaseAt n) a)
       (seen ∙ ap (λ (xs : List ℕ). first_activity xs area) same)))

@@ -147,15 +147,15 @@ module _ (code : Listing) (s : State) where
 
 -- a body is called: its frame is the sequencer's only one
 pub called_step : (code : Listing) (st : RunState) (r : ℕ) (body : Body) (area : ℕ) (frames : List StoredFrame)
-    (told : List Event) → innermost st.activity.areas ≡ Some area →
+    (reported : List Event) → innermost st.activity.areas ≡ Some area →
     frames_of code frames ≡ record (new_frame (code_of code.program) body None (Some r) area []) { opened = None } ∷ [] →
     IsTry code (body_called (code_of code.program) (state_of code st) r body) true
-    (record st { activity = record st.activity { frames = frames } }) told told
+    (record st { activity = record st.activity { frames = frames } }) reported reported
 unfolding state_of body_called new_frame
-called_step code st r body area frames told e seen =
+called_step code st r body area frames reported e seen =
     let s : State = state_of code st in
     let after : List Frame → State = λ fs. record s { activity = record s.activity { frames = fs } } in
     let now : RunState = record st { activity = record st.activity { frames = frames } } in
     let frame : Frame = new_frame (code_of code.program) body None (Some r) area [] in
-    try_of code now told told (body_called (code_of code.program) s r body) (silently (after (frame ∷ []))) (rw e refl)
-    (quietly code now told (after (frame ∷ [])) (ap after seen))
+    try_of code now reported reported (body_called (code_of code.program) s r body) (silently (after (frame ∷ []))) (rw e refl)
+    (quietly code now reported (after (frame ∷ [])) (ap after seen))

@@ -44,18 +44,18 @@ module _ (code : Listing) (s : State) (job : Job) (activity : Activity) (positio
 
 -- the row stands behind the others in the state in which the job goes on
 pub entered : (code : Listing) (was middle : RunState) (after : State) (row : HandlerRow) (rows : List HandlerRow)
-    (before told : List Event) → state_of code middle ≡ after → rows ≡ middle.registry.items ++ row ∷ [] →
-    told ≡ before ++ Register was.unit (length was.registry.items + 1) (class_name (code_of code.program) row.class) row.priority ∷ [] →
+    (before reported : List Event) → state_of code middle ≡ after → rows ≡ middle.registry.items ++ row ∷ [] →
+    reported ≡ before ++ Register was.unit (length was.registry.items + 1) (class_name (code_of code.program) row.class) row.priority ∷ [] →
     (st : RunState) →
     state_of code st ≡ record (state_of code middle) { registry = rows } →
-    IsStep code (newly_registered (code_of code.program) (state_of code was) row after) st before told
+    IsStep code (newly_registered (code_of code.program) (state_of code was) row after) st before reported
 unfolding newly_registered state_of
-entered code was middle after row rows before told put pushed register st seen = record {
+entered code was middle after row rows before reported put pushed register st seen = record {
   state =
       seen
       ∙ (ap (λ (rs : List HandlerRow). (let x : State = record (state_of code middle) { registry = rs } in x)) pushed
       ∙ ap (λ (t : State). (let x : State = record t { registry = t.registry ++ row ∷ [] } in x)) put);
-  told = register;
+  reported = register;
 }
 
 -- the object of a row

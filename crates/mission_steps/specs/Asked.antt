@@ -4,17 +4,17 @@ use Rattle.scj_model.specs.declared.events.Event.TheVariants.{Register, Terminat
 use Rattle.scj_model.specs.declared.handlers.HandlerRow.{HandlerRow}
 use Rattle.scj_model.specs.Code.{Code}
 use Rattle.scj_model.specs.State.{State}
-use Rattle.scj_model.specs.Steps.{Step, telling}
-use Rattle.scj_model.specs.Apply.{class_name, dropped_release, tell_dropped}
+use Rattle.scj_model.specs.Steps.{Step, reporting}
+use Rattle.scj_model.specs.Apply.{class_name, dropped_release, report_dropped}
 
 -- a handler is registered behind the others, in the state that goes on
 unfoldable pub newly_registered : Code → State → HandlerRow → State → Step
 newly_registered code s row after =
-    telling (record after { registry = after.registry ++ row ∷ [] })
+    reporting (record after { registry = after.registry ++ row ∷ [] })
     (Register s.unit (length s.registry + 1) (class_name code row.class) row.priority ∷ [])
 
 -- a mission that executes is asked to end
 unfoldable pub execution_ended : State → Step
 execution_ended s =
-    telling (record s { is_end_asked = true; releases = map dropped_release s.releases })
-    (Terminate s.unit ∷ tell_dropped s)
+    reporting (record s { is_end_asked = true; releases = map dropped_release s.releases })
+    (Terminate s.unit ∷ report_dropped s)

@@ -16,7 +16,7 @@ use crate::transitions::{SeqEffect, Transition};
 use op_list::OpList;
 use run_state::RunState;
 use run_state::ends::{close_opened, halted};
-use run_state::told::{tell, tell_two};
+use run_state::reported::{report, report_two};
 use scj_base::{Memory, Name, Position, Ref, RunFault};
 use scj_model::Event;
 
@@ -40,16 +40,16 @@ fn lack_sequencer(
     code: &OpList<'_>,
     state: &mut RunState,
     safelet: Ref,
-    told: &mut Vec<Event>,
+    reported: &mut Vec<Event>,
 ) -> Result<(), Memory>
     requires { IsLive state.old.memory safelet }
     ensures { IfOk result
         (λ _. IsStep code.now
         (seq_applied (code_of code.now.program) (state_of code.now state.old) (LacksSequencer safelet)) state.new
-        told.old.items told.new.items) }
+        reported.old.items reported.new.items) }
 {
     let index = position_of_object(code, state, safelet);
-    halted(state, index, RunFault::NullPointer, told)?;
+    halted(state, index, RunFault::NullPointer, reported)?;
     Ok(())
 }
 
@@ -69,17 +69,17 @@ fn begin_mission(
     code: &OpList<'_>,
     state: &mut RunState,
     mission: Ref,
-    told: &mut Vec<Event>,
+    reported: &mut Vec<Event>,
 ) -> Result<(), Memory>
     requires { IsLive state.old.memory mission }
     ensures { IfOk result
         (λ _. IsStep code.now
         (seq_applied (code_of code.now.program) (state_of code.now state.old) (BeginsMission mission)) state.new
-        told.old.items told.new.items) }
+        reported.old.items reported.new.items) }
 {
     let class = class_name_at(code, state, mission);
-    tell(
-        told,
+    report(
+        reported,
         Event::Mission {
             unit: state.unit,
             class,
@@ -122,16 +122,16 @@ fn next_unit(unit: u64) -> Result<u64, Memory>
 }
 
 /// Execution begins with the next unit.
-fn begin_execution(state: &mut RunState, told: &mut Vec<Event>) -> Result<(), Memory>
+fn begin_execution(state: &mut RunState, reported: &mut Vec<Event>) -> Result<(), Memory>
     ensures { (code : Listing) →
         IfOk result
-        (λ _. IsStep code (seq_applied (code_of code.program) (state_of code state.old) BeginsExecution) state.new told.old.items
-        told.new.items) }
+        (λ _. IsStep code (seq_applied (code_of code.program) (state_of code state.old) BeginsExecution) state.new reported.old.items
+        reported.new.items) }
 {
     let unit = state.unit;
     state.origin = next_unit(unit)?;
     state.last_choice = None;
-    tell(told, Event::Exec { unit })?;
+    report(reported, Event::Exec { unit })?;
     Ok(())
 }
 
@@ -140,13 +140,13 @@ fn seq_applied(
     code: &OpList<'_>,
     state: &mut RunState,
     effect: SeqEffect,
-    told: &mut Vec<Event>,
+    reported: &mut Vec<Event>,
 ) -> Result<(), Memory>
     requires { CanFollow state.old.memory state.old.activity.areas (effect_seen effect) }
     ensures { IfOk result
         (λ _. IsStep code.now
         (seq_applied (code_of code.now.program) (state_of code.now state.old) (effect_seen effect)) state.new
-        told.old.items told.new.items) }
+        reported.old.items reported.new.items) }
 {
     let unit = state.unit;
     match effect {
@@ -163,19 +163,19 @@ fn seq_applied(
             take_mission(state, r);
             Ok(())
         }
-        SeqEffect::LacksSequencer(safelet) => lack_sequencer(code, state, safelet, told),
+        SeqEffect::LacksSequencer(safelet) => lack_sequencer(code, state, safelet, reported),
         SeqEffect::LacksMission => {
-            tell(told, Event::Done { unit })?;
+            report(reported, Event::Done { unit })?;
             Ok(())
         }
-        SeqEffect::BeginsMission(r) => begin_mission(code, state, r, told),
-        SeqEffect::BeginsExecution => begin_execution(state, told),
+        SeqEffect::BeginsMission(r) => begin_mission(code, state, r, reported),
+        SeqEffect::BeginsExecution => begin_execution(state, reported),
         SeqEffect::SkipsExecution => {
-            tell_two(told, Event::Exec { unit }, Event::Cleanup { unit })?;
+            report_two(reported, Event::Exec { unit }, Event::Cleanup { unit })?;
             Ok(())
         }
         SeqEffect::EndsExecution => {
-            tell(told, Event::Cleanup { unit })?;
+            report(reported, Event::Cleanup { unit })?;
             Ok(())
         }
         SeqEffect::ClosesMission => {
@@ -190,17 +190,17 @@ pub(crate) fn transition_done(
     code: &OpList<'_>,
     state: &mut RunState,
     transition: Transition,
-    told: &mut Vec<Event>,
+    reported: &mut Vec<Event>,
 ) -> Result<(), Memory>
     requires { CanFollow state.old.memory state.old.activity.areas (effect_seen transition.effect) }
     ensures { IfOk result
         (λ _. IsStep code.now
         (transition_done (code_of code.now.program) (state_of code.now state.old) (transition_seen transition))
-        state.new told.old.items told.new.items) }
+        state.new reported.old.items reported.new.items) }
 {
     state.phase = transition.phase;
     state.operation = transition.operation;
     state.outcome = None;
-    seq_applied(code, state, transition.effect, told)?;
+    seq_applied(code, state, transition.effect, reported)?;
     Ok(())
 }

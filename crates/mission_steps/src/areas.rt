@@ -26,14 +26,14 @@ pub(crate) fn open_inside(
     position: Position,
     scope: ScopeId,
     bytes: u32,
-    told: &mut Vec<Event>,
+    reported: &mut Vec<Event>,
 ) -> Result<(), Memory>
     requires numbers { HasNumbers state.old.memory }
     requires few { open_count state.old.memory < 1794 }
     ensures { (code : Listing) →
         IfOk result
-        (λ _. IsStep code (area_opened (state_of code state.old) position scope bytes) state.new told.old.items
-        told.new.items) }
+        (λ _. IsStep code (area_opened (state_of code state.old) position scope bytes) state.new reported.old.items
+        reported.new.items) }
 {
     let parent = state.activity.areas.innermost();
     match open_area(
@@ -50,7 +50,7 @@ pub(crate) fn open_inside(
             Ok(())
         }
         None => {
-            halted(state, position, RunFault::StoreFull, told)?;
+            halted(state, position, RunFault::StoreFull, reported)?;
             Ok(())
         }
     }
@@ -63,14 +63,14 @@ pub(crate) fn make_safelet(
     state: &mut RunState,
     class: ClassId,
     area: AreaId,
-    told: &mut Vec<Event>,
+    reported: &mut Vec<Event>,
 ) -> Result<(), Memory>
     requires open { is_open_area state.old.memory area ≡ true }
     requires numbers { length state.old.memory.objects < 2 ^ 31 }
     ensures { IfOk result
         (λ _. IsStep code.now
         (safelet_made (code_of code.now.program) (state_of code.now state.old)
-        (class_position (code_of code.now.program).program class) class area) state.new told.old.items told.new.items) }
+        (class_position (code_of code.now.program).program class) class area) state.new reported.old.items reported.new.items) }
 {
     let object = new_object(alloc, code, class)?;
     match make_object(state, area, &object) {
@@ -79,7 +79,7 @@ pub(crate) fn make_safelet(
             Ok(())
         }
         None => {
-            halted(state, class_position(code, class), RunFault::MemoryFull, told)?;
+            halted(state, class_position(code, class), RunFault::MemoryFull, reported)?;
             Ok(())
         }
     }

@@ -28,14 +28,14 @@ use std::alloc::Global;
 fn open_immortal(
     code: &OpList<'_>,
     state: &mut RunState,
-    told: &mut Vec<Event>,
+    reported: &mut Vec<Event>,
 ) -> Result<bool, Memory>
     requires numbers { HasNumbers state.old.memory }
     requires few { open_count state.old.memory < 1794 }
     ensures { IfOk result
         (λ answer. IsTry code.now
         (sequencer_op (code_of code.now.program) (state_of code.now state.old) OpenImmortal) answer state.new
-        told.old.items told.new.items) }
+        reported.old.items reported.new.items) }
 {
     let Some(class) = safelet(code) else {
         return Ok(false);
@@ -48,7 +48,7 @@ fn open_immortal(
         class_position(code, class),
         ScopeId::IMMORTAL,
         bytes,
-        told,
+        reported,
     )?;
     Ok(true)
 }
@@ -58,14 +58,14 @@ fn alloc_safelet(
     alloc: Global,
     code: &OpList<'_>,
     state: &mut RunState,
-    told: &mut Vec<Event>,
+    reported: &mut Vec<Event>,
 ) -> Result<bool, Memory>
     requires areas { (a : ℕ) → is_among a state.old.activity.areas ≡ true → is_open_area state.old.memory a ≡ true }
     requires numbers { length state.old.memory.objects < 2 ^ 31 }
     ensures { IfOk result
         (λ answer. IsTry code.now
         (sequencer_op (code_of code.now.program) (state_of code.now state.old) AllocSafelet) answer state.new
-        told.old.items told.new.items) }
+        reported.old.items reported.new.items) }
 {
     let Some(class) = safelet(code) else {
         return Ok(false);
@@ -73,7 +73,7 @@ fn alloc_safelet(
     let Some(area) = state.activity.areas.innermost() else {
         return Ok(false);
     };
-    make_safelet(alloc, code, state, class, area, told)?;
+    make_safelet(alloc, code, state, class, area, reported)?;
     Ok(true)
 }
 
@@ -82,7 +82,7 @@ fn open_mission(
     code: &OpList<'_>,
     state: &mut RunState,
     r: Ref,
-    told: &mut Vec<Event>,
+    reported: &mut Vec<Event>,
 ) -> Result<bool, Memory>
     requires live { IsLive state.old.memory r }
     requires numbers { HasNumbers state.old.memory }
@@ -90,7 +90,7 @@ fn open_mission(
     ensures { IfOk result
         (λ answer. IsTry code.now
         (sequencer_op (code_of code.now.program) (state_of code.now state.old) (OpenMission r)) answer state.new
-        told.old.items told.new.items) }
+        reported.old.items reported.new.items) }
 {
     let Some(class) = class_of(&state.memory, r) else {
         return Ok(false);
@@ -101,7 +101,7 @@ fn open_mission(
     let Some(bytes) = size_of(code, class) else {
         return Ok(false);
     };
-    open_inside(state, class_position(code, class), scope, bytes, told)?;
+    open_inside(state, class_position(code, class), scope, bytes, reported)?;
     Ok(true)
 }
 
@@ -113,10 +113,10 @@ fn call_body(
     r: Ref,
     body: Body,
 ) -> Result<bool, Memory>
-    ensures { (told : List EventOfRun) →
+    ensures { (reported : List EventOfRun) →
         IfOk result
         (λ answer. IsTry code.now
-        (body_called (code_of code.now.program) (state_of code.now state.old) r body) answer state.new told told) }
+        (body_called (code_of code.now.program) (state_of code.now state.old) r body) answer state.new reported reported) }
 {
     let Some(area) = state.activity.areas.innermost() else {
         return Ok(false);
@@ -137,11 +137,11 @@ fn call_body(
 /// Calls an object's constructor.
 fn construct(alloc: Global, code: &OpList<'_>, state: &mut RunState, r: Ref) -> Result<bool, Memory>
     requires { IsLive state.old.memory r }
-    ensures { (told : List EventOfRun) →
+    ensures { (reported : List EventOfRun) →
         IfOk result
         (λ answer. IsTry code.now
         (sequencer_op (code_of code.now.program) (state_of code.now state.old) (ConstructSafelet r)) answer state.new
-        told told) }
+        reported reported) }
 {
     let Some(class) = class_of(&state.memory, r) else {
         return Ok(false);
@@ -163,11 +163,11 @@ fn call_method(
 ) -> Result<bool, Memory>
     requires live { IsLive state.old.memory r }
     requires name { length name.now ≤ 64 }
-    ensures { (told : List EventOfRun) →
+    ensures { (reported : List EventOfRun) →
         IfOk result
         (λ answer. IsTry code.now
-        (method_called (code_of code.now.program) (state_of code.now state.old) r name.now) answer state.new told
-        told) }
+        (method_called (code_of code.now.program) (state_of code.now state.old) r name.now) answer state.new reported
+        reported) }
 {
     let Some(class) = class_of(&state.memory, r) else {
         return Ok(false);
@@ -185,7 +185,7 @@ fn operate(
     code: &OpList<'_>,
     state: &mut RunState,
     operation: SeqOp,
-    told: &mut Vec<Event>,
+    reported: &mut Vec<Event>,
 ) -> Result<bool, Memory>
     requires live { IsOnLive state.old.memory operation }
     requires areas { (a : ℕ) → is_among a state.old.activity.areas ≡ true → is_open_area state.old.memory a ≡ true }
@@ -194,11 +194,11 @@ fn operate(
     ensures { IfOk result
         (λ answer. IsTry code.now
         (sequencer_op (code_of code.now.program) (state_of code.now state.old) operation) answer state.new
-        told.old.items told.new.items) }
+        reported.old.items reported.new.items) }
 {
     match operation {
-        SeqOp::OpenImmortal => open_immortal(code, state, told),
-        SeqOp::AllocSafelet => alloc_safelet(alloc, code, state, told),
+        SeqOp::OpenImmortal => open_immortal(code, state, reported),
+        SeqOp::AllocSafelet => alloc_safelet(alloc, code, state, reported),
         SeqOp::ConstructSafelet(r) => construct(alloc, code, state, r),
         SeqOp::InitializeApplication(r) => call_method(
             alloc,
@@ -209,7 +209,7 @@ fn operate(
         ),
         SeqOp::GetSequencer(r) => call_method(alloc, code, state, r, b"getSequencer"),
         SeqOp::GetNextMission(r) => call_method(alloc, code, state, r, b"getNextMission"),
-        SeqOp::OpenMission(r) => open_mission(code, state, r, told),
+        SeqOp::OpenMission(r) => open_mission(code, state, r, reported),
         SeqOp::Initialize(r) => call_method(alloc, code, state, r, b"initialize"),
         SeqOp::CleanUp(r) => call_method(alloc, code, state, r, b"cleanUp"),
         SeqOp::Execute => Ok(false),
@@ -222,7 +222,7 @@ pub fn sequencer_op(
     alloc: Global,
     code: &OpList<'_>,
     state: &mut RunState,
-    told: &mut Vec<Event>,
+    reported: &mut Vec<Event>,
 ) -> Result<bool, Memory>
     requires live { IsOnLive state.old.memory state.old.operation }
     requires areas { (a : ℕ) → is_among a state.old.activity.areas ≡ true → is_open_area state.old.memory a ≡ true }
@@ -231,9 +231,9 @@ pub fn sequencer_op(
     ensures { IfOk result
         (λ answer. IsTry code.now
         (sequencer_op (code_of code.now.program) (state_of code.now state.old) state.old.operation) answer state.new
-        told.old.items told.new.items) }
+        reported.old.items reported.new.items) }
 {
     let operation = state.operation;
-    let went = operate(alloc, code, state, operation, told)?;
+    let went = operate(alloc, code, state, operation, reported)?;
     Ok(went)
 }

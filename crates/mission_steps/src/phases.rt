@@ -42,19 +42,19 @@ fn after_operation(
     code: &OpList<'_>,
     state: &mut RunState,
     value: Value,
-    told: &mut Vec<Event>,
+    reported: &mut Vec<Event>,
 ) -> Result<bool, Memory>
     requires live { IsOnLive state.old.memory state.old.operation }
     requires closes { ClosesLast state.old.memory (innermost state.old.activity.areas) }
     ensures { IfOk result
         (λ answer. IsTry code.now
         (after_operation (code_of code.now.program) (state_of code.now state.old) value) answer state.new
-        told.old.items told.new.items) }
+        reported.old.items reported.new.items) }
 {
     let skips = skips_execution(state);
     match what_follows(state.mission_sequencer, skips, state.operation, value) {
         Some(next) => {
-            transition_done(code, state, next, told)?;
+            transition_done(code, state, next, reported)?;
             Ok(true)
         }
         None => Ok(false),
@@ -65,11 +65,11 @@ fn after_operation(
 fn after_execution(
     code: &OpList<'_>,
     state: &mut RunState,
-    told: &mut Vec<Event>,
+    reported: &mut Vec<Event>,
 ) -> Result<bool, Memory>
     ensures { IfOk result
         (λ answer. IsTry code.now (after_execution (code_of code.now.program) (state_of code.now state.old))
-        answer state.new told.old.items told.new.items) }
+        answer state.new reported.old.items reported.new.items) }
 {
     if !state.is_end_asked {
         return Ok(true);
@@ -85,7 +85,7 @@ fn after_execution(
         operation: SeqOp::CleanUp(mission),
         effect: SeqEffect::EndsExecution,
     };
-    transition_done(code, state, over, told)?;
+    transition_done(code, state, over, reported)?;
     Ok(true)
 }
 
@@ -93,22 +93,22 @@ fn after_execution(
 pub fn phase_after(
     code: &OpList<'_>,
     state: &mut RunState,
-    told: &mut Vec<Event>,
+    reported: &mut Vec<Event>,
 ) -> Result<bool, Memory>
     requires live { IsOnLive state.old.memory state.old.operation }
     requires closes { (value : ValueOfRun) → is_exec state.old.phase ≡ false → state.old.outcome ≡ Some value →
         ClosesLast state.old.memory (innermost state.old.activity.areas) }
     ensures { IfOk result
         (λ answer. IsTry code.now (phase_after (code_of code.now.program) (state_of code.now state.old))
-        answer state.new told.old.items told.new.items) }
+        answer state.new reported.old.items reported.new.items) }
 {
     if is_exec(state.phase) {
-        let went = after_execution(code, state, told)?;
+        let went = after_execution(code, state, reported)?;
         return Ok(went);
     }
     let Some(value) = state.outcome else {
         return Ok(true);
     };
-    let went = after_operation(code, state, value, told)?;
+    let went = after_operation(code, state, value, reported)?;
     Ok(went)
 }

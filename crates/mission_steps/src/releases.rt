@@ -3,7 +3,7 @@
 ghost use Rattle.std.specs.Prelude.{◌≡◌, ◌∷◌, [], IfOk};
 ghost use Rattle.op_list.specs.Listed.{Listing};
 ghost use Rattle.scj_model.specs.Apply.{asks_for_end, release_taken, released, takes_releases, termination, termination_asked};
-ghost use Rattle.run_releases.specs.Releases.{tell_taken};
+ghost use Rattle.run_releases.specs.Releases.{report_taken};
 ghost use Rattle.run_state.specs.Seen.{state_of};
 ghost use Rattle.run_state.specs.Steps.{IsStep};
 ghost use Rattle.mission_steps.specs.Asked.{execution_ended};
@@ -11,7 +11,7 @@ ghost use Rattle.mission_steps.specs.Asked.{execution_ended};
 use crate::life::{is_exec, is_init};
 use crate::registry::handler_number;
 use run_state::RunState;
-use run_state::told::tell;
+use run_state::reported::report;
 use scj_base::{Memory, Ref};
 use scj_model::Event;
 
@@ -25,7 +25,7 @@ pub fn takes_releases(state: &RunState) -> bool
 
 /// What the trace tells of a release of a handler that has this number, or is lost.
 fn event_of(unit: u64, handler: u8, number: Option<u64>) -> Event
-    ensures { result ∷ [] ≡ tell_taken unit handler number }
+    ensures { result ∷ [] ≡ report_taken unit handler number }
 {
     match number {
         Some(number) => Event::Arrive {
@@ -38,27 +38,27 @@ fn event_of(unit: u64, handler: u8, number: Option<u64>) -> Event
 }
 
 /// One more release of a handler waits, unless as many wait as may.
-pub fn release_taken(state: &mut RunState, handler: u8, told: &mut Vec<Event>) -> Result<(), Memory>
+pub fn release_taken(state: &mut RunState, handler: u8, reported: &mut Vec<Event>) -> Result<(), Memory>
     ensures { (code : Listing) →
         IfOk result
-        (λ _. IsStep code (release_taken (state_of code state.old) handler) state.new told.old.items told.new.items) }
+        (λ _. IsStep code (release_taken (state_of code state.old) handler) state.new reported.old.items reported.new.items) }
 {
     let number = state.releases.take_in(handler)?;
-    tell(told, event_of(state.unit, handler, number))?;
+    report(reported, event_of(state.unit, handler, number))?;
     Ok(())
 }
 
 /// `release` has an effect on a registered handler alone.
-pub(crate) fn released(state: &mut RunState, r: Ref, told: &mut Vec<Event>) -> Result<(), Memory>
+pub(crate) fn released(state: &mut RunState, r: Ref, reported: &mut Vec<Event>) -> Result<(), Memory>
     ensures { (code : Listing) →
-        IfOk result (λ _. IsStep code (released (state_of code state.old) r) state.new told.old.items told.new.items) }
+        IfOk result (λ _. IsStep code (released (state_of code state.old) r) state.new reported.old.items reported.new.items) }
 {
     if !takes_releases(state) {
         return Ok(());
     }
     match handler_number(state.registry.as_slice(), r)? {
         Some(handler) => {
-            release_taken(state, handler, told)?;
+            release_taken(state, handler, reported)?;
             Ok(())
         }
         None => Ok(()),
@@ -66,25 +66,25 @@ pub(crate) fn released(state: &mut RunState, r: Ref, told: &mut Vec<Event>) -> R
 }
 
 /// A mission that executes is asked to end, which drops the releases that wait.
-fn end_execution(state: &mut RunState, told: &mut Vec<Event>) -> Result<(), Memory>
+fn end_execution(state: &mut RunState, reported: &mut Vec<Event>) -> Result<(), Memory>
     ensures { (code : Listing) →
         IfOk result
-        (λ _. IsStep code (execution_ended (state_of code state.old)) state.new told.old.items told.new.items) }
+        (λ _. IsStep code (execution_ended (state_of code state.old)) state.new reported.old.items reported.new.items) }
 {
     let unit = state.unit;
-    tell(told, Event::Terminate { unit })?;
-    state.releases.drop_waiting(unit, told)?;
+    report(reported, Event::Terminate { unit })?;
+    state.releases.drop_waiting(unit, reported)?;
     state.is_end_asked = true;
     Ok(())
 }
 
 /// The mission is asked to end.
-fn termination(state: &mut RunState, told: &mut Vec<Event>) -> Result<(), Memory>
+fn termination(state: &mut RunState, reported: &mut Vec<Event>) -> Result<(), Memory>
     ensures { (code : Listing) →
-        IfOk result (λ _. IsStep code (termination (state_of code state.old)) state.new told.old.items told.new.items) }
+        IfOk result (λ _. IsStep code (termination (state_of code state.old)) state.new reported.old.items reported.new.items) }
 {
     if is_exec(state.phase) {
-        end_execution(state, told)?;
+        end_execution(state, reported)?;
         Ok(())
     } else {
         state.is_end_asked = true;
@@ -109,14 +109,14 @@ fn asks_for_end(state: &RunState, r: Ref) -> bool
 pub(crate) fn termination_asked(
     state: &mut RunState,
     r: Ref,
-    told: &mut Vec<Event>,
+    reported: &mut Vec<Event>,
 ) -> Result<(), Memory>
     ensures { (code : Listing) →
         IfOk result
-        (λ _. IsStep code (termination_asked (state_of code state.old) r) state.new told.old.items told.new.items) }
+        (λ _. IsStep code (termination_asked (state_of code state.old) r) state.new reported.old.items reported.new.items) }
 {
     if asks_for_end(state, r) {
-        termination(state, told)?;
+        termination(state, reported)?;
         Ok(())
     } else {
         Ok(())

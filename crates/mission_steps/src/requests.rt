@@ -21,7 +21,7 @@ use job_frames::Activity;
 use op_list::OpList;
 use run_state::ends::fault_in;
 use run_state::jobs::put_back;
-use run_state::told::tell;
+use run_state::reported::report;
 use run_state::{Acting, Job, RunState};
 use scj_base::{Memory, Ref, RunFault};
 use scj_model::{Event, HandlerRow};
@@ -56,19 +56,19 @@ fn next_number(count: usize) -> Result<u8, Memory>
 }
 
 /// Tells that a handler is registered behind the others.
-fn tell_registered(
+fn report_registered(
     code: &OpList<'_>,
     state: &RunState,
     row: &HandlerRow,
-    told: &mut Vec<Event>,
+    reported: &mut Vec<Event>,
 ) -> Result<(), Memory>
     ensures { OnOk result
-        (told.new.items ≡ told.old.items ++ registration state.now.unit (length state.now.registry.items + 1)
+        (reported.new.items ≡ reported.old.items ++ registration state.now.unit (length state.now.registry.items + 1)
         (class_name (code_of code.now.program) row.now.class) row.now.priority ∷ []) }
 {
     let handler = next_number(state.registry.len())?;
-    tell(
-        told,
+    report(
+        reported,
         Event::Register {
             unit: state.unit,
             handler,
@@ -86,15 +86,15 @@ fn enter(
     job: Job,
     activity: Activity,
     row: HandlerRow,
-    told: &mut Vec<Event>,
+    reported: &mut Vec<Event>,
 ) -> Result<(), Memory>
     ensures { IfOk result
         (λ _. IsStep code.now
         (newly_registered (code_of code.now.program) (state_of code.now state.old) row
         (with_activity (state_of code.now state.old) (job_seen job)
-        (activity_seen code.now activity))) state.new told.old.items told.new.items) }
+        (activity_seen code.now activity))) state.new reported.old.items reported.new.items) }
 {
-    tell_registered(code, state, &row, told)?;
+    report_registered(code, state, &row, reported)?;
     put_back(state, job, activity)?;
     state.registry.push(row)?;
     Ok(())
@@ -107,7 +107,7 @@ fn register(
     acting: Acting,
     activity: Activity,
     row: HandlerRow,
-    told: &mut Vec<Event>,
+    reported: &mut Vec<Event>,
 ) -> Result<(), Memory>
     requires { CloseInOrder state.old.memory activity.frames }
     ensures { (r : ℕ) (o : ObjectOfRun) → row ≡ new_row (code_of code.now.program).program r o →
@@ -116,10 +116,10 @@ fn register(
         (registered (code_of code.now.program) (state_of code.now state.old) (job_seen acting.job)
         (activity_seen code.now activity) acting.position r o
         (with_activity (state_of code.now state.old) (job_seen acting.job)
-        (activity_seen code.now activity))) state.new told.old.items told.new.items) }
+        (activity_seen code.now activity))) state.new reported.old.items reported.new.items) }
 {
     if !is_init(state.phase) {
-        fault_in(state, acting, &activity, RunFault::NotInitializing, told)?;
+        fault_in(state, acting, &activity, RunFault::NotInitializing, reported)?;
         return Ok(());
     }
     if handler_number(state.registry.as_slice(), row.at)?.is_some() {
@@ -127,10 +127,10 @@ fn register(
         return Ok(());
     }
     if state.registry.len() >= MOST_HANDLERS {
-        fault_in(state, acting, &activity, RunFault::TooManyHandlers, told)?;
+        fault_in(state, acting, &activity, RunFault::TooManyHandlers, reported)?;
         return Ok(());
     }
-    enter(code, state, acting.job, activity, row, told)?;
+    enter(code, state, acting.job, activity, row, reported)?;
     Ok(())
 }
 
@@ -141,18 +141,18 @@ pub fn asks_registration(
     acting: Acting,
     activity: Activity,
     r: Ref,
-    told: &mut Vec<Event>,
+    reported: &mut Vec<Event>,
 ) -> Result<bool, Memory>
     requires closes { CloseInOrder state.old.memory activity.frames }
     requires live { IsLive state.old.memory r }
     ensures { IfOk result
         (λ answer. IsApplied code.now state.old acting activity (λ f. AsksRegistration f r) answer state.new
-        told.old.items told.new.items) }
+        reported.old.items reported.new.items) }
 {
     let Some(row) = row_of(code, state, r)? else {
         return Ok(false);
     };
-    register(code, state, acting, activity, row, told)?;
+    register(code, state, acting, activity, row, reported)?;
     Ok(true)
 }
 
@@ -163,14 +163,14 @@ pub fn asks_release(
     acting: Acting,
     activity: Activity,
     r: Ref,
-    told: &mut Vec<Event>,
+    reported: &mut Vec<Event>,
 ) -> Result<bool, Memory>
     ensures { IfOk result
         (λ answer. IsApplied code.now state.old acting activity (λ f. AsksRelease f r) answer state.new
-        told.old.items told.new.items) }
+        reported.old.items reported.new.items) }
 {
     put_back(state, acting.job, activity)?;
-    released(state, r, told)?;
+    released(state, r, reported)?;
     Ok(true)
 }
 
@@ -181,13 +181,13 @@ pub fn asks_termination(
     acting: Acting,
     activity: Activity,
     r: Ref,
-    told: &mut Vec<Event>,
+    reported: &mut Vec<Event>,
 ) -> Result<bool, Memory>
     ensures { IfOk result
         (λ answer. IsApplied code.now state.old acting activity (λ f. AsksTermination f r) answer state.new
-        told.old.items told.new.items) }
+        reported.old.items reported.new.items) }
 {
     put_back(state, acting.job, activity)?;
-    termination_asked(state, r, told)?;
+    termination_asked(state, r, reported)?;
     Ok(true)
 }

@@ -90,7 +90,7 @@ fn started_with(
     code: &OpList<'_>,
     state: &mut RunState,
     start: &Start,
-    told: &mut Vec<Event>,
+    reported: &mut Vec<Event>,
 ) -> Result<(), Memory>
     requires numbers { HasNumbers state.old.memory }
     requires few { open_count state.old.memory < 1794 }
@@ -98,7 +98,7 @@ fn started_with(
         (λ _. IsStep code.now
         (started_with (code_of code.now.program) (state_of code.now state.old) start.now.index start.now.row
         start.now.scope
-        start.now.body) state.new told.old.items told.new.items) }
+        start.now.body) state.new reported.old.items reported.new.items) }
 {
     let parent = state.activity.areas.innermost();
     let areas = shared(alloc, &state.activity.areas)?;
@@ -125,7 +125,7 @@ fn started_with(
                 acting,
                 &Activity::empty(alloc),
                 RunFault::StoreFull,
-                told,
+                reported,
             )?;
             Ok(())
         }
@@ -139,7 +139,7 @@ pub fn start_op(
     state: &mut RunState,
     index: usize,
     handler: u8,
-    told: &mut Vec<Event>,
+    reported: &mut Vec<Event>,
 ) -> Result<bool, Memory>
     requires numbers { HasNumbers state.old.memory }
     requires few { (row : RowOfRun) → handler_row state.old.registry.items handler ≡ Some row →
@@ -147,8 +147,8 @@ pub fn start_op(
     ensures { (r : ReleaseOfRun) → r.handler ≡ handler →
         IfOk result
         (λ answer. IsTry code.now
-        (start_op (code_of code.now.program) (state_of code.now state.old) index r) answer state.new told.old.items
-        told.new.items) }
+        (start_op (code_of code.now.program) (state_of code.now state.old) index r) answer state.new reported.old.items
+        reported.new.items) }
 {
     let Some(row) = handler_row(state.registry.as_slice(), handler) else {
         return Ok(false);
@@ -165,6 +165,6 @@ pub fn start_op(
         scope,
         body,
     };
-    started_with(alloc, code, state, &start, told)?;
+    started_with(alloc, code, state, &start, reported)?;
     Ok(true)
 }

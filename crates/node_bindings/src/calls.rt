@@ -4,7 +4,7 @@ ghost use Rattle.std.specs.Prelude.{◌≡◌};
 ghost use Rattle.scj_rules.specs.Types.{call_receiver, called_method};
 ghost use Rattle.scj_rules.specs.Bindings.{plain_or, second_class, called_on, target, method_binding};
 ghost use Rattle.method_rows.specs.Methods.{found_method};
-ghost use Rattle.program_facts.specs.Told.{declared, types};
+ghost use Rattle.program_facts.specs.Reported.{declared, types};
 
 use method_rows::{MethodRef, builtin, is_static, node, result_type};
 use program_facts::At;

@@ -7,7 +7,7 @@ ghost use Rattle.scj_rules.specs.Contexts.{declarations_of, context};
 ghost use Rattle.scj_rules.specs.Types.{accessed_field, receiver};
 ghost use Rattle.scj_rules.specs.Bindings.{array_class, plain_or, field_binding, class_binding, access_binding};
 ghost use Rattle.class_rows.specs.Fields.{found_field};
-ghost use Rattle.program_facts.specs.Told.{declared, types};
+ghost use Rattle.program_facts.specs.Reported.{declared, types};
 
 use class_rows::fields::is_static_field;
 use class_rows::{ClassTable, FieldRef};

@@ -10,7 +10,7 @@ use node_views::is_variable;
 use program_facts::Facts;
 use scj_base::{Memory, NodeId};
 use scj_rules::Binding;
-use scj_tree::told;
+use scj_tree::row_or;
 
 /// Whether a node declares a variable of a member.
 #[tactic(auto, unfolding(scj_rules::specs::Contexts::declarations_of))]
@@ -26,7 +26,7 @@ fn index_of(facts: &Facts<'_>, numbers: &[u32], member: NodeId, variable: NodeId
     ensures { result ≡ position (λ v. v == variable) (variables_of (declarations_of facts.now) member) }
 {
     if is_variable_of(facts, member, variable) {
-        Some(told(numbers, 0, variable))
+        Some(row_or(numbers, 0, variable))
     } else {
         None
     }

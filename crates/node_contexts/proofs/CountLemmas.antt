@@ -171,9 +171,9 @@ place_is p member variable numbers e =
     go true t =
         let owner = owned p variable member t in
         let there = lt-ltb variable (length p.nodes) (within p variable member owner) in
-        let is_told : lookup 0 numbers variable ≡ number_before p variable =
+        let is_reported : lookup 0 numbers variable ≡ number_before p variable =
         ap (λ ns. lookup 0 ns variable) e ∙ sym (number_at p variable) in
-        rw there (ap (λ n. Some n) (sym (is_told ∙ number_is p variable (Some member) owner)))
+        rw there (ap (λ n. Some n) (sym (is_reported ∙ number_is p variable (Some member) owner)))
 
 -- ---- counting on
 

@@ -21,7 +21,7 @@ use Rattle.scj_rules.proofs.WithinLemmas.{position-below}
 use Rattle.node_contexts.specs.declared.kinds.Difference.{Difference}
 use Rattle.node_contexts.specs.declared.kinds.Difference.TheVariants.{Nothing, InTurn, Parameters, Object}
 use Rattle.node_contexts.specs.declared.rows.Family.{Family}
-use Rattle.node_contexts.specs.Steps.{declared_by, declared_behind, last_at, last_behind, object_in, of_child, shared, AreTold, AreSpread}
+use Rattle.node_contexts.specs.Steps.{declared_by, declared_behind, last_at, last_behind, object_in, of_child, shared, AreReported, AreSpread}
 
 -- ---- parent after parent
 
@@ -33,7 +33,7 @@ module _ (forest : Forest) (whole : IsForest forest) where
   all = contexts_in forest
 
   -- the context of a node whose parents are done
-  pub own : (k : ℕ) (node : Node) (rows : List Context) → slice_get nodes k ≡ Some node → AreTold forest (k + 1) [] rows
+  pub own : (k : ℕ) (node : Node) (rows : List Context) → slice_get nodes k ≡ Some node → AreReported forest (k + 1) [] rows
       → lookup outermost rows k ≡ lookup outermost all k
   own k node rows there t =
       t.exact k (slice_get_within nodes k node there)
@@ -42,7 +42,7 @@ module _ (forest : Forest) (whole : IsForest forest) where
 
   -- a parent more, before its children
   pub begun : (k : ℕ) (node : Node) (rows : List Context) → slice_get nodes k ≡ Some node →
-      AreTold forest (k + 1) [] rows → AreTold forest k (children node) rows
+      AreReported forest (k + 1) [] rows → AreReported forest k (children node) rows
   begun k node rows there t =
       record { whole = t.whole; exact = λ id l above other. t.exact id l (λ q e. later id q other e (above q e)) refl }
     where
@@ -55,7 +55,7 @@ module _ (forest : Forest) (whole : IsForest forest) where
           ⊎_elim (λ (l : k < q). omega (arith, l)) (λ (l : q ≤ k). absurd (apart (omega (arith, l, up)))) (cases_lt k q)
 
   pub started : (rows : List Context) → rows ≡ replicate (length nodes) outermost →
-      AreTold forest (length nodes) [] rows
+      AreReported forest (length nodes) [] rows
   unfolding parent_in
   started rows e =
       record {
@@ -71,7 +71,7 @@ module _ (forest : Forest) (whole : IsForest forest) where
       none id l above (Some q) f =
           absurd (omega (arith, above q f, position-below (λ (n : Node). is_among id (children n)) nodes q f))
 
-  pub ended : (rows : List Context) → AreTold forest 0 [] rows → rows ≡ contexts_in forest
+  pub ended : (rows : List Context) → AreReported forest 0 [] rows → rows ≡ contexts_in forest
   unfolding contexts_in
   ended rows t =
       ext_get_or outermost rows all
@@ -83,7 +83,7 @@ module _ (forest : Forest) (whole : IsForest forest) where
 -- before the first child
 pub spread_first : (forest : Forest) → IsForest forest → (parent : ℕ) (node : Node) (family : Family) (rest : List ℕ)
     (known : Option ℕ) (above : Context) (rows : List Context) → slice_get forest.nodes parent ≡ Some node →
-    AreTold forest (parent + 1) [] rows → family.base ≡ shared (joined forest.files) parent node above →
+    AreReported forest (parent + 1) [] rows → family.base ≡ shared (joined forest.files) parent node above →
     above ≡ lookup outermost rows parent → object_in family.difference ≡ object_of node →
     ((child : ℕ) → declared_before forest.nodes node child ≡ declared_by forest.nodes (children node) family.difference
     child) → rest ≡ children node → known ≡ last_variable forest.nodes family.base.last
@@ -100,7 +100,7 @@ spread_first forest whole parent node family rest known above rows there t b a o
       done = [];
       parts = e;
       is_last = l;
-      told = subst (λ ids. AreTold forest parent ids rows) (sym e) (begun forest whole parent node rows there t);
+      reported = subst (λ ids. AreReported forest parent ids rows) (sym e) (begun forest whole parent node rows there t);
     }
 
 among-middle : (done rest : List ℕ) (c : ℕ) → is_among c (done ++ c ∷ rest) ≡ true
@@ -174,8 +174,8 @@ spread_next forest parent node family rest known next rows child row e f l s =
       done = s.done ++ child ∷ [];
       parts = append_assoc s.done (child ∷ []) rest ∙ s.parts;
       is_last = f ∙ behind-is forest.nodes family.difference s.done family.base.last known child s.is_last;
-      told = record {
-        whole = length-set rows child row ∙ s.told.whole;
+      reported = record {
+        whole = length-set rows child row ∙ s.reported.whole;
         exact = λ id m above other. at id m above other (cases_eq id child);
       };
     }
@@ -203,4 +203,4 @@ spread_next forest parent node family rest known next rows child row e f l s =
         ⊎_elim (λ (same : id ≡ child). ap (lookup outermost (set rows child row)) same
         ∙ get_or-set_same rows child row outermost l ∙ value ∙ ap (lookup outermost (contexts_in forest)) (sym same))
         (λ (apart : id ≢ child). get_or-set_other rows child id row outermost apart
-        ∙ s.told.exact id m above (ap (λ b. b || is_among id rest) (ne_eqb id child apart) ∙ other))
+        ∙ s.reported.exact id m above (ap (λ b. b || is_among id rest) (ne_eqb id child apart) ∙ other))

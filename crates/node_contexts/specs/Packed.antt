@@ -2,15 +2,15 @@
 use Rattle.std.specs.Prelude.{◌≡◌, ℕ, zero, suc, Option, Some, None, refl}
 
 -- what is told by a number that is kept
-unfoldable pub told : ℕ → Option ℕ
-told zero = None
-told (suc number) = Some number
+unfoldable pub reported : ℕ → Option ℕ
+reported zero = None
+reported (suc number) = Some number
 
 abbrev pub kept : Option ℕ → ℕ
 kept None = 0
 kept (Some number) = suc number
 
-pub kept-told : (n : ℕ) → kept (told n) ≡ n
-unfolding told
-kept-told zero = refl
-kept-told (suc n) = refl
+pub kept-reported : (n : ℕ) → kept (reported n) ≡ n
+unfolding reported
+kept-reported zero = refl
+kept-reported (suc n) = refl

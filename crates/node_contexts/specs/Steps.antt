@@ -82,7 +82,7 @@ pub record IsFamily (forest : Forest) (parent : ℕ) (node : Node) (family : Fam
       family.difference child
 
 -- the contexts of the nodes without a parent below k are there, but for those of some nodes
-pub record AreTold (forest : Forest) (k : ℕ) (rest : List ℕ) (rows : List Context) : Type 0 where
+pub record AreReported (forest : Forest) (k : ℕ) (rest : List ℕ) (rows : List Context) : Type 0 where
   pub whole : length rows ≡ length forest.nodes
   pub exact : (id : ℕ) → id < length forest.nodes
       → ((parent : ℕ) → parent_in forest.nodes id ≡ Some parent → k ≤ parent) → is_among id rest ≡ false
@@ -96,4 +96,4 @@ pub record AreSpread (forest : Forest) (parent : ℕ) (node : Node) (family : Fa
   pub parts : done ++ rest ≡ children node
   pub is_last : known ≡ last_variable forest.nodes family.base.last
       (declared_behind forest.nodes family.difference done)
-  pub told : AreTold forest parent rest rows
+  pub reported : AreReported forest parent rest rows

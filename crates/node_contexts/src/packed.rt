@@ -3,7 +3,7 @@
 ghost use Rattle.std.specs.Prelude.{◌≡◌, ◌+◌, ℕ, List, IfOk, Some, if◌then◌else◌};
 ghost use Rattle.scj_rules.specs.Words.{or_else};
 ghost use Rattle.scj_rules.specs.Contexts.{outermost, number_of_class, is_member};
-ghost use Rattle.node_contexts.specs.Packed.{told};
+ghost use Rattle.node_contexts.specs.Packed.{reported};
 ghost use Rattle.node_contexts.specs.Steps.{shared};
 
 use crate::kinds::{is_member, is_super_call};
@@ -27,12 +27,12 @@ impl Model for PackedContext {
 
     ghost Value = { Row };
 
-    ghost use Rattle.node_contexts.specs.Packed.{told, kept, kept-told};
+    ghost use Rattle.node_contexts.specs.Packed.{reported, kept, kept-reported};
 
     ghost view = { λ a. record {
-      class = told a.class;
-      member = told a.member;
-      last = told a.last;
+      class = reported a.class;
+      member = reported a.member;
+      last = reported a.last;
       in_super_call = a.in_super_call;
       before_dot = a.before_dot;
     } };
@@ -46,9 +46,9 @@ impl Model for PackedContext {
     } };
 
     ghost inverse_ok = { λ a h i. record {
-      class = kept-told a.class i;
-      member = kept-told a.member i;
-      last = kept-told a.last i;
+      class = kept-reported a.class i;
+      member = kept-reported a.member i;
+      last = kept-reported a.last i;
       in_super_call = a.in_super_call;
       before_dot = a.before_dot;
     } };
@@ -65,17 +65,17 @@ fn raised(number: u32) -> Result<u32, Memory>
 }
 
 /// A node, as it is kept.
-#[tactic(auto, unfolding(crate::specs::Packed::told))]
+#[tactic(auto, unfolding(crate::specs::Packed::reported))]
 pub fn kept_node(node: NodeId) -> Result<u32, Memory>
-    ensures { IfOk result (λ kept. told kept ≡ Some node) }
+    ensures { IfOk result (λ kept. reported kept ≡ Some node) }
 {
     raised(node.number() as u32)
 }
 
 /// The node that is kept, if one is.
-#[tactic(auto, unfolding(crate::specs::Packed::told))]
-fn node_told(kept: u32) -> Option<NodeId>
-    ensures { result ≡ told kept }
+#[tactic(auto, unfolding(crate::specs::Packed::reported))]
+fn node_reported(kept: u32) -> Option<NodeId>
+    ensures { result ≡ reported kept }
 {
     if kept == 0 {
         return None;
@@ -84,9 +84,9 @@ fn node_told(kept: u32) -> Option<NodeId>
 }
 
 /// The class that is kept, if one is.
-#[tactic(auto, unfolding(crate::specs::Packed::told))]
-fn class_told(kept: u32) -> Option<ClassId>
-    ensures { result ≡ told kept }
+#[tactic(auto, unfolding(crate::specs::Packed::reported))]
+fn class_reported(kept: u32) -> Option<ClassId>
+    ensures { result ≡ reported kept }
 {
     if kept == 0 {
         return None;
@@ -95,9 +95,9 @@ fn class_told(kept: u32) -> Option<ClassId>
 }
 
 /// The class, as it is kept, and `other` where there is none.
-#[tactic(auto, unfolding(crate::specs::Packed::told))]
+#[tactic(auto, unfolding(crate::specs::Packed::reported))]
 fn class_or(class: Option<ClassId>, other: u32) -> Result<u32, Memory>
-    ensures { IfOk result (λ kept. told kept ≡ or_else class (told other)) }
+    ensures { IfOk result (λ kept. reported kept ≡ or_else class (reported other)) }
 {
     match class {
         Some(class) => raised(class.number()),
@@ -107,7 +107,7 @@ fn class_or(class: Option<ClassId>, other: u32) -> Result<u32, Memory>
 
 /// The member at or above a node, as it is kept.
 fn member_or(parent: NodeId, node: &Node, other: u32) -> Result<u32, Memory>
-    ensures { IfOk result (λ kept. told kept ≡ (if is_member node.now then Some parent else told other)) }
+    ensures { IfOk result (λ kept. reported kept ≡ (if is_member node.now then Some parent else reported other)) }
 {
     if is_member(node) {
         return kept_node(parent);
@@ -117,7 +117,7 @@ fn member_or(parent: NodeId, node: &Node, other: u32) -> Result<u32, Memory>
 
 impl PackedContext {
     /// The context of a node that has no parent.
-    #[tactic(auto, unfolding(crate::specs::Packed::told))]
+    #[tactic(auto, unfolding(crate::specs::Packed::reported))]
     pub fn outermost() -> PackedContext
         ensures { result ≡ outermost }
     {
@@ -135,9 +135,9 @@ impl PackedContext {
         ensures { result ≡ self }
     {
         Context {
-            class: class_told(self.class),
-            member: node_told(self.member),
-            last: node_told(self.last),
+            class: class_reported(self.class),
+            member: node_reported(self.member),
+            last: node_reported(self.last),
             in_super_call: self.in_super_call,
             before_dot: self.before_dot,
         }
@@ -145,7 +145,7 @@ impl PackedContext {
 
     /// The last variable that is known, as it is kept.
     pub fn last(self) -> u32
-        ensures { told result ≡ self.last }
+        ensures { reported result ≡ self.last }
     {
         self.last
     }
@@ -174,7 +174,7 @@ impl PackedContext {
 
     /// The context of a child, from what is the same for all.
     pub fn of_child(self, last: u32, before_dot: bool) -> PackedContext
-        ensures { result ≡ record self { last = told last; before_dot = before_dot } }
+        ensures { result ≡ record self { last = reported last; before_dot = before_dot } }
     {
         PackedContext {
             last,

@@ -7,14 +7,14 @@ ghost use Rattle.scj_tree.specs.Parts.{ids_of};
 ghost use Rattle.scj_tree.specs.Recursion.{lookup};
 ghost use Rattle.scj_tree.specs.Shape.{optional};
 ghost use Rattle.scj_rules.specs.Contexts.{outermost, last_variable, number_of_class};
-ghost use Rattle.node_contexts.specs.Packed.{told};
-ghost use Rattle.node_contexts.specs.Steps.{object_in, of_child, declared_behind, last_at, last_behind, AreTold, AreSpread};
+ghost use Rattle.node_contexts.specs.Packed.{reported};
+ghost use Rattle.node_contexts.specs.Steps.{object_in, of_child, declared_behind, last_at, last_behind, AreReported, AreSpread};
 
 use crate::kinds::{Difference, Few, difference_of, few_of};
 use crate::packed::{PackedContext, kept_node};
 use node_views::is_variable;
 use scj_base::{ClassId, Memory, NodeId};
-use scj_tree::{Node, Parts, Program, parts_of, told};
+use scj_tree::{Node, Parts, Program, parts_of, row_or};
 
 /// What the children of a node share.
 #[derive(Clone, Copy)]
@@ -27,13 +27,13 @@ pub struct Family {
 pub fn row_at(rows: &[PackedContext], id: NodeId) -> PackedContext
     ensures { result ≡ lookup outermost rows.now id }
 {
-    told(rows, PackedContext::outermost(), id)
+    row_or(rows, PackedContext::outermost(), id)
 }
 
 /// The last of these nodes that declares a variable, if one does, and else the one that is known before them.
 #[tactic(auto, unfolding(scj_rules::specs::Contexts::last_variable))]
 fn last_among(program: &Program, ids: &[NodeId], before: u32) -> Result<u32, Memory>
-    ensures { IfOk result (λ last. told last ≡ last_variable program.now.nodes (told before) ids.now) }
+    ensures { IfOk result (λ last. reported last ≡ last_variable program.now.nodes (reported before) ids.now) }
 {
     let mut known = before;
     let mut rest = ids;
@@ -49,7 +49,7 @@ fn last_among(program: &Program, ids: &[NodeId], before: u32) -> Result<u32, Mem
 /// The last variable that is known behind no child yet.
 #[tactic(auto, unfolding(scj_rules::specs::Contexts::parameter_nodes, scj_rules::specs::Contexts::last_variable))]
 fn first_known(program: &Program, difference: &Difference, before: u32) -> Result<u32, Memory>
-    ensures { IfOk result (λ known. told known ≡ last_variable program.now.nodes (told before)
+    ensures { IfOk result (λ known. reported known ≡ last_variable program.now.nodes (reported before)
         (declared_behind program.now.nodes difference.now [])) }
 {
     match difference {
@@ -63,7 +63,7 @@ fn first_known(program: &Program, difference: &Difference, before: u32) -> Resul
 
 /// The last variable that is known behind a child.
 fn last_behind(program: &Program, family: &Family, known: u32, child: NodeId) -> Result<u32, Memory>
-    ensures { IfOk result (λ last. told last ≡ last_behind program.now.nodes family.now.difference (told known) child) }
+    ensures { IfOk result (λ last. reported last ≡ last_behind program.now.nodes family.now.difference (reported known) child) }
 {
     match &family.difference {
         Difference::InTurn => {
@@ -80,7 +80,7 @@ fn last_behind(program: &Program, family: &Family, known: u32, child: NodeId) ->
 /// The row of a child.
 fn row_of(family: &Family, known: u32, child: NodeId) -> PackedContext
     ensures { result ≡ of_child family.now.base (object_in family.now.difference)
-        (last_at family.now.difference family.now.base.last (told known) child) child }
+        (last_at family.now.difference family.now.base.last (reported known) child) child }
 {
     let base = family.base;
     match &family.difference {
@@ -106,8 +106,8 @@ fn put(
     child: NodeId,
 ) -> Result<u32, Memory>
     ensures { IfOk result (λ next. (parent : ℕ) (node : Tree) (rest : List ℕ) →
-        AreSpread program.now parent node family.now (child ∷ rest) (told known) rows.old.items →
-        AreSpread program.now parent node family.now rest (told next) rows.new.items) }
+        AreSpread program.now parent node family.now (child ∷ rest) (reported known) rows.old.items →
+        AreSpread program.now parent node family.now rest (reported next) rows.new.items) }
 {
     let number = child.number();
     if number >= rows.len() {
@@ -127,8 +127,8 @@ fn put_optional(
     child: Option<NodeId>,
 ) -> Result<u32, Memory>
     ensures { IfOk result (λ next. (parent : ℕ) (node : Tree) (rest : List ℕ) →
-        AreSpread program.now parent node family.now (optional child ++ rest) (told known) rows.old.items →
-        AreSpread program.now parent node family.now rest (told next) rows.new.items) }
+        AreSpread program.now parent node family.now (optional child ++ rest) (reported known) rows.old.items →
+        AreSpread program.now parent node family.now rest (reported next) rows.new.items) }
 {
     match child {
         Some(child) => put(program, rows, family, known, child),
@@ -145,8 +145,8 @@ fn put_all(
     list: &[NodeId],
 ) -> Result<u32, Memory>
     ensures { IfOk result (λ next. (parent : ℕ) (node : Tree) →
-        AreSpread program.now parent node family.now list.now (told known) rows.old.items →
-        AreSpread program.now parent node family.now [] (told next) rows.new.items) }
+        AreSpread program.now parent node family.now list.now (reported known) rows.old.items →
+        AreSpread program.now parent node family.now [] (reported next) rows.new.items) }
 {
     let mut known = known;
     let mut rest = list;
@@ -167,9 +167,9 @@ fn put_pair(
     second: Option<NodeId>,
 ) -> Result<u32, Memory>
     ensures { IfOk result (λ next. (parent : ℕ) (node : Tree) (rest : List ℕ) →
-        AreSpread program.now parent node family.now (optional first ++ (optional second ++ rest)) (told known)
+        AreSpread program.now parent node family.now (optional first ++ (optional second ++ rest)) (reported known)
         rows.old.items →
-        AreSpread program.now parent node family.now rest (told next) rows.new.items) }
+        AreSpread program.now parent node family.now rest (reported next) rows.new.items) }
 {
     let next = put_optional(program, rows, family, known, first)?;
     let last = put_optional(program, rows, family, next, second)?;
@@ -185,8 +185,8 @@ fn put_parts(
     parts: &Parts<'_>,
 ) -> Result<u32, Memory>
     ensures { IfOk result (λ next. (parent : ℕ) (node : Tree) →
-        AreSpread program.now parent node family.now (ids_of parts.now) (told known) rows.old.items →
-        AreSpread program.now parent node family.now [] (told next) rows.new.items) }
+        AreSpread program.now parent node family.now (ids_of parts.now) (reported known) rows.old.items →
+        AreSpread program.now parent node family.now [] (reported next) rows.new.items) }
 {
     match parts {
         Parts::Nothing => Ok(known),
@@ -223,8 +223,8 @@ fn spread_more(
     requires whole { IsForest program.now }
     requires there { slice_get program.now.nodes parent ≡ Some node.now }
     requires number { class ≡ number_of_class (joined program.now.files) parent }
-    requires told { AreTold program.now (parent + 1) [] rows.old.items }
-    ensures { OnOk result (AreTold program.now parent [] rows.new.items) }
+    requires reported { AreReported program.now (parent + 1) [] rows.old.items }
+    ensures { OnOk result (AreReported program.now parent [] rows.new.items) }
 {
     let base = row_at(rows, parent).shared(class, parent, node)?;
     let family = Family {
@@ -247,8 +247,8 @@ pub fn spread_children(
     requires whole { IsForest program.now }
     requires there { slice_get program.now.nodes parent ≡ Some node.now }
     requires number { class ≡ number_of_class (joined program.now.files) parent }
-    requires told { AreTold program.now (parent + 1) [] rows.old.items }
-    ensures { OnOk result (AreTold program.now parent [] rows.new.items) }
+    requires reported { AreReported program.now (parent + 1) [] rows.old.items }
+    ensures { OnOk result (AreReported program.now parent [] rows.new.items) }
 {
     let None = class else {
         return spread_more(program, class, parent, node, rows);

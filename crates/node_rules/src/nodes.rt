@@ -17,7 +17,7 @@ use node_contexts::Contexts;
 use node_views::modifiers_at;
 use scj_base::{Found, Memory, NodeId, Rule};
 use scj_rules::report_if;
-use scj_tree::{Node, NodeKind, told};
+use scj_tree::{Node, NodeKind, row_or};
 
 /// Whether the rules on single nodes ask nodes of this kind.
 #[tactic(auto, unfolding(crate::specs::Nodes::is_asked_kind))]
@@ -154,7 +154,7 @@ fn note_node(
     ensures { OnOk result (found.new.items ≡ found.old.items ++ noted_at (declarations_of classes.now) id) }
 {
     note_asked(found, classes, contexts, id)?;
-    note_late(found, classes.program(), contexts, id, told(numbers, 0, id))?;
+    note_late(found, classes.program(), contexts, id, row_or(numbers, 0, id))?;
     Ok(())
 }
 

@@ -171,18 +171,18 @@ module _ (forest : Forest) (class : ℕ) (past : length (declarations_of forest)
 -- ---- what tables of all classes tell
 
 -- a table of all classes tells what is said of each number, where nothing is said of those behind them
-table_tells : {A : Type 0} (default : A) (f : ℕ → A) (n : ℕ) → ((a : ℕ) → n ≤ a → f a ≡ default) → (xs : List A) →
+table_reports : {A : Type 0} (default : A) (f : ℕ → A) (n : ℕ) → ((a : ℕ) → n ≤ a → f a ≡ default) → (xs : List A) →
     xs ≡ listed f n → (a : ℕ) → lookup default xs a ≡ f a
-table_tells default f n past xs e a =
+table_reports default f n past xs e a =
     ap (λ t. lookup default t a) e ∙ listed-at default f n a ∙ grind (arith, nat_tests, past a)
 
 -- the scope that the chain of a class defines
-pub scope_told : (forest : Forest) (scopes : List (Option ℕ)) (class : ℕ)
+pub scope_reported : (forest : Forest) (scopes : List (Option ℕ)) (class : ℕ)
     → AreChainedScopes forest scopes
     → lookup None scopes class ≡ defined_by_chain (declarations_of forest) class
-scope_told forest scopes class e =
+scope_reported forest scopes class e =
     let p : Declarations = declarations_of forest in
-    table_tells None (defined_by_chain p) (length p.classes) (λ a h. scope_past forest a h) scopes e class
+    table_reports None (defined_by_chain p) (length p.classes) (λ a h. scope_past forest a h) scopes e class
 
 -- the fields of objects
 own_listed : (forest : Forest) (class : ℕ) → lookup [] (all_own_nodes (declarations_of forest)) class ≡ own_nodes
@@ -190,7 +190,7 @@ own_listed : (forest : Forest) (class : ℕ) → lookup [] (all_own_nodes (decla
 unfolding all_own_nodes
 own_listed forest class =
     let p : Declarations = declarations_of forest in
-    table_tells [] (own_nodes p) (length p.classes) (λ a h. own_nodes_past forest a h)
+    table_reports [] (own_nodes p) (length p.classes) (λ a h. own_nodes_past forest a h)
     (listed (own_nodes p) (length p.classes)) refl class
 
 pub own_list : (forest : Forest) (lists : List (List ℕ)) (class : ℕ) → lists ≡ all_own_nodes (declarations_of forest)

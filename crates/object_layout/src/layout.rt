@@ -22,7 +22,7 @@ use crate::{arrays, bodies, classes, parts, sizes};
 use class_rows::ClassTable;
 use scj_base::{ClassId, FieldId, Memory, MethodId, Name, NodeId, Position, ScopeId};
 use scj_rules::{Body, SlotKind};
-use scj_tree::{Program, told};
+use scj_tree::{Program, row_or};
 use std::alloc::Global;
 use std::marker::Model;
 
@@ -128,14 +128,14 @@ impl<'a> Layout<'a> {
     pub fn locals(&self, body: NodeId) -> u32
         ensures { result ≡ locals (declarations_of self.now) body }
     {
-        told(self.tables.bodies.locals.as_slice(), 0, body)
+        row_or(self.tables.bodies.locals.as_slice(), 0, body)
     }
 
     /// The class in which a body stands.
     pub fn class_of_body(&self, body: NodeId) -> Option<ClassId>
         ensures { result ≡ class_of_body (declarations_of self.now) body }
     {
-        told(self.tables.bodies.classes.as_slice(), None, body)
+        row_or(self.tables.bodies.classes.as_slice(), None, body)
     }
 
     /// Whether a body is a synchronized method's (JLS 8.4.3.6).
@@ -146,7 +146,7 @@ impl<'a> Layout<'a> {
     }
 
     /// The scope that the chain of a class defines (JSR 302: DefineScope).
-    #[tactic(auto, using(crate::proofs::ObjectLemmas::scope_told))]
+    #[tactic(auto, using(crate::proofs::ObjectLemmas::scope_reported))]
     pub fn private_scope(&self, class: ClassId) -> Option<ScopeId>
         ensures { result ≡ defined_by_chain (declarations_of self.now) class }
     {

@@ -8,7 +8,7 @@ ghost use Rattle.object_layout.specs.Slots.{HasIndices, noted};
 
 use crate::objects::ObjectRow;
 use scj_base::NodeId;
-use scj_tree::told;
+use scj_tree::row_or;
 
 /// Notes the place of a field.
 fn note_index(indices: &mut Vec<u32>, field: NodeId, index: u32)
@@ -39,7 +39,7 @@ fn has_indices(indices: &[u32], fields: &[NodeId]) -> bool
     ensures { IsTrue result ↔ (HasIndices indices.now fields.now) }
 {
     for k in 0..fields.len() {
-        if told(indices, 0, fields[k]) as usize != k {
+        if row_or(indices, 0, fields[k]) as usize != k {
             return false;
         }
     }
@@ -74,7 +74,7 @@ fn index_by_table(fields: &[NodeId], indices: &[u32], field: NodeId) -> Option<u
     ensures value { result ≡ position (λ other. field == other) fields.now }
     ensures within { IfSome result (λ index. index < length fields.now) }
 {
-    let index = told(indices, 0, field) as usize;
+    let index = row_or(indices, 0, field) as usize;
     if index >= fields.len() {
         return None;
     }

@@ -1,7 +1,7 @@
 //! Tests on lexemes and on what was read.
 
 ghost use Rattle.std.specs.Prelude.{◌≡◌};
-ghost use Rattle.parser_nodes.specs.Told.{seen};
+ghost use Rattle.parser_nodes.specs.Reported.{seen};
 ghost use Rattle.scj_tree.specs.Terminals.{indexable as may_be_indexed, is_unary1_start as begins_cast};
 
 use crate::views::View;

@@ -2,7 +2,7 @@
 
 ghost use Rattle.std.specs.Prelude.{◌≡◌};
 ghost use Rattle.parser_machine.specs.Members.{member_read};
-ghost use Rattle.parser_nodes.specs.Told.{gives};
+ghost use Rattle.parser_nodes.specs.Reported.{gives};
 
 use crate::growing_nodes::Nodes;
 use crate::items::with_item;

@@ -59,7 +59,7 @@ fn end_of(stack: &mut Stack, mode: Mode) -> FileRead
 }
 
 /// What the tokens of a file are, by how far a run came over them.
-fn told_by(stack: &mut Stack, outcome: Result<Outcome, Memory>) -> Result<FileRead, Memory>
+fn reported_by(stack: &mut Stack, outcome: Result<Outcome, Memory>) -> Result<FileRead, Memory>
     ensures whole { (nodes : List Node) (awaited : Way) (ids : List ℕ) →
         leads outcome nodes stack.old awaited ≡ awaited → result ≡ Ok (Whole ids) →
         (st : State) × (awaited ≡ to st) × (finished st ≡ Some (parsed nodes ids)) }
@@ -97,5 +97,5 @@ pub fn read_file(
         classes: nodes.empty_list(),
     })?;
     let outcome = read(nodes, &mut stack, bytes, tokens);
-    told_by(&mut stack, outcome)
+    reported_by(&mut stack, outcome)
 }

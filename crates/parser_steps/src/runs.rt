@@ -4,7 +4,7 @@ ghost use Rattle.std.specs.Prelude.{◌≡◌, IfOk};
 ghost use Rattle.parser_machine.specs.States.{at};
 ghost use Rattle.parser_machine.specs.declared.modes.Mode.TheVariants.{FileStart};
 ghost use Rattle.parser_steps.specs.Outcomes.{way, leads, name_in, Fits, AllFit};
-ghost use Rattle.parser_nodes.specs.Told.{seen};
+ghost use Rattle.parser_nodes.specs.Reported.{seen};
 ghost use Rattle.scj_tree.specs.Lexemes.{lexeme_of, lexemes_of};
 
 use crate::steps::step_mode;

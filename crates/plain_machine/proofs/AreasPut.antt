@@ -9,8 +9,8 @@ use Rattle.scj_tree.specs.Forest.{Forest}
 use Rattle.scj_model.specs.declared.events.Event.{Event}
 use Rattle.scj_model.specs.Plan.{Plan}
 use Rattle.scj_model.specs.TraceText.{text}
-use Rattle.plain_machine.specs.AreaTexts.{TellsAreas, areas_text, end_events, halting, last_fault, rows_text}
-use Rattle.plain_machine.specs.Ends.{end_of, end_told}
+use Rattle.plain_machine.specs.AreaTexts.{ReportsAreas, areas_text, end_events, halting, last_fault, rows_text}
+use Rattle.plain_machine.specs.Ends.{end_of, end_reported}
 use Rattle.plain_machine.specs.Printing.{BreaksOffIn}
 use Rattle.plain_machine.specs.Runs.{PutPart, trace_of}
 use Rattle.plain_machine.specs.Watched.{HasEndedWith}
@@ -21,7 +21,7 @@ use Rattle.plain_machine.specs.declared.watched.Watched.{Watched}
 use Rattle.plain_machine.proofs.PartLaws.{PutPart-then}
 
 module _ (forest : Forest) (plan : Plan) (names : List (List ℕ)) (run : Watched) (last : Event)
-    (ended : HasEndedWith forest plan run last) (end : RunEnd) (tells : end_told last ≡ Some end) where
+    (ended : HasEndedWith forest plan run last) (end : RunEnd) (reports : end_reported last ≡ Some end) where
   abbrev whole : List Event
   whole = trace_of forest plan
 
@@ -30,7 +30,7 @@ module _ (forest : Forest) (plan : Plan) (names : List (List ℕ)) (run : Watche
 
   trace_ends : end_of whole ≡ Some end
   unfolding end_of
-  trace_ends = ap (λ (o : Option Event). o >>= end_told) ended.is_last ∙ tells
+  trace_ends = ap (λ (o : Option Event). o >>= end_reported) ended.is_last ∙ reports
 
   events_are : end_events whole ≡ events_at_end
   events_are =
@@ -58,7 +58,7 @@ module _ (forest : Forest) (plan : Plan) (names : List (List ℕ)) (run : Watche
       (t u v : Option (List ℕ)) (k l m : ℕ) where
     pub both_put : PutWhole (sink_run t u k l) rows →
         PutWhole (sink_run u v l m) (text forest.nodes names events) →
-        TellsAreas forest plan names (sink_run t v k m) end
+        ReportsAreas forest plan names (sink_run t v k m) end
     both_put first second =
         record {
           put = subst (λ (bytes : List ℕ). PutWhole (sink_run t v k m) bytes) (sym (parts rows events e f))

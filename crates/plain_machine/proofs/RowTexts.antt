@@ -99,7 +99,7 @@ unfolding rows_text
 rows_text_is forest plan run last ended =
     ap (λ (bytes : List ℕ). bytes ++ store_line run.table.reserved plan.store)
     (lines_of_rows (code_of forest).program (run_at forest plan plan.units).state
-    (needs_after (code_of forest) plan plan.units).refusals (class_count forest) run.table.rows.items ended.tells.rows)
+    (needs_after (code_of forest) plan plan.units).refusals (class_count forest) run.table.rows.items ended.reports.rows)
     ∙ ap (λ (n : ℕ). flat_map (row_line (code_of forest).program)
     (rows_of (class_count forest) (run_at forest plan plan.units).state
-    (needs_after (code_of forest) plan plan.units).refusals) ++ store_line n plan.store) ended.tells.reserved
+    (needs_after (code_of forest) plan plan.units).refusals) ++ store_line n plan.store) ended.reports.reserved

@@ -12,7 +12,7 @@ use Rattle.op_list.specs.Listed.{Listing}
 use Rattle.plain_machine.specs.Ends.{end_of}
 use Rattle.plain_machine.specs.Printing.{BreaksOffIn}
 use Rattle.plain_machine.specs.Runs.{trace_text}
-use Rattle.plain_machine.specs.Told.{BreaksOffFrom, told_text}
+use Rattle.plain_machine.specs.Reported.{BreaksOffFrom, reported_text}
 use Rattle.plain_machine.specs.UnderWay.{EndedIn, GoesTo, HasSpent, IsBetween, none_left, one_spent, StepsTo, run_at}
 use Rattle.plain_machine.specs.declared.runs.RunEnd.{RunEnd}
 use Rattle.plain_machine.specs.declared.runs.RunEnd.TheVariants.{Stopped as StoppedEnd}
@@ -22,7 +22,7 @@ use Rattle.plain_machine.specs.declared.steps.Progress.TheVariants.{Went, Finish
 use Rattle.plain_machine.specs.declared.under_way.UnderWay.{UnderWay}
 use Rattle.plain_machine.proofs.BehindLaws.{breaks_in}
 use Rattle.plain_machine.proofs.EndLaws.{ends_behind}
-use Rattle.plain_machine.proofs.TextLaws.{ended_text, ended_trace, next_last, next_more, stopped_ends, stopped_text, told_more}
+use Rattle.plain_machine.proofs.TextLaws.{ended_text, ended_trace, next_last, next_more, stopped_ends, stopped_text, reported_more}
 use Rattle.plain_machine.proofs.UnderLaws.{between_after, ended_after, goes_on_after}
 
 -- ---- all units are spent
@@ -35,11 +35,11 @@ module _ (code : Listing) (program : Forest) (plan : Plan) (names : List (List �
   abbrev line : Forest → List ℕ
   line f = line_of f.nodes names (Stopped at.state.unit)
 
-  parts : trace_text code.program plan names ≡ told_text code.program plan names at.state.unit ++ line program
+  parts : trace_text code.program plan names ≡ reported_text code.program plan names at.state.unit ++ line program
   parts =
       stopped_text code.program plan names goes_on
-      ∙ (ap (λ (m : ℕ). told_text code.program plan names m ++ line_of code.program.nodes names (Stopped m)) (sym spent)
-      ∙ ap (λ (f : Forest). told_text code.program plan names at.state.unit ++ line f) (sym printed))
+      ∙ (ap (λ (m : ℕ). reported_text code.program plan names m ++ line_of code.program.nodes names (Stopped m)) (sym spent)
+      ∙ ap (λ (f : Forest). reported_text code.program plan names at.state.unit ++ line f) (sym printed))
 
   pub stops : (end : RunEnd) → end ≡ StoppedEnd → PutWhole out (line program) →
       EndedIn code.program plan names at.state.unit at out end
@@ -61,16 +61,16 @@ module _ (code : Listing) (program : Forest) (plan : Plan) (names : List (List �
 -- ---- a unit was spent
 
 module _ (code : Listing) (program : Forest) (plan : Plan) (names : List (List ℕ)) (n : ℕ) (at : UnderWay) (out : SinkRun)
-    (told : List Event) (printed : program ≡ code.program) (same : told ≡ at.told.items) (within : n < plan.units)
+    (reported : List Event) (printed : program ≡ code.program) (same : reported ≡ at.reported.items) (within : n < plan.units)
     (spent : HasSpent code plan n at) where
   abbrev lines : List ℕ
-  lines = text program.nodes names told
+  lines = text program.nodes names reported
 
-  behind : told_text code.program plan names (n + 1) ≡ told_text code.program plan names n ++ lines
+  behind : reported_text code.program plan names (n + 1) ≡ reported_text code.program plan names n ++ lines
   behind =
-      told_more code.program plan names n at.told.items spent.told
-      ∙ (ap (λ (events : List Event). told_text code.program plan names n ++ text code.program.nodes names events) (sym same)
-      ∙ ap (λ (f : Forest). told_text code.program plan names n ++ text f.nodes names told) (sym printed))
+      reported_more code.program plan names n at.reported.items spent.reported
+      ∙ (ap (λ (events : List Event). reported_text code.program plan names n ++ text code.program.nodes names events) (sym same)
+      ∙ ap (λ (f : Forest). reported_text code.program plan names n ++ text f.nodes names reported) (sym printed))
 
   pub unit_broken : (stop : RunError) → BreaksOffIn lines out stop → BreaksOffFrom code.program plan names n out stop
   unit_broken stop broke =
@@ -95,7 +95,7 @@ module _ (code : Listing) (program : Forest) (plan : Plan) (names : List (List �
             parts = ended_text code.program plan names (n + 1) (omega arith) ended ∙ behind;
             holds = put;
           };
-          ends = ap end_of (ended_trace code.program plan names (n + 1) (omega arith) ended ∙ spent.told)
-              ∙ ends_behind (run_at code.program plan n).events at.told.items end comes.ends;
+          ends = ap end_of (ended_trace code.program plan names (n + 1) (omega arith) ended ∙ spent.reported)
+              ∙ ends_behind (run_at code.program plan n).events at.reported.items end comes.ends;
         };
       }

@@ -74,7 +74,7 @@ module _ (code : Listing) (plan : Plan) (was at : UnderWay) (between : IsBetween
   before = state_of code was.state
 
   led_on : (step : Step) → one_unit (code_of code.program) plan by_priority before ≡ Some step →
-      IsLed code step at.state [] at.told.items → at.past ≡ fires_before plan at.state.unit →
+      IsLed code step at.state [] at.reported.items → at.past ≡ fires_before plan at.state.unit →
       HasSpent code plan n at
   led_on step e led past =
       let there : one_unit (code_of code.program) plan by_priority (run_at code.program plan n).state ≡ Some step =
@@ -87,8 +87,8 @@ module _ (code : Listing) (plan : Plan) (was at : UnderWay) (between : IsBetween
       (unit_follows (code_of code.program) plan by_priority before).is step e
       ∙ ap (λ (m : ℕ). m + 1) (unit_of_state code was.state) in
       record {
-        told = ap (λ (r : RunSoFar). r.events) more
-            ∙ ap (λ (events : List Event). (run_at code.program plan n).events ++ events) (sym led.told);
+        reported = ap (λ (r : RunSoFar). r.events) more
+            ∙ ap (λ (events : List Event). (run_at code.program plan n).events ++ events) (sym led.reported);
         alike = subst (λ (s : State). IsAlike s (state_of code at.state)) (sym (ap (λ (r : RunSoFar). r.state) more))
             led.alike;
         not_stuck = ap (λ (r : RunSoFar). r.is_stuck) more;
@@ -99,12 +99,12 @@ module _ (code : Listing) (plan : Plan) (was at : UnderWay) (between : IsBetween
 
   -- the code answers that the unit has a result
   pub has_spent : (answer : Bool) (front : List Event) → answer ≡ true → front ≡ [] →
-      IsLedTry code (one_unit (code_of code.program) plan by_priority before) answer at.state front at.told.items →
+      IsLedTry code (one_unit (code_of code.program) plan by_priority before) answer at.state front at.reported.items →
       (answer ≡ true → at.past ≡ fires_before plan at.state.unit) → HasSpent code plan n at
   has_spent answer front e none k past =
       let done = some_there (one_unit (code_of code.program) plan by_priority before) (sym e ∙ k.went) in
       led_on done.0 done.1
-      (subst (λ (events : List Event). IsLed code done.0 at.state events at.told.items) none (k.leads done.0 done.1))
+      (subst (λ (events : List Event). IsLed code done.0 at.state events at.reported.items) none (k.leads done.0 done.1))
       (past e)
 
   -- it has one in a run that is never stuck

@@ -12,7 +12,7 @@ use Rattle.scj_model.specs.Plan.{Plan}
 use Rattle.scj_model.specs.Run.{RunSoFar, has_ended, next_unit, one_unit}
 use Rattle.scj_model.specs.Sequencer.{phase_after}
 use Rattle.scj_model.specs.State.{MemoryArea, Object, State}
-use Rattle.scj_model.specs.Steps.{Step, telling}
+use Rattle.scj_model.specs.Steps.{Step, reporting}
 use Rattle.area_needs.specs.declared.refusals.Refusal.{Refusal}
 use Rattle.area_needs.specs.Needs.{Needs, after_one_more, after_operation, after_unit, looked_at, needs_after, with_refusal}
 use Rattle.area_needs.specs.Refusals.{refused_at}
@@ -20,7 +20,7 @@ use Rattle.area_growth.specs.Growth.{AreSituated, GoesOn, StaysSame, StaysStill,
 use Rattle.area_growth.proofs.Growing.{same_still, still_then_still}
 use Rattle.area_growth.proofs.Units.{acts_go, arrivals_same, phase_still}
 use Rattle.area_tables.specs.declared.tables.AreaTable.{AreaTable}
-use Rattle.area_tables.specs.Standing.{Tells}
+use Rattle.area_tables.specs.Standing.{Reports}
 use Rattle.region_heap.specs.Contents.{Contents}
 use Rattle.region_heap.specs.Kept.{used_bytes}
 use Rattle.run_state.specs.declared.states.RunState.{RunState}
@@ -30,7 +30,7 @@ use Rattle.unit_steps.specs.Refused.{followed, operated}
 use Rattle.unit_steps.proofs.UnitJoins.{operated_acts, unit_goes_on}
 use Rattle.unit_steps.proofs.RunsOn.{one_more}
 use Rattle.plain_machine.specs.UnderWay.{IsBetween, run_at}
-use Rattle.plain_machine.specs.Watched.{TellsNeeds, class_count}
+use Rattle.plain_machine.specs.Watched.{ReportsNeeds, class_count}
 use Rattle.plain_machine.specs.declared.under_way.UnderWay.{UnderWay}
 
 -- the memory of states that are alike is the same
@@ -73,8 +73,8 @@ pub follows : (code : Listing) (done result : Step) → followed (code_of code.p
 follows code done result e = go (phase_after (code_of code.program) done.state) refl e
   where
     go : (o : Option Step) → phase_after (code_of code.program) done.state ≡ o →
-        (option_map (λ (second : Step). telling second.state (done.events ++ second.events)) o
-        >>= (λ (r : Step). Some (telling (next_unit r.state) r.events))) ≡ Some result →
+        (option_map (λ (second : Step). reporting second.state (done.events ++ second.events)) o
+        >>= (λ (r : Step). Some (reporting (next_unit r.state) r.events))) ≡ Some result →
         Follows code done result
     go None k h = absurd (cc (h))
     go (Some phase) k h = record {
@@ -131,16 +131,16 @@ module _ (code : Listing) (plan : Plan) (n : ℕ) (was : RunState) (refusal : Op
 -- what is noted of a refusal, and what a look at a memory gives
 abbrev pub Notes : Option Refusal → AreaTable → AreaTable → Type 0
 Notes refusal old new =
-    (count : ℕ) (s : State) (needs : Needs) → Tells count s needs old → Tells count s (with_refusal refusal needs) new
+    (count : ℕ) (s : State) (needs : Needs) → Reports count s needs old → Reports count s (with_refusal refusal needs) new
 
 abbrev pub Looks : Contents → AreaTable → AreaTable → Type 0
 Looks m old new =
-    (count : ℕ) (s t : State) (needs : Needs) → Tells count s needs old → GoesOn s t → m.areas ≡ t.areas →
-    m.objects ≡ t.objects → Tells count t (record needs { reserved = max needs.reserved (reserved t) }) new
+    (count : ℕ) (s t : State) (needs : Needs) → Reports count s needs old → GoesOn s t → m.areas ≡ t.areas →
+    m.objects ≡ t.objects → Reports count t (record needs { reserved = max needs.reserved (reserved t) }) new
 
-pub unit_tells : (code : Listing) (plan : Plan) (was : UnderWay) (first last : RunState) (refusal : Option Refusal)
+pub unit_reports : (code : Listing) (plan : Plan) (was : UnderWay) (first last : RunState) (refusal : Option Refusal)
     (done result : Step) (old noted looked again : AreaTable) → IsBetween code plan was →
-    TellsNeeds code.program plan was.state.unit old →
+    ReportsNeeds code.program plan was.state.unit old →
     AreSituated (code_of code.program) plan.readings (arrivals (code_of code.program) plan (state_of code was.state)).state →
     operated (code_of code.program) plan by_priority (state_of code was.state) ≡ Some done →
     IsAlike done.state (state_of code first) → followed (code_of code.program) done ≡ Some result →
@@ -148,8 +148,8 @@ pub unit_tells : (code : Listing) (plan : Plan) (was : UnderWay) (first last : R
     refusal ≡ refused_at (code_of code.program) plan.readings by_priority
     (arrivals (code_of code.program) plan (state_of code was.state)).state →
     Notes refusal old noted → Looks first.memory noted looked → Looks last.memory looked again →
-    TellsNeeds code.program plan (was.state.unit + 1) again
-unit_tells code plan was first last refusal done result old noted looked again between tells situated op alike fol
+    ReportsNeeds code.program plan (was.state.unit + 1) again
+unit_reports code plan was first last refusal done result old noted looked again between reports situated op alike fol
     alike_end refused notes looks looks_again =
     let s : State = state_of code was.state in
     let n : ℕ = was.state.unit in
@@ -162,8 +162,8 @@ unit_tells code plan was first last refusal done result old noted looked again b
     let f : Follows code done result = follows code done result fol in
     let ends : StaysStill done.state result.state =
     still_following code done result f ((phase_still (code_of code.program) done.state).is f.phase f.is) in
-    let there : Tells (class_count code.program) s (needs_after (code_of code.program) plan n) old =
-    subst (λ (t : State). Tells (class_count code.program) t (needs_after (code_of code.program) plan n) old) between.state tells in
+    let there : Reports (class_count code.program) s (needs_after (code_of code.program) plan n) old =
+    subst (λ (t : State). Reports (class_count code.program) t (needs_after (code_of code.program) plan n) old) between.state reports in
     let after_operation = looks (class_count code.program) s done.state (with_refusal refusal (needs_after (code_of code.program) plan n))
     (notes (class_count code.program) s (needs_after (code_of code.program) plan n) there) goes
     (sym (memory_areas code first) ∙ areas_alike done.state (state_of code first) alike)
@@ -177,6 +177,6 @@ unit_tells code plan was first last refusal done result old noted looked again b
     let state_is : (run_at code.program plan (n + 1)).state ≡ result.state =
     ap (λ (m : ℕ). (run_at code.program plan m).state) next
     ∙ ap (λ (r : RunSoFar). r.state) (one_more (code_of code.program) plan by_priority n between.goes_on result unit_is) in
-    subst (λ (t : State). Tells (class_count code.program) t (needs_after (code_of code.program) plan (n + 1)) again) (sym state_is)
-    (subst (λ (needs : Needs). Tells (class_count code.program) result.state needs again)
+    subst (λ (t : State). Reports (class_count code.program) t (needs_after (code_of code.program) plan (n + 1)) again) (sym state_is)
+    (subst (λ (needs : Needs). Reports (class_count code.program) result.state needs again)
     (sym (needs_are code plan n was.state refusal done result between.state between.goes_on refused op fol)) after_unit)

@@ -79,7 +79,7 @@ unfoldable pub areas_text : Forest → Plan → List (List ℕ) → List ℕ
 areas_text forest plan names = rows_text forest plan ++ text forest.nodes names (end_events (trace_of forest plan))
 
 -- the whole text was put, and the trace's last line tells this end
-pub record TellsAreas (forest : Forest) (plan : Plan) (names : List (List ℕ)) (out : SinkRun) (end : RunEnd) : Type 0
+pub record ReportsAreas (forest : Forest) (plan : Plan) (names : List (List ℕ)) (out : SinkRun) (end : RunEnd) : Type 0
   where
     pub put : PutWhole out (areas_text forest plan names)
     pub ends : end_of (trace_of forest plan) ≡ Some end

@@ -8,12 +8,12 @@ use Rattle.plain_machine.specs.declared.runs.RunEnd.{RunEnd}
 use Rattle.plain_machine.specs.declared.runs.RunEnd.TheVariants.{Stopped, Done, Halted}
 
 -- the end that an event tells, if it tells one
-unfoldable pub end_told : Event → Option RunEnd
-end_told (line.Done unit) = Some Done
-end_told (line.Halted unit) = Some Halted
-end_told (line.Stopped unit) = Some Stopped
-end_told _ = None
+unfoldable pub end_reported : Event → Option RunEnd
+end_reported (line.Done unit) = Some Done
+end_reported (line.Halted unit) = Some Halted
+end_reported (line.Stopped unit) = Some Stopped
+end_reported _ = None
 
 -- the end that the last event tells
 unfoldable pub end_of : List Event → Option RunEnd
-end_of events = last_or None events >>= end_told
+end_of events = last_or None events >>= end_reported

@@ -5,6 +5,6 @@ pub mod Machines
 pub mod Printing
 pub mod Runs
 pub mod Statics
-pub mod Told
+pub mod Reported
 pub mod UnderWay
 pub mod Watched

@@ -10,7 +10,7 @@ use Rattle.region_heap.specs.declared.open_areas.Area.{Area}
 use Rattle.region_heap.specs.OpenAreas.{open_areas}
 use Rattle.plain_machine.specs.Lawful.{IsLawful}
 use Rattle.plain_machine.specs.Printing.{PrinterSeen}
-use Rattle.plain_machine.specs.Told.{BreaksOffFrom, PutsRest, PutsUnit}
+use Rattle.plain_machine.specs.Reported.{BreaksOffFrom, PutsRest, PutsUnit}
 use Rattle.plain_machine.specs.UnderWay.{IsBetween, IsLast, IsNeverStuck, run_at}
 use Rattle.plain_machine.specs.declared.runs.RunEnd.{RunEnd}
 use Rattle.plain_machine.specs.declared.runs.RunError.{RunError}

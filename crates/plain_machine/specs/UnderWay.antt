@@ -12,7 +12,7 @@ use Rattle.op_list.specs.Listed.{Listing}
 use Rattle.run_state.specs.Seen.{state_of}
 use Rattle.unit_steps.specs.Alike.{IsAlike}
 use Rattle.plain_machine.specs.Ends.{end_of}
-use Rattle.plain_machine.specs.Told.{PutsRest, PutsUnit}
+use Rattle.plain_machine.specs.Reported.{PutsRest, PutsUnit}
 use Rattle.plain_machine.specs.declared.runs.RunEnd.{RunEnd}
 use Rattle.plain_machine.specs.declared.steps.Progress.{Progress}
 use Rattle.plain_machine.specs.declared.steps.Progress.TheVariants.{Went, Finished}
@@ -35,7 +35,7 @@ pub record IsBetween (code : Listing) (plan : Plan) (at : UnderWay) : Type 0 whe
 
 -- the run has spent unit n, and told this in it. Where it is over nobody looks at the sequencer's frames again
 pub record HasSpent (code : Listing) (plan : Plan) (n : ℕ) (at : UnderWay) : Type 0 where
-  pub told : (run_at code.program plan (n + 1)).events ≡ (run_at code.program plan n).events ++ at.told.items
+  pub reported : (run_at code.program plan (n + 1)).events ≡ (run_at code.program plan n).events ++ at.reported.items
   pub alike : IsAlike (run_at code.program plan (n + 1)).state (state_of code at.state)
   pub not_stuck : (run_at code.program plan (n + 1)).is_stuck ≡ false
   pub past : at.past ≡ fires_before plan at.state.unit
@@ -44,7 +44,7 @@ pub record HasSpent (code : Listing) (plan : Plan) (n : ℕ) (at : UnderWay) : T
 -- how a run goes on after a unit, by its phase and the last event
 pub record EndsAs (at : UnderWay) (end : RunEnd) : Type 0 where
   pub over : is_over at.state.phase ≡ true
-  pub ends : end_of at.told.items ≡ Some end
+  pub ends : end_of at.reported.items ≡ Some end
 
 abbrev pub GoesTo : UnderWay → Progress → Type 0
 GoesTo at Went = is_over at.state.phase ≡ false

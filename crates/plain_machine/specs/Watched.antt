@@ -12,9 +12,9 @@ use Rattle.scj_model.specs.State.{State}
 use Rattle.area_needs.specs.Needs.{needs_after}
 use Rattle.area_growth.specs.Growth.{AreSituated}
 use Rattle.area_tables.specs.declared.tables.AreaTable.{AreaTable}
-use Rattle.area_tables.specs.Standing.{Tells}
+use Rattle.area_tables.specs.Standing.{Reports}
 use Rattle.plain_machine.specs.AreaTexts.{last_fault}
-use Rattle.plain_machine.specs.Ends.{end_told}
+use Rattle.plain_machine.specs.Ends.{end_reported}
 use Rattle.plain_machine.specs.Runs.{trace_of}
 use Rattle.plain_machine.specs.UnderWay.{IsBetween, run_at}
 use Rattle.plain_machine.specs.declared.watched.Watched.{Watched}
@@ -28,19 +28,19 @@ abbrev pub class_count : Forest → ℕ
 class_count forest = length (code_of forest).program.classes
 
 -- the table tells what the run has needed after so many units
-abbrev pub TellsNeeds : Forest → Plan → ℕ → AreaTable → Type 0
-TellsNeeds forest plan n table =
-    Tells (class_count forest) (run_at forest plan n).state (needs_after (code_of forest) plan n) table
+abbrev pub ReportsNeeds : Forest → Plan → ℕ → AreaTable → Type 0
+ReportsNeeds forest plan n table =
+    Reports (class_count forest) (run_at forest plan n).state (needs_after (code_of forest) plan n) table
 
 -- before the next unit
 pub record IsWatched (code : Listing) (plan : Plan) (run : Watched) : Type 0 where
   pub between : IsBetween code plan run.at
-  pub tells : TellsNeeds code.program plan run.at.state.unit run.table
+  pub reports : ReportsNeeds code.program plan run.at.state.unit run.table
   pub fault : run.fault ≡ last_fault None (run_at code.program plan run.at.state.unit).events
 
 -- after the last
 pub record HasEndedWith (forest : Forest) (plan : Plan) (run : Watched) (last : Event) : Type 0 where
-  pub tells : TellsNeeds forest plan plan.units run.table
+  pub reports : ReportsNeeds forest plan plan.units run.table
   pub fault : run.fault ≡ last_fault None (trace_of forest plan)
   pub is_last : last_or None (trace_of forest plan) ≡ Some last
-  pub ends : is_some (end_told last) ≡ true
+  pub ends : is_some (end_reported last) ≡ true

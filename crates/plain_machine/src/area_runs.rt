@@ -2,12 +2,12 @@
 
 ghost use Rattle.std.specs.Prelude.{◌≡◌, length, IfOk, IfErr, Some};
 ghost use Rattle.scj_io.specs.Puts.{sink_run};
-ghost use Rattle.plain_machine.specs.AreaTexts.{TellsAreas, areas_text};
+ghost use Rattle.plain_machine.specs.AreaTexts.{ReportsAreas, areas_text};
 ghost use Rattle.plain_machine.specs.Printing.{BreaksOffIn};
 ghost use Rattle.plain_machine.specs.Watched.{HasEndedWith, IsWatched};
 
 use crate::area_texts::{end_events, rows_text};
-use crate::ends::end_told;
+use crate::ends::end_reported;
 use crate::laws::keep_laws;
 use crate::printers::Printer;
 use crate::runs::{RunEnd, RunError};
@@ -52,13 +52,13 @@ fn put_watched<K: Sink>(
     requires same { setting.classes.now ≡ setting.code.now.program }
     requires printed { printer.old.program ≡ setting.code.now.program }
     requires ended { HasEndedWith setting.code.now.program setting.plan.now run.now last }
-    ensures ok { IfOk result (λ end. TellsAreas setting.entry.code.now.program setting.entry.plan.now printer.old.names
+    ensures ok { IfOk result (λ end. ReportsAreas setting.entry.code.now.program setting.entry.plan.now printer.old.names
         (sink_run (K.taken out.old) (K.taken out.new) (K.faults out.old) (K.faults out.new)) end) }
     ensures stop { IfErr result (λ stop. BreaksOffIn
         (areas_text setting.entry.code.now.program setting.entry.plan.now printer.old.names)
         (sink_run (K.taken out.old) (K.taken out.new) (K.faults out.old) (K.faults out.new)) stop) }
 {
-    let Some(end) = end_told(&last) else {
+    let Some(end) = end_reported(&last) else {
         unreachable!()
     };
     let text = rows_text(alloc, setting, run)?;
@@ -77,7 +77,7 @@ fn run_watched<K: Sink>(
 ) -> Result<RunEnd, RunError>
     requires same { setting.classes.now ≡ setting.code.now.program }
     requires named { length setting.code.now.program.files ≡ length files.now }
-    ensures ok { IfOk result (λ end. TellsAreas setting.entry.code.now.program setting.entry.plan.now files.now
+    ensures ok { IfOk result (λ end. ReportsAreas setting.entry.code.now.program setting.entry.plan.now files.now
         (sink_run (K.taken out.old) (K.taken out.new) (K.faults out.old) (K.faults out.new)) end) }
     ensures stop { IfErr result (λ stop. BreaksOffIn
         (areas_text setting.entry.code.now.program setting.entry.plan.now files.now)
@@ -102,7 +102,7 @@ fn run_areas_by_table<K: Sink>(
 ) -> Result<RunEnd, RunError>
     requires table { table.now ≡ checked.now.program }
     requires named { length checked.now.program.files ≡ length files.now }
-    ensures ok { IfOk result (λ end. TellsAreas checked.now.program plan.now files.now
+    ensures ok { IfOk result (λ end. ReportsAreas checked.now.program plan.now files.now
         (sink_run (K.taken out.old) (K.taken out.new) (K.faults out.old) (K.faults out.new)) end) }
     ensures stop { IfErr result (λ stop. BreaksOffIn (areas_text checked.now.program plan.now files.now)
         (sink_run (K.taken out.old) (K.taken out.new) (K.faults out.old) (K.faults out.new)) stop) }
@@ -132,7 +132,7 @@ pub fn run_areas<K: Sink>(
     out: &mut K,
 ) -> Result<RunEnd, RunError>
     requires named { length checked.now.program.files ≡ length files.now }
-    ensures ok { IfOk result (λ end. TellsAreas checked.now.program plan.now files.now
+    ensures ok { IfOk result (λ end. ReportsAreas checked.now.program plan.now files.now
         (sink_run (K.taken out.old) (K.taken out.new) (K.faults out.old) (K.faults out.new)) end) }
     ensures stop { IfErr result (λ stop. BreaksOffIn (areas_text checked.now.program plan.now files.now)
         (sink_run (K.taken out.old) (K.taken out.new) (K.faults out.old) (K.faults out.new)) stop) }

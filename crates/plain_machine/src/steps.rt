@@ -8,7 +8,7 @@ ghost use Rattle.scj_model.specs.TraceText.{line_of};
 ghost use Rattle.plain_machine.specs.Ends.{end_of};
 ghost use Rattle.plain_machine.specs.Lawful.{IsLawful};
 ghost use Rattle.plain_machine.specs.Printing.{BreaksOffIn};
-ghost use Rattle.plain_machine.specs.Told.{BreaksOffFrom};
+ghost use Rattle.plain_machine.specs.Reported.{BreaksOffFrom};
 ghost use Rattle.plain_machine.specs.UnderWay.{GoesTo, IsBetween, IsNeverStuck, StepsTo};
 
 use crate::ends::end_of;
@@ -42,13 +42,13 @@ pub(crate) fn is_over(phase: Phase) -> bool
 
 /// How a run goes on after a unit. Where it is over the last event tells the end.
 fn progress_after(at: &UnderWay) -> Progress
-    requires { is_over at.now.state.phase ≡ true → is_some (end_of at.now.told.items) ≡ true }
+    requires { is_over at.now.state.phase ≡ true → is_some (end_of at.now.reported.items) ≡ true }
     ensures { GoesTo at.now result }
 {
     if !is_over(at.state.phase) {
         return Progress::Went;
     }
-    match end_of(&at.told) {
+    match end_of(&at.reported) {
         Some(end) => Progress::Finished(end),
         None => unreachable!(),
     }
@@ -96,6 +96,6 @@ pub(crate) fn one_step<K: Sink>(
         return Ok(Progress::Finished(end));
     }
     spend(alloc, setting, at)?;
-    printer.put_all(out, &at.told)?;
+    printer.put_all(out, &at.reported)?;
     Ok(progress_after(at))
 }

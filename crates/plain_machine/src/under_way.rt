@@ -27,7 +27,7 @@ pub struct UnderWay {
     /// How many of the plan's fires from the start are past.
     pub(crate) past: usize,
     /// What the last unit told.
-    pub(crate) told: Vec<Event>,
+    pub(crate) reported: Vec<Event>,
 }
 
 /// The state before the first unit.
@@ -64,7 +64,7 @@ pub(crate) fn begin(alloc: Global, code: &OpList<'_>, plan: &Plan) -> Result<Und
     Ok(UnderWay {
         state,
         past: 0,
-        told: Vec::new(alloc),
+        reported: Vec::new(alloc),
     })
 }
 
@@ -76,8 +76,8 @@ pub(crate) fn spend(alloc: Global, setting: Setting<'_>, at: &mut UnderWay) -> R
     requires between { IsBetween setting.code.now setting.plan.now at.old }
     ensures { IfOk result (λ _. HasSpent setting.entry.code.now setting.entry.plan.now at.old.state.unit at.new) }
 {
-    at.told.clear();
-    if one_unit(alloc, setting, &mut at.past, &mut at.state, &mut at.told)? {
+    at.reported.clear();
+    if one_unit(alloc, setting, &mut at.past, &mut at.state, &mut at.reported)? {
         Ok(())
     } else {
         unreachable!()

@@ -5,7 +5,7 @@ ghost use Rattle.std.specs.List.{last_or};
 ghost use Rattle.plain_machine.specs.AreaTexts.{as_fault, last_fault};
 ghost use Rattle.plain_machine.specs.Lawful.{IsLawful};
 ghost use Rattle.plain_machine.specs.UnderWay.{HasSpent, IsBetween, IsNeverStuck};
-ghost use Rattle.plain_machine.specs.Watched.{HasEndedWith, IsSituatedRun, IsWatched, TellsNeeds};
+ghost use Rattle.plain_machine.specs.Watched.{HasEndedWith, IsSituatedRun, IsWatched, ReportsNeeds};
 
 use crate::steps::is_over;
 use crate::under_way::UnderWay;
@@ -35,20 +35,20 @@ fn spend_watched(
     requires lawful { IsLawful setting.code.now setting.plan.now }
     requires situated { IsSituatedRun setting.code.now.program setting.plan.now }
     requires between { IsBetween setting.code.now setting.plan.now at.old }
-    requires tells { TellsNeeds setting.code.now.program setting.plan.now at.old.state.unit table.old }
+    requires reports { ReportsNeeds setting.code.now.program setting.plan.now at.old.state.unit table.old }
     ensures spent { IfOk result (λ _. HasSpent setting.entry.code.now setting.entry.plan.now at.old.state.unit at.new) }
-    ensures tells { IfOk result
-        (λ _. TellsNeeds setting.entry.code.now.program setting.entry.plan.now (at.old.state.unit + 1) table.new) }
+    ensures reports { IfOk result
+        (λ _. ReportsNeeds setting.entry.code.now.program setting.entry.plan.now (at.old.state.unit + 1) table.new) }
 {
-    at.told.clear();
-    let acted = begin_unit(alloc, setting, &mut at.past, &mut at.state, &mut at.told)?;
+    at.reported.clear();
+    let acted = begin_unit(alloc, setting, &mut at.past, &mut at.state, &mut at.reported)?;
     let Acted::Done(refusal) = acted else {
         unreachable!()
     };
     table.note(refusal);
     let operated = &at.state;
     table.look(&operated.memory)?;
-    let ended = end_unit(setting, &mut at.state, &mut at.told)?;
+    let ended = end_unit(setting, &mut at.state, &mut at.reported)?;
     if ended {
         table.look(&at.state.memory)?;
         Ok(())
@@ -85,10 +85,10 @@ fn last_fault(known: Option<Event>, events: &[Event]) -> Option<Event>
 }
 
 /// The last event of a unit after which the run is over.
-fn last_told(at: &UnderWay) -> Option<Event>
-    ensures { result ≡ last_or None at.now.told.items }
+fn last_reported(at: &UnderWay) -> Option<Event>
+    ensures { result ≡ last_or None at.now.reported.items }
 {
-    at.told.last().copied()
+    at.reported.last().copied()
 }
 
 /// One more unit of a run, or its end: then the last event of its trace is answered.
@@ -113,9 +113,9 @@ fn watched_step(
         return Ok(Some(Event::Stopped { unit }));
     }
     spend_watched(alloc, setting, &mut run.at, &mut run.table)?;
-    run.fault = last_fault(run.fault, &run.at.told);
+    run.fault = last_fault(run.fault, &run.at.reported);
     if is_over(run.at.state.phase) {
-        return Ok(last_told(&run.at));
+        return Ok(last_reported(&run.at));
     }
     Ok(None)
 }

@@ -13,7 +13,7 @@ use Rattle.scj_model.specs.Effects.{Effect, Goes, Prints, Makes, Stores, StoresS
 use Rattle.scj_model.specs.Choice.{candidate, chosen, by_priority, may_act}
 use Rattle.scj_model.specs.Run.{with_turn, turn_taken, turn_acts, acts, sequencer_turn}
 use Rattle.scj_model.specs.Safety.{Lifo, job_may_act}
-use Rattle.scj_model.proofs.Reaching.{Gives, gives_some, gives_told}
+use Rattle.scj_model.proofs.Reaching.{Gives, gives_some, gives_reported}
 use Rattle.priority_laws.specs.Started.{started_as}
 use Rattle.priority_laws.specs.Handlers.{IsPriority, RowsHavePriorities, PrioritiesAreRight, ActiveAreAtMostHighest}
 use Rattle.scj_model.specs.Memory.{highest_priority}
@@ -205,7 +205,7 @@ module _ (code : Code) (rows : List ReadingRow) (s : State) (o : IsInOrder s) (e
   by_choice None e = gives_some (IsKept code (EnterRightly code rows s) s) _ idle
   by_choice (Some p) e =
       let k : IsChosen s p = is_chosen s p e in
-      gives_told (IsKept code (EnterRightly code rows s) s) (turn_taken s (TurnOf p)) _
+      gives_reported (IsKept code (EnterRightly code rows s) s) (turn_taken s (TurnOf p)) _
       (λ step f. turned p k step.state
       ((op_turns code rows (with_turn s (TurnOf p)) p k.release k.is_there exec).is step f))
 

@@ -19,7 +19,7 @@ use Rattle.scj_model.specs.Choice.{chosen, by_priority}
 use Rattle.scj_model.specs.Run.{with_turn, turn_taken, turn_acts, acts, next_unit, empty_state}
 use Rattle.scj_model.specs.Reached.{Moment, Arrived, Reached, at_first, on_arrival, on_operation, on_phase}
 use Rattle.scj_model.specs.Safety.{job_may_act}
-use Rattle.scj_model.proofs.Reaching.{Gives, gives_some, gives_told, reached_keeps}
+use Rattle.scj_model.proofs.Reaching.{Gives, gives_some, gives_reported, reached_keeps}
 use Rattle.priority_laws.specs.Handlers.{PrioritiesAreRight, ActiveAreAtMostHighest}
 use Rattle.priority_laws.specs.Started.{started_at}
 use Rattle.priority_laws.proofs.Phases.{phase_kept}
@@ -62,7 +62,7 @@ module _ (code : Code) (plan : Plan) (spares : SparesPriorities code) (s : State
   by_choice exec None e = gives_some (PrioritiesAreRight code) _ (right_same code s h _ refl refl)
   by_choice exec (Some p) e =
       let k : IsChosen s p = is_chosen s p e in
-      gives_told (PrioritiesAreRight code) (turn_taken s (TurnOf p)) _
+      gives_reported (PrioritiesAreRight code) (turn_taken s (TurnOf p)) _
       (λ step f.
       (right_release code plan.readings (with_turn s (TurnOf p)) (right_same code s h _ refl refl) p k.release
       k.is_there exec

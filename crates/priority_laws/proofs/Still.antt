@@ -10,7 +10,7 @@ use Rattle.scj_model.specs.Code.{Code}
 use Rattle.scj_model.specs.Plan.{Plan}
 use Rattle.scj_model.specs.State.{MemoryArea, Activity, State, is_exec, is_open_area, Turn, activity_in}
 use Rattle.scj_model.specs.Registry.{handler_number, handler_row}
-use Rattle.scj_model.specs.Steps.{Step, for_each, telling}
+use Rattle.scj_model.specs.Steps.{Step, for_each, reporting}
 use Rattle.scj_model.specs.Apply.{waiting_of, most_waiting, takes_releases, release_taken, released, termination, termination_asked, asks_for_end, dropped_release}
 use Rattle.scj_model.specs.Arrivals.{executes_since, due_handlers, fired_handler, fired, arrivals, fired_at, fires_due}
 use Rattle.scj_model.specs.Choice.{handler_priority}
@@ -132,7 +132,7 @@ still_fired code s fire = go (fired_handler code s fire.handler)
         IsStill s
         (elim h as (λ x. Step) [
           | Some handler ↦ release_taken s handler
-          | None ↦ telling s (Miss s.unit fire.handler ∷ [])
+          | None ↦ reporting s (Miss s.unit fire.handler ∷ [])
         ]).state
     go None = still_same s
     go (Some handler) = still_taken s handler

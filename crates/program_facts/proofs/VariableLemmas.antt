@@ -3,7 +3,7 @@ use Rattle.std.proofs.Common.{◌≡◌, ℕ, ◌-◌, ◌<◌, ◌≤◌, true,
 use Rattle.scj_tree.specs.Forest.{Forest}
 use Rattle.scj_rules.specs.Contexts.{declarations_of, variable_named, known_variables, variable_before, context}
 use Rattle.class_rows.proofs.WalkLemmas.{chain_here, chain_ended}
-use Rattle.program_facts.specs.Told.{declares, seek}
+use Rattle.program_facts.specs.Reported.{declares, seek}
 
 module _ (forest : Forest) (name : List ℕ) where
   pub first : (id : ℕ) → variable_named (declarations_of forest) id name ≡ seek forest name (length forest.nodes)

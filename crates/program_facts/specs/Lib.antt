@@ -1,3 +1,3 @@
 pub mod Meanings
 pub mod Tables
-pub mod Told
+pub mod Reported

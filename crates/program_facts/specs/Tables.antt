@@ -58,7 +58,7 @@ row_of p class =
 
 -- each row that is there tells what f gives for its number
 pub record AreRowsOf {A : Type 0} (f : ℕ → A) (rows : List A) : Type 0 where
-  pub told : (number : ℕ) (row : A) → slice_get rows number ≡ Some row → row ≡ f number
+  pub reported : (number : ℕ) (row : A) → slice_get rows number ≡ Some row → row ≡ f number
 
 -- the marks of what is implied of classes, and the rows of classes are those of the program
 pub record IsTreeOf (forest : Forest) (tree : ScopeTree) : Type 0 where
@@ -90,7 +90,7 @@ AreRunRows p rows = (id : ℕ) (row : Option Scope) → get nat_cmp rows id ≡ 
 
 -- the rows are those of the program
 pub record AreRuns (forest : Forest) (runs : Runs) : Type 0 where
-  pub told : AreRunRows (declarations_of forest) runs.rows
+  pub reported : AreRunRows (declarations_of forest) runs.rows
 
 -- each row tells of a variable the scope that it has
 abbrev pub AreVariables : Forest → Variables → Type 0
@@ -105,6 +105,6 @@ pub record AreFacts (forest : Forest) (contexts : List Context) (names : ScopeNa
   pub own_contexts : contexts ≡ contexts_in forest
   pub own_names : IsNaming (declarations_of forest) names
   pub own_meanings : AreMeanings forest meanings
-  pub own_tree : (told : ScopeTree) → tree ≡ Some told → IsTreeOf forest told
-  pub own_runs : (told : Runs) → runs ≡ Some told → AreRuns forest told
-  pub own_variables : (told : Variables) → variables ≡ Some told → AreVariables forest told
+  pub own_tree : (reported : ScopeTree) → tree ≡ Some reported → IsTreeOf forest reported
+  pub own_runs : (reported : Runs) → runs ≡ Some reported → AreRuns forest reported
+  pub own_variables : (reported : Variables) → variables ≡ Some reported → AreVariables forest reported

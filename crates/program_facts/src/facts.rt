@@ -184,7 +184,7 @@ impl<'a> Facts<'a> {
 
     /// What a node stands for, as far as that is told.
     #[tactic(auto, unfolding(crate::specs::Meanings::IsMeaningAt))]
-    pub fn meaning_told(&self, id: NodeId) -> NodeMeaning
+    pub fn meaning_reported(&self, id: NodeId) -> NodeMeaning
         ensures { IsMeaningAt self.now id result }
     {
         match self.meanings.get(id.number()) {
@@ -208,7 +208,7 @@ impl<'a> Facts<'a> {
     }
 
     /// Whether the instances of a class lie in `IMMORTAL` although it doesn't write so, if that is told.
-    pub fn implied_told(&self, class: ClassId) -> Option<bool>
+    pub fn implied_reported(&self, class: ClassId) -> Option<bool>
         ensures { IfSome result (λ mark. mark ≡ is_implied_immortal (declarations_of self.now) class) }
     {
         let tree = self.tree()?;
@@ -216,7 +216,7 @@ impl<'a> Facts<'a> {
     }
 
     /// What is said of the class of a number, if that is told.
-    pub fn class_told(&self, class: u32) -> Option<ScopeRow>
+    pub fn class_reported(&self, class: u32) -> Option<ScopeRow>
         ensures { IfSome result (λ row. row ≡ row_of (declarations_of self.now) class) }
     {
         let tree = self.tree()?;
@@ -225,7 +225,7 @@ impl<'a> Facts<'a> {
 
     /// What is said of the method or field that a node declares in a class, if that is told.
     #[tactic(auto, unfolding(crate::specs::Tables::run_at, scj_rules::specs::Contexts::declarations_of))]
-    pub fn member_told(&self, class: ClassId, node: NodeId) -> Option<Option<Scope>>
+    pub fn member_reported(&self, class: ClassId, node: NodeId) -> Option<Option<Scope>>
         ensures { IfSome result (λ row. row ≡ scope_of_member (declarations_of self.now) class node) }
     {
         let context = self.context(node);
@@ -238,7 +238,7 @@ impl<'a> Facts<'a> {
     }
 
     /// The scope of the variable that a node declares, if that is told.
-    pub fn variable_told(&self, id: NodeId) -> Option<Scope>
+    pub fn variable_reported(&self, id: NodeId) -> Option<Scope>
         ensures { IfSome result (λ scope. variable_scope_at (declarations_of self.now) id ≡ Some scope) }
     {
         let variables = self.variables?;

@@ -4,10 +4,10 @@
 pub mod facts;
 pub mod meanings;
 pub mod tables;
-pub mod told;
+pub mod reported;
 mod variables;
 
 pub use facts::Facts;
 pub use meanings::{NameMeaning, NodeMeaning};
 pub use tables::{Runs, ScopeNames, ScopeRow, ScopeTree, Variables};
-pub use told::At;
+pub use reported::At;

@@ -2,7 +2,7 @@
 
 ghost use Rattle.std.specs.Prelude.{◌≡◌, length};
 ghost use Rattle.scj_rules.specs.Contexts.{declarations_of, variable_named, has_object};
-ghost use Rattle.program_facts.specs.Told.{declares, seek};
+ghost use Rattle.program_facts.specs.Reported.{declares, seek};
 
 use crate::facts::Facts;
 use node_contexts::is_static_member;

@@ -145,9 +145,9 @@ alone τ (v ∷ w ∷ vs) t = absurd t.1
 module _ (Y : RattleType) (L : Laws Y) {M : Type 1} {𝓤 : Ura M} {𝓛 : Logic 𝓤} {K : Type 0} {Γ : List
     (Item 𝓤)} {G : Goal 𝓤 𝓛.H} where
   -- what is owned of a value is one machine value, of its type
-  pub tells : K → (x : Y.Denot) (vs : List Val) → ((v : Val) → vs ≡ v ∷ [] → Good (layout Y) v →
+  pub reports : K → (x : Y.Denot) (vs : List Val) → ((v : Val) → vs ≡ v ∷ [] → Good (layout Y) v →
       Seq K 𝓛 (‵ (Y.own_val x (v ∷ [])) ∷ Γ) G) → Seq K 𝓛 (‵ (Y.own_val x vs) ∷ Γ) G
-  tells t x vs k =
+  reports t x vs k =
       peeks t (param 0 Y) (Is (param 0 Y)) (shows 𝓛 (param 0 Y)) x vs (λ is.
       let one = alone (layout Y) vs (((param_laws 0 Y L).lawful 𝓛).typed x vs is) in
       rewrite t 0 (λ (us : List Val). ‵ (Y.own_val x us)) one.1.0 refl $ k one.0 one.1.0 one.1.1)

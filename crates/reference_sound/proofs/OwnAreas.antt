@@ -10,9 +10,9 @@ use Rattle.scj_model.specs.declared.events.Event.{Event}
 use Rattle.scj_model.specs.Code.{Code}
 use Rattle.scj_model.specs.State.{MemoryArea, Frame, Activity, Job, TheSequencer, ReleaseAt, State, activity_of, with_activity}
 use Rattle.scj_model.specs.Memory.{has_store_for, with_area, area_with_scope, closed}
-use Rattle.scj_model.specs.Steps.{silently, telling, fault_in, opening, then_do, job_ended}
+use Rattle.scj_model.specs.Steps.{silently, reporting, fault_in, opening, then_do, job_ended}
 use Rattle.scj_model.specs.Effects.{Effect, Calls, Opens, Leaves}
-use Rattle.scj_model.specs.Apply.{is_full, ceiling_entered, tell_priority, called, opened_in, applied, frame_left, returned, without}
+use Rattle.scj_model.specs.Apply.{is_full, ceiling_entered, report_priority, called, opened_in, applied, frame_left, returned, without}
 use Rattle.frame_sound.specs.Places.{World, world_of}
 use Rattle.frame_sound.specs.Fine.{IsOnList, list_of}
 use Rattle.frame_sound.specs.EffectsFine.{IsSame}
@@ -123,7 +123,7 @@ module _ (code : Code) (s : State) (job : Job) (activity : Activity) (is : activ
       where
         entered : (ceiling : ℕ) (t : Bool) (events : List Event) → AllLead base (Some (if t
             then fault_in s job activity position CeilingViolation
-            else telling
+            else reporting
             (with_activity s job (record activity {
               frames = record g { saved = Some activity.priority } ∷ (h ∷ below);
               priority = ceiling;
@@ -137,16 +137,16 @@ module _ (code : Code) (s : State) (job : Job) (activity : Activity) (is : activ
               | None ↦ silently (with_activity s job (record activity { frames = g ∷ (h ∷ below) }))
               | Some ceiling ↦
                   if nat_lt ceiling activity.priority then fault_in s job activity position CeilingViolation
-                  else telling
+                  else reporting
                   (with_activity s job (record activity {
                     frames = record g { saved = Some activity.priority } ∷ (h ∷ below);
                     priority = ceiling;
-                  })) (tell_priority s job activity.priority ceiling)
+                  })) (report_priority s job activity.priority ceiling)
             ])))
         go true o = all_lead base _ (faults_hold s base held job activity position DepthFull)
         go false None = all_lead base _ (pushed g.saved activity.priority)
         go false (Some ceiling) =
-            entered ceiling (nat_lt ceiling activity.priority) (tell_priority s job activity.priority ceiling)
+            entered ceiling (nat_lt ceiling activity.priority) (report_priority s job activity.priority ceiling)
 
   -- ---- a call in a new area
 
@@ -258,7 +258,7 @@ module _ (code : Code) (s : State) (job : Job) (activity : Activity) (is : activ
       where
         go : (fs : List Frame) → below ≡ fs →
             AllLead base (Some (then_do
-            (telling (closed s h.opened) (tell_priority s job activity.priority (unwrap_or h.saved activity.priority)))
+            (reporting (closed s h.opened) (report_priority s job activity.priority (unwrap_or h.saved activity.priority)))
             (λ s. elim fs [
               | [] ↦ job_ended s job after v
               | g ∷ gs ↦ silently (with_activity s job after)

@@ -10,7 +10,7 @@ use Rattle.scj_model.specs.Code.{Code}
 use Rattle.scj_model.specs.State.{Object, Frame, Activity, Waits, Release, Job, TheSequencer, ReleaseAt, State, activity_of, object_at, is_exec, is_init}
 use Rattle.scj_model.specs.Registry.{handler_number, most_handlers}
 use Rattle.scj_model.specs.Effects.{Effect, AsksRegistration, AsksRelease, AsksTermination}
-use Rattle.scj_model.specs.Steps.{Step, silently, telling, fault_in}
+use Rattle.scj_model.specs.Steps.{Step, silently, reporting, fault_in}
 use Rattle.scj_model.specs.Apply.{applied, registered, released, release_taken, releases_of, waiting_of, most_waiting, takes_releases, dropped_release, termination, termination_asked, asks_for_end, with_frame}
 use Rattle.frame_sound.specs.EffectsFine.{IsSame}
 use Rattle.frame_sound.proofs.OwnJobs.{same_activity}
@@ -60,8 +60,8 @@ module _ (t : State) (base : List ℕ) (h : ReferencesHold t base) where
       same (ReleaseAt n) = release_comes t.releases taken waits_without n
 
       go : (b : Bool) (lost arrives : List Event) →
-          ReferencesHold (if b then telling t lost
-          else telling (record t { releases = t.releases ++ taken ∷ [] }) arrives).state base
+          ReferencesHold (if b then reporting t lost
+          else reporting (record t { releases = t.releases ++ taken ∷ [] }) arrives).state base
       go true lost arrives = h
       go false lost arrives = rest_holds t base (t.releases ++ taken ∷ []) t.is_end_asked t.registry same h
 
@@ -83,7 +83,7 @@ module _ (t : State) (base : List ℕ) (h : ReferencesHold t base) where
     where
       go : (b u : Bool) (events : List Event) →
           ReferencesHold (if b
-          then (if u then telling (record t { is_end_asked = true; releases = map dropped_release t.releases }) events
+          then (if u then reporting (record t { is_end_asked = true; releases = map dropped_release t.releases }) events
           else silently (record t { is_end_asked = true }))
           else silently t).state base
       go true true events = dropped_holds
@@ -122,7 +122,7 @@ module _ (code : Code) (s : State) (job : Job) (activity : Activity) (is : activ
           ReferencesHold (if b then fault_in s job activity position NotInitializing
           else (if u then silently (with_frame s job activity h below)
           else (if v then fault_in s job activity position TooManyHandlers
-          else telling (record (with_frame s job activity h below) { registry = rows }) events))).state base
+          else reporting (record (with_frame s job activity h below) { registry = rows }) events))).state base
       one true u v rows events = faults_hold s base held job activity position NotInitializing
       one false true v rows events = plain
       one false false true rows events = faults_hold s base held job activity position TooManyHandlers

@@ -25,7 +25,7 @@ use Rattle.scj_model.specs.Plan.{Plan}
 use Rattle.scj_model.specs.State.{Activity, Release, Job, TheSequencer, ReleaseAt, State, activity_of, with_activity, is_exec}
 use Rattle.scj_model.specs.Memory.{with_area, has_store_for, closed, literal_value, default_value}
 use Rattle.scj_model.specs.Registry.{handler_row}
-use Rattle.scj_model.specs.Steps.{Step, silently, telling, opening, fault_in, for_each}
+use Rattle.scj_model.specs.Steps.{Step, silently, reporting, opening, fault_in, for_each}
 use Rattle.scj_model.specs.Effects.{new_frame}
 use Rattle.scj_model.specs.Apply.{release_taken}
 use Rattle.scj_model.specs.Sequencer.{innermost, SeqEffect, Continues, TakesSafelet, TakesSequencer, TakesMission, LacksSequencer, LacksMission, BeginsMission, BeginsExecution, SkipsExecution, EndsExecution, ClosesMission, Transition, gone_to, mission_closed, seq_applied, transition_done, after_operation, after_execution, has_started, goes_to, phase_after, position_of_object}
@@ -172,7 +172,7 @@ module _ (code : Code) (base : List ℕ) where
     where
       go : (o : Option ℕ) (events : List Event) → ReferencesHold (elim o as (λ z. Step) [
         | Some handler ↦ release_taken s handler
-        | None ↦ telling s events
+        | None ↦ reporting s events
       ]).state base
       go None events = held
       go (Some handler) events = taken_holds s base held handler

@@ -16,7 +16,7 @@ use Rattle.scj_model.specs.Plan.{Plan}
 use Rattle.scj_model.specs.State.{Object, Frame, Activity, ReleaseStatus, Waits, Started, Ended, Dropped, Release, ReleaseAt, State, changed, with_status, with_activity, is_waiting, object_at, is_init, is_exec}
 use Rattle.scj_model.specs.Registry.{most_handlers, handler_number, handler_row}
 use Rattle.scj_model.specs.Memory.{closed, has_room, has_store_for, area_with_scope, with_area, with_object}
-use Rattle.scj_model.specs.Steps.{Step, silently, telling, for_each, closed_all, job_ended, fault_in, allocating, opening}
+use Rattle.scj_model.specs.Steps.{Step, silently, reporting, for_each, closed_all, job_ended, fault_in, allocating, opening}
 use Rattle.scj_model.specs.Effects.{Effect, Goes, Prints, Makes, Stores, StoresStatic, SetsHidden, SetsCeiling, Calls, Opens, Leaves, AsksRegistration, AsksRelease, AsksTermination, Faults, Stuck}
 use Rattle.scj_model.specs.Apply.{is_full, called, opened_in, frame_left, waiting_of, most_waiting, takes_releases, release_taken, registered, released, termination, termination_asked, with_frame, applied, dropped_release, asks_for_end, ceiling_entered}
 use Rattle.scj_model.specs.Sequencer.{innermost}
@@ -476,7 +476,7 @@ grows_fired code s fire = go (fired_handler code s fire.handler)
         Grows s
         (elim h as (λ x. Step) [
           | Some handler ↦ release_taken s handler
-          | None ↦ telling s (Miss s.unit fire.handler ∷ [])
+          | None ↦ reporting s (Miss s.unit fire.handler ∷ [])
         ]).state
     go None = grows_same s
     go (Some handler) = grows_taken s handler

@@ -17,9 +17,9 @@ use Rattle.scj_model.specs.Code.{Code}
 use Rattle.scj_model.specs.State.{Object, Frame, Activity, TheSequencer, State, with_activity, object_at, is_init, is_exec}
 use Rattle.scj_model.specs.Registry.{most_handlers, handler_number}
 use Rattle.scj_model.specs.Memory.{closed, has_room, has_store_for, area_with_scope, with_area, with_object, new_slots}
-use Rattle.scj_model.specs.Steps.{Step, silently, telling, job_ended, fault_in, allocating, opening}
+use Rattle.scj_model.specs.Steps.{Step, silently, reporting, job_ended, fault_in, allocating, opening}
 use Rattle.scj_model.specs.Effects.{Effect, Goes, Prints, Makes, Stores, StoresStatic, SetsHidden, SetsCeiling, Calls, Opens, Leaves, AsksRegistration, AsksRelease, AsksTermination, Faults, Stuck}
-use Rattle.scj_model.specs.Apply.{is_full, called, opened_in, frame_left, release_taken, registered, released, termination, termination_asked, with_frame, applied, asks_for_end, ceiling_entered, dropped_release, tell_dropped}
+use Rattle.scj_model.specs.Apply.{is_full, called, opened_in, frame_left, release_taken, registered, released, termination, termination_asked, with_frame, applied, asks_for_end, ceiling_entered, dropped_release, report_dropped}
 use Rattle.scj_model.specs.Sequencer.{innermost, area_opened, safelet_made, body_called, sequencer_op}
 use Rattle.scj_model.specs.Run.{frame_op, effect_at, position_of_op, sequencer_turn}
 
@@ -104,7 +104,7 @@ same_asked s r e =
         subst
         (λ (b : Bool). Same s
         (if b
-        then telling (record s { is_end_asked = true; releases = map dropped_release s.releases }) (Terminate s.unit ∷ tell_dropped s)
+        then reporting (record s { is_end_asked = true; releases = map dropped_release s.releases }) (Terminate s.unit ∷ report_dropped s)
         else silently (record s { is_end_asked = true })))
         (sym e) (record { releases = refl; earlier = refl })
 

@@ -9,7 +9,7 @@ use Rattle.scj_model.specs.declared.plans.ReadingRow.{ReadingRow}
 use Rattle.scj_model.specs.Code.{Code}
 use Rattle.scj_model.specs.Plan.{Plan}
 use Rattle.scj_model.specs.State.{Waits, Dropped, Release, State, is_exec, Turn, IdleTurn, TurnOf}
-use Rattle.scj_model.specs.Steps.{Step, silently, telling, then_try, fault_in}
+use Rattle.scj_model.specs.Steps.{Step, silently, reporting, then_try, fault_in}
 use Rattle.scj_base.specs.declared.values.Value.{Value}
 use Rattle.scj_rules.specs.Classes.{is_empty}
 use Rattle.scj_model.specs.Memory.{closed}
@@ -39,17 +39,17 @@ tried_then : (first : Step) (next : State → Option Step) (r : Step) → then_t
     TriedThen first next r
 tried_then first next r e = go (next first.state) refl
   where
-    told : Step → Step
-    told second = telling second.state (first.events ++ second.events)
+    reported : Step → Step
+    reported second = reporting second.state (first.events ++ second.events)
 
     go : (o : Option Step) → next first.state ≡ o → TriedThen first next r
-    go None f = absurd (cc (e, ap (λ (o : Option Step). option_map (λ (second : Step). telling second.state (first.events ++ second.events)) o) f))
+    go None f = absurd (cc (e, ap (λ (o : Option Step). option_map (λ (second : Step). reporting second.state (first.events ++ second.events)) o) f))
     go (Some second) f =
         record {
           second = second;
           is_next = f;
-          same = sym (ap (λ (x : Step). x.state) (step_same (told second) r
-              (sym (ap (λ (o : Option Step). option_map (λ (second : Step). telling second.state (first.events ++ second.events)) o) f) ∙ e)));
+          same = sym (ap (λ (x : Step). x.state) (step_same (reported second) r
+              (sym (ap (λ (o : Option Step). option_map (λ (second : Step). reporting second.state (first.events ++ second.events)) o) f) ∙ e)));
         }
 
 record Bound {A : Type 0} (o : Option A) (f : A → Option Step) (r : Step) : Type 0 where
@@ -73,10 +73,10 @@ pub record UnitParts (code : Code) (plan : Plan) (s after : State) : Type 0 wher
 unit_parts : (code : Code) (plan : Plan) (s : State) (r : Step) → one_unit code plan by_priority s ≡ Some r →
     UnitParts code plan s r.state
 unfolding one_unit
-unit_parts code plan s r e = outer (bound _ (λ (result : Step). Some (telling (next_unit result.state) result.events)) r e)
+unit_parts code plan s r e = outer (bound _ (λ (result : Step). Some (reporting (next_unit result.state) result.events)) r e)
   where
     outer : Bound (then_try (arrivals code plan s) (acts code plan.readings by_priority) >>= (λ result. then_try result (phase_after code)))
-        (λ (result : Step). Some (telling (next_unit result.state) result.events)) r → UnitParts code plan s r.state
+        (λ (result : Step). Some (reporting (next_unit result.state) result.events)) r → UnitParts code plan s r.state
     outer b = inner (bound (then_try (arrivals code plan s) (acts code plan.readings by_priority)) (λ result. then_try result (phase_after code)) b.value b.is_value)
       where
         inner : Bound (then_try (arrivals code plan s) (acts code plan.readings by_priority)) (λ result. then_try result (phase_after code)) b.value → UnitParts code plan s r.state
@@ -90,7 +90,7 @@ unit_parts code plan s r e = outer (bound _ (λ (result : Step). Some (telling (
               is_op = x.is_next;
               last = y.second;
               is_last = ap (phase_after code) (sym x.same) ∙ y.is_next;
-              is_next = sym (ap (λ (z : Step). z.state) (step_same (telling (next_unit b.value.state) b.value.events) r b.is_next)) ∙ ap next_unit y.same;
+              is_next = sym (ap (λ (z : Step). z.state) (step_same (reporting (next_unit b.value.state) b.value.events) r b.is_next)) ∙ ap next_unit y.same;
             }
 
 pub run_unit : (code : Code) (plan : Plan) (t : ℕ) → has_ended (run code plan by_priority t) ≡ false →

@@ -8,7 +8,7 @@ use Rattle.toml.specs.Errors.{IsMemory}
 use Rattle.toml.specs.declared.de.error.Error.{Error}
 use Rattle.toml.specs.Parse.{parse_document}
 use Rattle.run_plan.specs.PlanOf.{not_toml}
-use Rattle.response_times.specs.Answers.{TellsError, TellsDeclared}
+use Rattle.response_times.specs.Answers.{ReportsError, ReportsDeclared}
 use Rattle.response_times.specs.declared.answers.DeclaredError.{DeclaredError}
 use Rattle.response_times.specs.declared.answers.DeclaredError.TheVariants as answer
 use Rattle.response_times.specs.DeclaredOf.{refused, declared_of, declared_of_text}
@@ -27,9 +27,9 @@ unread_text text unread = elim (cases_Bool (is_utf8 text)) [
 
 -- the refusal of a text that `toml` refuses
 pub refused_text : (text : List ℕ) (error : Error) (e : DeclaredError) →
-    (¬ IsMemory error → IsUtf8 text → parse_document text ≡ None) → TellsError error e →
-    TellsDeclared (declared_of_text text) (Err e)
-refused_text text error answer.NotToml unread tells = unread_text text (unread tells)
-refused_text text error answer.Memory unread tells = tt
-refused_text text error (answer.BadKey key) unread tells = absurd tells
-refused_text text error (answer.BadValue key) unread tells = absurd tells
+    (¬ IsMemory error → IsUtf8 text → parse_document text ≡ None) → ReportsError error e →
+    ReportsDeclared (declared_of_text text) (Err e)
+refused_text text error answer.NotToml unread reports = unread_text text (unread reports)
+refused_text text error answer.Memory unread reports = tt
+refused_text text error (answer.BadKey key) unread reports = absurd reports
+refused_text text error (answer.BadValue key) unread reports = absurd reports

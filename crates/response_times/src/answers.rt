@@ -2,7 +2,7 @@
 
 ghost use Rattle.std.specs.Prelude.{◌≡◌};
 ghost use Rattle.run_plan.specs.PlanOf.{bad_key, bad_value};
-ghost use Rattle.response_times.specs.Answers.{Tells};
+ghost use Rattle.response_times.specs.Answers.{Reports};
 
 use run_plan::KeyText;
 use scj_base::Memory;
@@ -43,7 +43,7 @@ impl From<Memory> for DeclaredError {
 
 /// The answer that a key is wrong or missing.
 pub(crate) fn bad_key(alloc: Global, key: &str) -> DeclaredError
-    ensures { Tells (bad_key key.now) result }
+    ensures { Reports (bad_key key.now) result }
 {
     match String::from_str(alloc, key) {
         Ok(text) => DeclaredError::BadKey(KeyText(text)),
@@ -53,7 +53,7 @@ pub(crate) fn bad_key(alloc: Global, key: &str) -> DeclaredError
 
 /// The answer that the value of a key is wrong.
 pub(crate) fn bad_value(alloc: Global, key: &str) -> DeclaredError
-    ensures { Tells (bad_value key.now) result }
+    ensures { Reports (bad_value key.now) result }
 {
     match String::from_str(alloc, key) {
         Ok(text) => DeclaredError::BadValue(KeyText(text)),

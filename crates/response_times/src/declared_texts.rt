@@ -4,7 +4,7 @@ ghost use Rattle.std.specs.Prelude.{◌≡◌, ◌≤◌, All, IfOk, length};
 ghost use Rattle.toml.specs.View.{table_view, view};
 ghost use Rattle.run_plan.specs.PlanOf.{refusal_at};
 ghost use Rattle.response_bounds.specs.Rows.{AreDeclared, most_rows};
-ghost use Rattle.response_times.specs.Answers.{TellsDeclared, TellsError, TellsWhether};
+ghost use Rattle.response_times.specs.Answers.{ReportsDeclared, ReportsError, ReportsWhether};
 ghost use Rattle.response_times.specs.DeclaredOf.{IsHandler, claims_of, completed, declared_of, declared_of_text, first_refusal, rows_of, suits};
 
 use crate::answers::{DeclaredError, bad_key, bad_value};
@@ -30,7 +30,7 @@ fn suits(alloc: Global, key: &str, value: &Value) -> Result<Option<bool>, Memory
 
 /// Refuses an unknown key, and a value that doesn't suit its key.
 fn judge(alloc: Global, key: &str, value: &Value) -> Result<(), DeclaredError>
-    ensures { TellsWhether (refusal_at key.now (suits key.now (view value.now))) result }
+    ensures { ReportsWhether (refusal_at key.now (suits key.now (view value.now))) result }
 {
     match suits(alloc, key, value)? {
         Some(true) => Ok(()),
@@ -41,7 +41,7 @@ fn judge(alloc: Global, key: &str, value: &Value) -> Result<(), DeclaredError>
 
 /// Refuses the first entry of the table that is wrong.
 fn judge_all(alloc: Global, table: &Table) -> Result<(), DeclaredError>
-    ensures { TellsWhether (first_refusal (table_view table.now)) result }
+    ensures { ReportsWhether (first_refusal (table_view table.now)) result }
 {
     for (key, value) in table.iter() {
         judge(alloc, key.as_str(), value)?;
@@ -91,7 +91,7 @@ fn file_of(alloc: Global, handlers: &[HandlerClaim]) -> Result<DeclaredFile, Mem
 
 /// What a table declares whose entries are right, or the first key that it lacks.
 fn completed(alloc: Global, table: &Table) -> Result<DeclaredFile, DeclaredError>
-    ensures meaning { TellsDeclared (completed (table_view table.now)) result }
+    ensures meaning { ReportsDeclared (completed (table_view table.now)) result }
     ensures declared { IfOk result (λ file. AreDeclared file.rows) }
     ensures count { IfOk result (λ file. length file.claimed ≡ length file.rows) }
 {
@@ -108,7 +108,7 @@ fn completed(alloc: Global, table: &Table) -> Result<DeclaredFile, DeclaredError
 /// What a table declares.
 #[tactic(auto, unfolding(crate::specs::DeclaredOf::declared_of))]
 fn declared_of(alloc: Global, table: &Table) -> Result<DeclaredFile, DeclaredError>
-    ensures meaning { TellsDeclared (declared_of (table_view table.now)) result }
+    ensures meaning { ReportsDeclared (declared_of (table_view table.now)) result }
     ensures declared { IfOk result (λ file. AreDeclared file.rows) }
     ensures count { IfOk result (λ file. length file.claimed ≡ length file.rows) }
 {
@@ -124,7 +124,7 @@ fn declared_of(alloc: Global, table: &Table) -> Result<DeclaredFile, DeclaredErr
 /// of the keys, that no such file has or whose value isn't one that it may have. Where there is none, `BadKey` gives
 /// the first of `version` and `handler` that is missing. `Memory` may come at any text.
 pub fn read_declared(alloc: Global, bytes: &[u8]) -> Result<DeclaredFile, DeclaredError>
-    ensures meaning { TellsDeclared (declared_of_text bytes.now) result }
+    ensures meaning { ReportsDeclared (declared_of_text bytes.now) result }
     ensures declared { IfOk result (λ file. AreDeclared file.rows) }
     ensures count { IfOk result (λ file. length file.claimed ≡ length file.rows) }
 {
@@ -136,7 +136,7 @@ pub fn read_declared(alloc: Global, bytes: &[u8]) -> Result<DeclaredFile, Declar
 
 /// Why `toml` refuses a text.
 fn refusal(error: &Error) -> DeclaredError
-    ensures { TellsError error.now result }
+    ensures { ReportsError error.now result }
 {
     if error.is_memory() {
         DeclaredError::Memory

@@ -7,7 +7,7 @@ use Rattle.toml.specs.Data.{Members}
 use Rattle.toml.specs.Errors.{IsMemory}
 use Rattle.toml.specs.declared.de.error.Error.{Error}
 use Rattle.toml.specs.Parse.{parse_document}
-use Rattle.run_plan.specs.Answers.{TellsError, TellsMeaning}
+use Rattle.run_plan.specs.Answers.{ReportsError, ReportsMeaning}
 use Rattle.run_plan.specs.declared.answers.PlanError.{PlanError}
 use Rattle.run_plan.specs.declared.answers.PlanError.TheVariants as answer
 use Rattle.run_plan.specs.PlanOf.{refused, not_toml, meaning_of, meaning_of_text}
@@ -24,8 +24,8 @@ unread_text text unread = elim (cases_Bool (is_utf8 text)) [
 ]
 
 -- the refusal of a text that `toml` refuses
-pub refused_text : (text : List ℕ) (error : Error) (e : PlanError) → (¬ IsMemory error → IsUtf8 text → parse_document text ≡ None) → TellsError error e → TellsMeaning (meaning_of_text text) (Err e)
-refused_text text error answer.NotToml unread tells = unread_text text (unread tells)
-refused_text text error answer.Memory unread tells = tt
-refused_text text error (answer.BadKey key) unread tells = absurd tells
-refused_text text error (answer.BadValue key) unread tells = absurd tells
+pub refused_text : (text : List ℕ) (error : Error) (e : PlanError) → (¬ IsMemory error → IsUtf8 text → parse_document text ≡ None) → ReportsError error e → ReportsMeaning (meaning_of_text text) (Err e)
+refused_text text error answer.NotToml unread reports = unread_text text (unread reports)
+refused_text text error answer.Memory unread reports = tt
+refused_text text error (answer.BadKey key) unread reports = absurd reports
+refused_text text error (answer.BadValue key) unread reports = absurd reports

@@ -8,30 +8,30 @@ use Rattle.run_plan.specs.declared.answers.PlanError.{PlanError}
 use Rattle.run_plan.specs.declared.answers.PlanError.TheVariants as answer
 
 -- the answer tells the refusal; memory may run out at any
-abbrev pub Tells : Refusal → PlanError → Type 0
-Tells refusal answer.NotToml = refusal ≡ not_toml
-Tells refusal (answer.BadKey key) = refusal ≡ bad_key key
-Tells refusal (answer.BadValue key) = refusal ≡ bad_value key
-Tells refusal answer.Memory = Unit {0}
+abbrev pub Reports : Refusal → PlanError → Type 0
+Reports refusal answer.NotToml = refusal ≡ not_toml
+Reports refusal (answer.BadKey key) = refusal ≡ bad_key key
+Reports refusal (answer.BadValue key) = refusal ≡ bad_value key
+Reports refusal answer.Memory = Unit {0}
 
 -- `Ok` where nothing is refused, and else the refusal
-abbrev pub TellsWhether : Option Refusal → Result (Unit {0}) PlanError → Type 0
-TellsWhether refusal (Ok _) = refusal ≡ None
-TellsWhether refusal (Err answer.NotToml) = refusal ≡ Some not_toml
-TellsWhether refusal (Err (answer.BadKey key)) = refusal ≡ Some (bad_key key)
-TellsWhether refusal (Err (answer.BadValue key)) = refusal ≡ Some (bad_value key)
-TellsWhether refusal (Err answer.Memory) = Unit {0}
+abbrev pub ReportsWhether : Option Refusal → Result (Unit {0}) PlanError → Type 0
+ReportsWhether refusal (Ok _) = refusal ≡ None
+ReportsWhether refusal (Err answer.NotToml) = refusal ≡ Some not_toml
+ReportsWhether refusal (Err (answer.BadKey key)) = refusal ≡ Some (bad_key key)
+ReportsWhether refusal (Err (answer.BadValue key)) = refusal ≡ Some (bad_value key)
+ReportsWhether refusal (Err answer.Memory) = Unit {0}
 
 -- why `toml` refuses a text: it isn't TOML, or memory ran out
-abbrev pub TellsError : Error → PlanError → Type 0
-TellsError error answer.Memory = IsMemory error
-TellsError error answer.NotToml = ¬ IsMemory error
-TellsError error _ = ⊥
+abbrev pub ReportsError : Error → PlanError → Type 0
+ReportsError error answer.Memory = IsMemory error
+ReportsError error answer.NotToml = ¬ IsMemory error
+ReportsError error _ = ⊥
 
 -- the plan, or the refusal
-abbrev pub TellsMeaning : Meaning → Result Plan PlanError → Type 0
-TellsMeaning meaning (Ok p) = meaning ≡ plan p
-TellsMeaning meaning (Err answer.NotToml) = meaning ≡ refused not_toml
-TellsMeaning meaning (Err (answer.BadKey key)) = meaning ≡ refused (bad_key key)
-TellsMeaning meaning (Err (answer.BadValue key)) = meaning ≡ refused (bad_value key)
-TellsMeaning meaning (Err answer.Memory) = Unit {0}
+abbrev pub ReportsMeaning : Meaning → Result Plan PlanError → Type 0
+ReportsMeaning meaning (Ok p) = meaning ≡ plan p
+ReportsMeaning meaning (Err answer.NotToml) = meaning ≡ refused not_toml
+ReportsMeaning meaning (Err (answer.BadKey key)) = meaning ≡ refused (bad_key key)
+ReportsMeaning meaning (Err (answer.BadValue key)) = meaning ≡ refused (bad_value key)
+ReportsMeaning meaning (Err answer.Memory) = Unit {0}

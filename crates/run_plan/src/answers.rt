@@ -1,7 +1,7 @@
 //! Why a text gives no plan.
 
 ghost use Rattle.std.specs.Prelude.{◌≡◌, string_bytes};
-ghost use Rattle.run_plan.specs.Answers.{Tells};
+ghost use Rattle.run_plan.specs.Answers.{Reports};
 ghost use Rattle.run_plan.specs.PlanOf.{bad_key, bad_value};
 
 use scj_base::Memory;
@@ -55,7 +55,7 @@ impl From<Memory> for PlanError {
 
 /// The answer that a key is wrong or missing.
 pub(crate) fn bad_key(alloc: Global, key: &str) -> PlanError
-    ensures { Tells (bad_key key.now) result }
+    ensures { Reports (bad_key key.now) result }
 {
     match String::from_str(alloc, key) {
         Ok(text) => PlanError::BadKey(KeyText(text)),
@@ -65,7 +65,7 @@ pub(crate) fn bad_key(alloc: Global, key: &str) -> PlanError
 
 /// The answer that the value of a key is wrong.
 pub(crate) fn bad_value(alloc: Global, key: &str) -> PlanError
-    ensures { Tells (bad_value key.now) result }
+    ensures { Reports (bad_value key.now) result }
 {
     match String::from_str(alloc, key) {
         Ok(text) => PlanError::BadValue(KeyText(text)),

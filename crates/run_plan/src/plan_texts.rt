@@ -3,7 +3,7 @@
 ghost use Rattle.std.specs.Prelude.{◌≡◌, ◌≤◌, IfOk};
 ghost use Rattle.toml.specs.View.{table_view, view};
 ghost use Rattle.run_plan.specs.Limits.{KeepsLimits, largest_store, most_units};
-ghost use Rattle.run_plan.specs.Answers.{TellsError, TellsMeaning, TellsWhether};
+ghost use Rattle.run_plan.specs.Answers.{ReportsError, ReportsMeaning, ReportsWhether};
 ghost use Rattle.run_plan.specs.PlanOf.{completed, first_refusal, is_second, meaning_of, meaning_of_text, plan_with, refusal_at, suits};
 
 use crate::answers::{PlanError, bad_key, bad_value};
@@ -45,7 +45,7 @@ fn suits(alloc: Global, second: bool, key: &str, value: &Value) -> Result<Option
 
 /// Refuses an unknown key, and a value that doesn't suit its key.
 fn judge(alloc: Global, second: bool, key: &str, value: &Value) -> Result<(), PlanError>
-    ensures { TellsWhether (refusal_at key.now (suits second key.now (view value.now))) result }
+    ensures { ReportsWhether (refusal_at key.now (suits second key.now (view value.now))) result }
 {
     match suits(alloc, second, key, value)? {
         Some(true) => Ok(()),
@@ -56,7 +56,7 @@ fn judge(alloc: Global, second: bool, key: &str, value: &Value) -> Result<(), Pl
 
 /// Refuses the first entry of the table that is wrong.
 fn judge_all(alloc: Global, second: bool, table: &Table) -> Result<(), PlanError>
-    ensures { TellsWhether (first_refusal second (table_view table.now)) result }
+    ensures { ReportsWhether (first_refusal second (table_view table.now)) result }
 {
     for (key, value) in table.iter() {
         judge(alloc, second, key.as_str(), value)?;
@@ -66,7 +66,7 @@ fn judge_all(alloc: Global, second: bool, table: &Table) -> Result<(), PlanError
 
 /// The plan of a table whose entries are right, or the first key that it lacks.
 fn completed(alloc: Global, table: &Table) -> Result<Plan, PlanError>
-    ensures meaning { TellsMeaning (completed (table_view table.now)) result }
+    ensures meaning { ReportsMeaning (completed (table_view table.now)) result }
     ensures limits { IfOk result KeepsLimits }
 {
     if number_at(table, "version", 1, 2).is_none() {
@@ -97,7 +97,7 @@ fn plan_with(alloc: Global, units: u64, store: u64, table: &Table) -> Result<Pla
 /// The plan of a table.
 #[tactic(auto, unfolding(crate::specs::PlanOf::meaning_of))]
 fn plan_of(alloc: Global, table: &Table) -> Result<Plan, PlanError>
-    ensures meaning { TellsMeaning (meaning_of (table_view table.now)) result }
+    ensures meaning { ReportsMeaning (meaning_of (table_view table.now)) result }
     ensures limits { IfOk result KeepsLimits }
 {
     judge_all(alloc, is_second(table), table)?;
@@ -112,7 +112,7 @@ fn plan_of(alloc: Global, table: &Table) -> Result<Plan, PlanError>
 /// of the keys, that no plan has or whose value isn't one that it may have. Where there is none, `BadKey` tells the
 /// first of `version`, `units` and `store` that is missing. `Memory` may come at any text.
 pub fn read_plan(alloc: Global, bytes: &[u8]) -> Result<Plan, PlanError>
-    ensures meaning { TellsMeaning (meaning_of_text bytes.now) result }
+    ensures meaning { ReportsMeaning (meaning_of_text bytes.now) result }
     ensures limits { IfOk result KeepsLimits }
 {
     match toml::table_from_slice(alloc, bytes) {
@@ -123,7 +123,7 @@ pub fn read_plan(alloc: Global, bytes: &[u8]) -> Result<Plan, PlanError>
 
 /// Why `toml` refuses a text.
 fn refusal(error: &Error) -> PlanError
-    ensures { TellsError error.now result }
+    ensures { ReportsError error.now result }
 {
     if error.is_memory() {
         PlanError::Memory

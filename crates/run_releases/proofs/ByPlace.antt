@@ -169,21 +169,21 @@ module _ {A : Type 0} where
       go rest false e = rest ∙ ap (λ b. b || list_any chosen xs) (sym (none x e))
 
   -- what is told of each, where nothing is told of the others
-  pub told_there : {B : Type 0} (test : A → Bool) (tell : A → List B) (at : ℕ → List B) (rows : List A) (n : ℕ)
+  pub reported_there : {B : Type 0} (test : A → Bool) (report : A → List B) (at : ℕ → List B) (rows : List A) (n : ℕ)
       (xs : List A) → IsFrom rows n xs →
-      ((x : A) → test x ≡ false → tell x ≡ []) →
-      ((index : ℕ) (x : A) → slice_get rows index ≡ Some x → at index ≡ tell x) →
-      flat_map at (numbers_where test n xs) ≡ flat_map tell xs
+      ((x : A) → test x ≡ false → report x ≡ []) →
+      ((index : ℕ) (x : A) → slice_get rows index ≡ Some x → at index ≡ report x) →
+      flat_map at (numbers_where test n xs) ≡ flat_map report xs
   unfolding numbers_where
-  told_there test tell at rows n [] h none same = refl
-  told_there test tell at rows n (x ∷ xs) h none same =
-      go (told_there test tell at rows (n + 1) xs (are_next h) none same) (test x) refl
+  reported_there test report at rows n [] h none same = refl
+  reported_there test report at rows n (x ∷ xs) h none same =
+      go (reported_there test report at rows (n + 1) xs (are_next h) none same) (test x) refl
     where
-      go : flat_map at (numbers_where test (n + 1) xs) ≡ flat_map tell xs → (b : Bool) → test x ≡ b →
-          flat_map at ((if b then n ∷ [] else []) ++ numbers_where test (n + 1) xs) ≡ tell x ++ flat_map tell xs
+      go : flat_map at (numbers_where test (n + 1) xs) ≡ flat_map report xs → (b : Bool) → test x ≡ b →
+          flat_map at ((if b then n ∷ [] else []) ++ numbers_where test (n + 1) xs) ≡ report x ++ flat_map report xs
       go rest true e = ap (λ zs. zs ++ flat_map at (numbers_where test (n + 1) xs)) (same n x (is_first h))
-          ∙ ap (λ zs. tell x ++ zs) rest
-      go rest false e = rest ∙ ap (λ zs. zs ++ flat_map tell xs) (sym (none x e))
+          ∙ ap (λ zs. report x ++ zs) rest
+      go rest false e = rest ∙ ap (λ zs. zs ++ flat_map report xs) (sym (none x e))
 
   -- those that stay when all elements are others
   pub kept_there : (test : A → Bool) (f : A → A) (rows : List A) (n : ℕ) (xs : List A) → IsFrom rows n (map f xs) →

@@ -4,5 +4,5 @@ pub mod Choosing
 pub mod Counted
 pub mod Counting
 pub mod Seen
-pub mod Telling
+pub mod Reporting
 pub mod Waiting

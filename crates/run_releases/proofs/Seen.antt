@@ -13,8 +13,8 @@ use Rattle.scj_model.specs.declared.events.Event.TheVariants.{Arrive, Drop, Lost
 use Rattle.op_list.specs.Listed.{Listing}
 use Rattle.scj_model.specs.State.{Release, ReleaseAt, State, activity_in as activity_in_status, activity_of, is_started, is_waiting, with_activity}
 use Rattle.scj_model.specs.State.{Waits as WaitsSeen, with_status as state_with_status}
-use Rattle.scj_model.specs.Steps.{Step, telling}
-use Rattle.scj_model.specs.Apply.{dropped_release, most_waiting, release_taken, releases_of, tell_dropped, waiting_of}
+use Rattle.scj_model.specs.Steps.{Step, reporting}
+use Rattle.scj_model.specs.Apply.{dropped_release, most_waiting, release_taken, releases_of, report_dropped, waiting_of}
 use Rattle.scj_model.specs.Choice.{candidates, chosen}
 use Rattle.scj_model.specs.Sequencer.{has_started}
 use Rattle.job_frames.specs.declared.activities.Activity.{Activity as StoredActivity}
@@ -23,14 +23,14 @@ use Rattle.run_releases.specs.declared.rows.Release.{Release as StoredRelease}
 use Rattle.run_releases.specs.declared.rows.ReleaseStatus.{ReleaseStatus as StoredStatus}
 use Rattle.run_releases.specs.declared.rows.ReleaseStatus.TheVariants.{Waits, Started, Ended, Dropped}
 use Rattle.run_releases.specs.Rows.{StoredReleases, activity_within, dropped_row, dropped_status, emptied_row, is_live, is_under_way, release_seen, status_seen, waits, with_releases, with_status}
-use Rattle.run_releases.specs.Releases.{activity_in, all_dropped, count_of, emptied_at, is_of, waiting_row, next_number, status_set, taken_in, tell_taken, waiting_count, waits_for}
-use Rattle.run_releases.specs.Counts.{is_under_way_at, live_indices, row_is_live, tell_at, tell_row}
+use Rattle.run_releases.specs.Releases.{activity_in, all_dropped, count_of, emptied_at, is_of, waiting_row, next_number, status_set, taken_in, report_taken, waiting_count, waits_for}
+use Rattle.run_releases.specs.Counts.{is_under_way_at, live_indices, row_is_live, report_at, report_row}
 use Rattle.run_releases.specs.Choosing.{chosen_among}
 use Rattle.run_releases.specs.OtherReleases.{all_let_go, at_unit, with_list, with_registry}
 use Rattle.run_releases.proofs.Changes.{changed_twice, map_changed}
 use Rattle.run_releases.proofs.Choosing.{chosen_seen}
 use Rattle.run_releases.proofs.Counting.{count_both, count_mapped}
-use Rattle.run_releases.proofs.ByPlace.{any_there, from_first, told_there}
+use Rattle.run_releases.proofs.ByPlace.{any_there, from_first, reported_there}
 
 -- ---- statuses
 
@@ -86,19 +86,19 @@ waiting_seen code s rs handler =
 -- by how many wait and how many there are
 taken_by : State → ℕ → ℕ → ℕ → Step
 taken_by s handler waiting count =
-    if not (nat_lt waiting most_waiting) then telling s (Lost s.unit handler ∷ [])
+    if not (nat_lt waiting most_waiting) then reporting s (Lost s.unit handler ∷ [])
     else (let number = count + 1 in
     let taken : Release = record { handler = handler; number = number; status = WaitsSeen } in
-    telling (with_list s (s.releases ++ taken ∷ [])) (Arrive s.unit handler number ∷ []))
+    reporting (with_list s (s.releases ++ taken ∷ [])) (Arrive s.unit handler number ∷ []))
 
-abbrev told_with : Listing → State → StoredReleases → ℕ → Option ℕ → Step
-told_with code s rs handler number =
-    telling (with_releases code s (taken_in handler number rs)) (tell_taken s.unit handler number)
+abbrev reported_with : Listing → State → StoredReleases → ℕ → Option ℕ → Step
+reported_with code s rs handler number =
+    reporting (with_releases code s (taken_in handler number rs)) (report_taken s.unit handler number)
 
 pub taken_seen : (code : Listing) (s : State) (rs : StoredReleases) (handler : ℕ) →
     release_taken (with_releases code s rs) handler
-    ≡ telling (with_releases code s (taken_in handler (next_number rs handler) rs))
-    (tell_taken s.unit handler (next_number rs handler))
+    ≡ reporting (with_releases code s (taken_in handler (next_number rs handler) rs))
+    (report_taken s.unit handler (next_number rs handler))
 unfolding release_taken taken_by
 taken_seen code s rs handler =
     ap (λ n. taken_by (with_releases code s rs) handler n (length (releases_of (with_releases code s rs) handler)))
@@ -108,18 +108,18 @@ taken_seen code s rs handler =
     ∙ go (nat_lt (waiting_count rs.earlier rs.rows handler) most_waiting))
   where
     go : (b : Bool) →
-        (if not b then telling (with_releases code s rs) (Lost s.unit handler ∷ [])
-        else telling
+        (if not b then reporting (with_releases code s rs) (Lost s.unit handler ∷ [])
+        else reporting
         (with_list (with_releases code s rs)
         (map (release_seen code) rs.rows
         ++ record { handler = handler; number = count_of rs.earlier rs.rows handler + 1; status = WaitsSeen } ∷ []))
         (Arrive s.unit handler (count_of rs.earlier rs.rows handler + 1) ∷ []))
-        ≡ telling
+        ≡ reporting
         (with_releases code s
         (taken_in handler (if b then Some (count_of rs.earlier rs.rows handler + 1) else None) rs))
-        (tell_taken s.unit handler (if b then Some (count_of rs.earlier rs.rows handler + 1) else None))
+        (report_taken s.unit handler (if b then Some (count_of rs.earlier rs.rows handler + 1) else None))
     go true =
-        ap (λ xs. telling (with_list (with_releases code s rs) xs)
+        ap (λ xs. reporting (with_list (with_releases code s rs) xs)
         (Arrive s.unit handler (count_of rs.earlier rs.rows handler + 1) ∷ []))
         (sym (map-append (release_seen code) rs.rows (waiting_row handler (count_of rs.earlier rs.rows handler + 1)
         ∷ [])))
@@ -134,10 +134,10 @@ room waiting fewer = grind (arith, nat_tests)
 -- as many wait as may
 pub full_seen : (code : Listing) (s : State) (rs : StoredReleases) (handler waiting : ℕ) →
     waiting ≡ waiting_count rs.earlier rs.rows handler → most_waiting ≤ waiting →
-    release_taken (with_releases code s rs) handler ≡ telling (with_releases code s rs) (Lost s.unit handler ∷ [])
+    release_taken (with_releases code s rs) handler ≡ reporting (with_releases code s rs) (Lost s.unit handler ∷ [])
 full_seen code s rs handler waiting count as_many =
     taken_seen code s rs handler
-    ∙ ap (λ b. told_with code s rs handler (if b then Some (count_of rs.earlier rs.rows handler + 1) else None))
+    ∙ ap (λ b. reported_with code s rs handler (if b then Some (count_of rs.earlier rs.rows handler + 1) else None))
     (ap (λ n. nat_lt n most_waiting) (sym count) ∙ full waiting as_many)
 
 -- one more may wait
@@ -145,13 +145,13 @@ pub room_seen : (code : Listing) (s : State) (rs : StoredReleases) (handler wait
     waiting ≡ waiting_count rs.earlier rs.rows handler → waiting < most_waiting →
     number ≡ count_of rs.earlier rs.rows handler + 1 →
     release_taken (with_releases code s rs) handler
-    ≡ telling (with_releases code s (record rs { rows = rs.rows ++ waiting_row handler number ∷ [] }))
+    ≡ reporting (with_releases code s (record rs { rows = rs.rows ++ waiting_row handler number ∷ [] }))
     (Arrive s.unit handler number ∷ [])
 room_seen code s rs handler waiting number count fewer next =
     taken_seen code s rs handler
-    ∙ (ap (λ b. told_with code s rs handler (if b then Some (count_of rs.earlier rs.rows handler + 1) else None))
+    ∙ (ap (λ b. reported_with code s rs handler (if b then Some (count_of rs.earlier rs.rows handler + 1) else None))
     (ap (λ n. nat_lt n most_waiting) (sym count) ∙ room waiting fewer)
-    ∙ ap (λ n. told_with code s rs handler (Some n)) (sym next))
+    ∙ ap (λ n. reported_with code s rs handler (Some n)) (sym next))
 
 -- ---- releases that are dropped
 
@@ -175,38 +175,38 @@ pub dropped_seen : (code : Listing) (s : State) (rs : StoredReleases) →
     all_let_go (with_releases code s rs) ≡ with_releases code s (all_dropped rs)
 dropped_seen code s rs = ap (with_list (with_releases code s rs)) (rows_dropped code rs.rows)
 
-tell_of : ℕ → Release → Event
-tell_of unit r = Drop unit r.handler r.number
+report_of : ℕ → Release → Event
+report_of unit r = Drop unit r.handler r.number
 
-all_told : (code : Listing) (unit : ℕ) (rows : List StoredRelease) →
-    flat_map (tell_row unit) rows ≡ map (tell_of unit)
+all_reported : (code : Listing) (unit : ℕ) (rows : List StoredRelease) →
+    flat_map (report_row unit) rows ≡ map (report_of unit)
     (filter (λ (r : Release). is_waiting r.status) (map (release_seen code) rows))
-unfolding tell_of
-all_told code unit [] = refl
-all_told code unit (r ∷ rows) = go (all_told code unit rows) (waits r.status)
+unfolding report_of
+all_reported code unit [] = refl
+all_reported code unit (r ∷ rows) = go (all_reported code unit rows) (waits r.status)
     ∙ ap
-    (λ b. map (tell_of unit)
+    (λ b. map (report_of unit)
     (cond b (release_seen code r ∷ filter (λ (r : Release). is_waiting r.status) (map (release_seen code) rows))
     (filter (λ (r : Release). is_waiting r.status) (map (release_seen code) rows)))) (sym (waits_seen code r.status))
   where
-    go : flat_map (tell_row unit) rows ≡ map (tell_of unit)
+    go : flat_map (report_row unit) rows ≡ map (report_of unit)
         (filter (λ (r : Release). is_waiting r.status) (map (release_seen code) rows)) →
-        (b : Bool) → (if b then Drop unit r.handler r.number ∷ [] else []) ++ flat_map (tell_row unit) rows
-        ≡ map (tell_of unit)
+        (b : Bool) → (if b then Drop unit r.handler r.number ∷ [] else []) ++ flat_map (report_row unit) rows
+        ≡ map (report_of unit)
         (cond b (release_seen code r ∷ filter (λ (r : Release). is_waiting r.status) (map (release_seen code) rows))
         (filter (λ (r : Release). is_waiting r.status) (map (release_seen code) rows)))
     go rest true = ap (λ es. Drop unit r.handler r.number ∷ es) rest
     go rest false = rest
 
-pub told_seen : (code : Listing) (s : State) (rs : StoredReleases) (unit : ℕ) →
-    flat_map (tell_at rs.rows unit) (live_indices rs.rows) ≡ tell_dropped (at_unit (with_releases code s rs) unit)
-unfolding live_indices tell_of
-told_seen code s rs unit =
-    told_there row_is_live (tell_row unit) (tell_at rs.rows unit) rs.rows 0 rs.rows (from_first rs.rows)
+pub reported_seen : (code : Listing) (s : State) (rs : StoredReleases) (unit : ℕ) →
+    flat_map (report_at rs.rows unit) (live_indices rs.rows) ≡ report_dropped (at_unit (with_releases code s rs) unit)
+unfolding live_indices report_of
+reported_seen code s rs unit =
+    reported_there row_is_live (report_row unit) (report_at rs.rows unit) rs.rows 0 rs.rows (from_first rs.rows)
     (λ r over. ap (λ b. if b then Drop unit r.handler r.number ∷ [] else []) (over_waits_not r.status over))
     (λ index r e. ap
-    (λ (o : Option StoredRelease). elim o as (λ z. List Event) [ None ↦ [] | Some x ↦ tell_row unit x ]) e)
-    ∙ all_told code unit rs.rows
+    (λ (o : Option StoredRelease). elim o as (λ z. List Event) [ None ↦ [] | Some x ↦ report_row unit x ]) e)
+    ∙ all_reported code unit rs.rows
 
 -- ---- activities
 

@@ -42,8 +42,8 @@ one_less None counts = counts
 one_less (Some handler) counts = slice_set counts handler (slice_index counts handler - 1)
 
 -- what the trace tells of a release that is dropped
-abbrev pub tell_row : ℕ → StoredRelease → List Event
-tell_row unit r = if waits r.status then Drop unit r.handler r.number ∷ [] else []
+abbrev pub report_row : ℕ → StoredRelease → List Event
+report_row unit r = if waits r.status then Drop unit r.handler r.number ∷ [] else []
 
-abbrev pub tell_at : List StoredRelease → ℕ → ℕ → List Event
-tell_at rows unit index = elim (slice_get rows index) [ None ↦ [] | Some r ↦ tell_row unit r ]
+abbrev pub report_at : List StoredRelease → ℕ → ℕ → List Event
+report_at rows unit index = elim (slice_get rows index) [ None ↦ [] | Some r ↦ report_row unit r ]

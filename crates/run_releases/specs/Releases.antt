@@ -41,9 +41,9 @@ taken_in handler None rs = rs
 taken_in handler (Some number) rs = record rs { rows = rs.rows ++ waiting_row handler number ∷ [] }
 
 -- what the trace tells of it
-abbrev pub tell_taken : ℕ → ℕ → Option ℕ → List Event
-tell_taken unit handler None = Lost unit handler ∷ []
-tell_taken unit handler (Some number) = Arrive unit handler number ∷ []
+abbrev pub report_taken : ℕ → ℕ → Option ℕ → List Event
+report_taken unit handler None = Lost unit handler ∷ []
+report_taken unit handler (Some number) = Arrive unit handler number ∷ []
 
 -- the next mission begins: all releases are of earlier ones
 abbrev pub mission_begun : StoredReleases → StoredReleases

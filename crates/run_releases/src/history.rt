@@ -3,20 +3,20 @@
 ghost use Rattle.std.specs.Prelude.{◌≡◌, ◌++◌, [], IfOk, OnOk, OnErr, option_copied, option_map, slice_get};
 ghost use Rattle.op_list.specs.Listed.{Listing};
 ghost use Rattle.scj_model.specs.State.{Ended as EndedSeen, ReleaseAt, State, activity_of, with_activity, with_status as state_with_status};
-ghost use Rattle.scj_model.specs.Steps.{telling};
-ghost use Rattle.scj_model.specs.Apply.{release_taken, tell_dropped};
+ghost use Rattle.scj_model.specs.Steps.{reporting};
+ghost use Rattle.scj_model.specs.Apply.{release_taken, report_dropped};
 ghost use Rattle.scj_model.specs.Sequencer.{has_started};
 ghost use Rattle.scj_model.specs.Choice.{chosen};
 ghost use Rattle.job_frames.specs.Frames.{activity_seen};
 ghost use Rattle.run_releases.specs.Rows.{with_releases};
-ghost use Rattle.run_releases.specs.Releases.{activity_in, all_dropped, emptied_at, mission_begun, next_number, status_set, taken_in, tell_taken};
+ghost use Rattle.run_releases.specs.Releases.{activity_in, all_dropped, emptied_at, mission_begun, next_number, status_set, taken_in, report_taken};
 ghost use Rattle.run_releases.specs.OtherReleases.{all_let_go, at_unit, with_registry};
 
 use crate::choice::choose;
 use crate::counts::{number_at, one_more, reach, set_number, take_one};
 use crate::indices::{
     any_started, drop_all, forget, is_live_there, keep_live, push_release, set_status, take_from,
-    tell_all, waiting_there,
+    report_all, waiting_there,
 };
 use crate::rows::{Release, ReleaseStatus};
 use job_frames::Activity;
@@ -73,8 +73,8 @@ impl Releases {
         ensures taken { IfOk result (λ number. self.new ≡ taken_in handler number self.old) }
         ensures seen { (code : Listing) (s : State) →
             IfOk result
-            (λ number. release_taken (with_releases code s self.old) handler ≡ telling (with_releases code s self.new)
-            (tell_taken s.unit handler number)) }
+            (λ number. release_taken (with_releases code s self.old) handler ≡ reporting (with_releases code s self.new)
+            (report_taken s.unit handler number)) }
         ensures err { OnErr result (self.new ≡ self.old) }
     {
         let index = handler as usize;
@@ -100,16 +100,16 @@ impl Releases {
     }
 
     /// Lets those that wait go, and tells so in the order in which they arrived.
-    pub fn drop_waiting(&mut self, unit: u64, told: &mut Vec<Event>) -> Result<(), Memory>
+    pub fn drop_waiting(&mut self, unit: u64, reported: &mut Vec<Event>) -> Result<(), Memory>
         ensures dropped { OnOk result (self.new ≡ all_dropped self.old) }
         ensures seen { (code : Listing) (s : State) →
             OnOk result (all_let_go (with_releases code s self.old) ≡ with_releases code s self.new) }
-        ensures told { (code : Listing) (s : State) →
+        ensures reported { (code : Listing) (s : State) →
             OnOk result
-            (told.new.items ≡ told.old.items ++ tell_dropped (at_unit (with_releases code s self.old) unit)) }
+            (reported.new.items ≡ reported.old.items ++ report_dropped (at_unit (with_releases code s self.old) unit)) }
         ensures err { OnErr result (self.new ≡ self.old) }
     {
-        tell_all(&self.rows, &self.live, unit, told)?;
+        report_all(&self.rows, &self.live, unit, reported)?;
         drop_all(&mut self.rows, &self.live);
         keep_live(&self.rows, &mut self.live);
         self.waiting.clear();

@@ -7,7 +7,7 @@ ghost use Rattle.job_frames.specs.Frames.{empty_activity};
 ghost use Rattle.run_releases.specs.declared.rows.Release.{Release as StoredRelease};
 ghost use Rattle.run_releases.specs.Rows.{dropped_row, emptied_row, with_status};
 ghost use Rattle.run_releases.specs.Releases.{activity_in};
-ghost use Rattle.run_releases.specs.Counts.{is_live_at, is_under_way_at, tell_at, tell_row, waiting_handler};
+ghost use Rattle.run_releases.specs.Counts.{is_live_at, is_under_way_at, report_at, report_row, waiting_handler};
 
 use crate::rows::{Release, ReleaseStatus};
 use job_frames::Activity;
@@ -131,11 +131,11 @@ pub(crate) fn drop_all(rows: &mut Vec<Release>, indices: &[usize])
 }
 
 /// Tells that the release is let go, if it waits.
-fn tell_release(release: &Release, unit: u64, told: &mut Vec<Event>) -> Result<(), Memory>
-    ensures { OnOk result (told.new.items ≡ told.old.items ++ tell_row unit release.now) }
+fn report_release(release: &Release, unit: u64, reported: &mut Vec<Event>) -> Result<(), Memory>
+    ensures { OnOk result (reported.new.items ≡ reported.old.items ++ report_row unit release.now) }
 {
     if release.is_waiting() {
-        told.push(Event::Drop {
+        reported.push(Event::Drop {
             unit,
             handler: release.handler,
             number: release.number,
@@ -145,31 +145,31 @@ fn tell_release(release: &Release, unit: u64, told: &mut Vec<Event>) -> Result<(
 }
 
 /// The same of the release at a place.
-fn tell_there(
+fn report_there(
     rows: &[Release],
     index: usize,
     unit: u64,
-    told: &mut Vec<Event>,
+    reported: &mut Vec<Event>,
 ) -> Result<(), Memory>
-    ensures { OnOk result (told.new.items ≡ told.old.items ++ tell_at rows.now unit index) }
+    ensures { OnOk result (reported.new.items ≡ reported.old.items ++ report_at rows.now unit index) }
 {
     match row_there(rows, index) {
-        Some(release) => tell_release(release, unit, told),
+        Some(release) => report_release(release, unit, reported),
         None => Ok(()),
     }
 }
 
 /// Tells of those of these releases that wait that they are let go.
-pub(crate) fn tell_all(
+pub(crate) fn report_all(
     rows: &[Release],
     indices: &[usize],
     unit: u64,
-    told: &mut Vec<Event>,
+    reported: &mut Vec<Event>,
 ) -> Result<(), Memory>
-    ensures { OnOk result (told.new.items ≡ told.old.items ++ flat_map (tell_at rows.now unit) indices.now) }
+    ensures { OnOk result (reported.new.items ≡ reported.old.items ++ flat_map (report_at rows.now unit) indices.now) }
 {
     for index in indices {
-        tell_there(rows, *index, unit, told)?;
+        report_there(rows, *index, unit, reported)?;
     }
     Ok(())
 }

@@ -12,14 +12,14 @@ use Rattle.scj_model.specs.Code.{Code}
 use Rattle.scj_model.specs.Plan.{Plan}
 use Rattle.scj_model.specs.State.{Activity, IdleTurn, Release, ReleaseAt, State, TheSequencer, Turn, TurnOf, activity_in, activity_of, is_exec}
 use Rattle.scj_model.specs.Memory.{closed}
-use Rattle.scj_model.specs.Steps.{Step, for_each, silently, telling, then_try}
+use Rattle.scj_model.specs.Steps.{Step, for_each, silently, reporting, then_try}
 use Rattle.scj_model.specs.Apply.{release_taken}
 use Rattle.scj_model.specs.Sequencer.{BeginsExecution, BeginsMission, ClosesMission, Continues, EndsExecution, LacksMission, LacksSequencer, SeqEffect, SkipsExecution, TakesMission, TakesSafelet, TakesSequencer, Transition, after_operation, goes_to, gone_to, has_started, innermost, phase_after, seq_applied, transition_done}
 use Rattle.scj_model.specs.Arrivals.{arrivals, due_handlers, executes_since, fired, fired_at, fired_handler, fires_due}
 use Rattle.scj_model.specs.Choice.{Policy}
 use Rattle.scj_model.specs.Run.{acts, empty_state, turn_acts, turn_taken}
 use Rattle.scj_model.specs.Reached.{Moment, Reached}
-use Rattle.scj_model.proofs.Reaching.{gives_some, gives_told, reached_keeps}
+use Rattle.scj_model.proofs.Reaching.{gives_some, gives_reported, reached_keeps}
 use Rattle.run_sizes.specs.Depths.{FramesAreFew}
 use Rattle.run_sizes.proofs.DeepEffects.{FewIf, few_bind, few_either, few_mapped, few_ref_op, few_taken, few_turn}
 use Rattle.run_sizes.proofs.DeepSteps.{FewAfter, FewFrames, few_after_close, few_fault, rows_got}
@@ -36,7 +36,7 @@ chosen_few : (code : Code) (rows : List ReadingRow) (s : State) (turn : Turn) �
     FewIf (then_try (turn_taken s turn) (turn_acts code rows turn))
 unfolding turn_taken
 chosen_few code rows s turn h =
-    gives_told FewFrames (turn_taken s turn) _ (λ step e.
+    gives_reported FewFrames (turn_taken s turn) _ (λ step e.
     (turn_few code rows turn (turn_taken s turn).state
     (record { sequencer = h.sequencer; releases = h.releases })).is step e)
 
@@ -100,7 +100,7 @@ fired_few code s fire h = go (fired_handler code s fire.handler)
     go : (o : Option ℕ) →
         FewAfter (elim o as (λ x. Step) [
           | Some handler ↦ release_taken s handler
-          | None ↦ telling s (Miss s.unit fire.handler ∷ [])
+          | None ↦ reporting s (Miss s.unit fire.handler ∷ [])
         ])
     go None = h
     go (Some handler) = few_taken s handler h

@@ -11,7 +11,7 @@ use Rattle.scj_model.specs.declared.plans.ReadingRow.{ReadingRow}
 use Rattle.scj_model.specs.Code.{Code}
 use Rattle.scj_model.specs.Plan.{Plan}
 use Rattle.scj_model.specs.State.{IdleTurn, ReleaseAt, State, TheSequencer, Turn, TurnOf, is_exec}
-use Rattle.scj_model.specs.Steps.{Step, for_each, silently, telling, then_try}
+use Rattle.scj_model.specs.Steps.{Step, for_each, silently, reporting, then_try}
 use Rattle.scj_model.specs.Apply.{release_taken}
 use Rattle.scj_model.specs.Sequencer.{BeginsExecution, BeginsMission, ClosesMission, Continues, EndsExecution, LacksMission, LacksSequencer, SeqEffect, SkipsExecution, TakesMission, TakesSafelet, TakesSequencer, Transition, after_operation, goes_to, gone_to, has_started, innermost, phase_after, seq_applied, transition_done}
 use Rattle.scj_model.specs.Arrivals.{arrivals, due_handlers, executes_since, fired, fired_at, fired_handler, fires_due}
@@ -26,10 +26,10 @@ use Rattle.run_sizes.proofs.Operating.{bind_grows, either_grows, grows_ref_op, g
 
 -- ---- the choice and the operation
 
-told_grows : (s : State) (first : Step) (o : Option Step) → GrowsIf 1 s o →
-    GrowsIf 1 s (option_map (λ (second : Step). telling second.state (first.events ++ second.events)) o)
-told_grows s first None g = none_grows 1 s
-told_grows s first (Some second) g = some_grows 1 s _ (g.is second refl)
+reported_grows : (s : State) (first : Step) (o : Option Step) → GrowsIf 1 s o →
+    GrowsIf 1 s (option_map (λ (second : Step). reporting second.state (first.events ++ second.events)) o)
+reported_grows s first None g = none_grows 1 s
+reported_grows s first (Some second) g = some_grows 1 s _ (g.is second refl)
 
 turn_grows : (code : Code) (rows : List ReadingRow) (turn : Turn) (s : State) →
     GrowsIf 1 s (turn_acts code rows turn s)
@@ -41,7 +41,7 @@ chosen_grows : (code : Code) (rows : List ReadingRow) (s : State) (turn : Turn) 
     GrowsIf 1 s (then_try (turn_taken s turn) (turn_acts code rows turn))
 unfolding turn_taken
 chosen_grows code rows s turn =
-    told_grows s (turn_taken s turn) _
+    reported_grows s (turn_taken s turn) _
     (record {
       is = λ r e. then_grows 1 s (turn_taken s turn).state r.state (unchanged s (turn_taken s turn).state refl refl)
           ((turn_grows code rows turn (turn_taken s turn).state).is r e);
@@ -108,7 +108,7 @@ fired_grows code s fire = go (fired_handler code s fire.handler)
     go : (h : Option ℕ) →
         GrowsTo 0 s (elim h as (λ x. Step) [
           | Some handler ↦ release_taken s handler
-          | None ↦ telling s (Miss s.unit fire.handler ∷ [])
+          | None ↦ reporting s (Miss s.unit fire.handler ∷ [])
         ])
     go None = unchanged s _ refl refl
     go (Some handler) = grows_taken s handler

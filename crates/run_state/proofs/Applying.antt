@@ -9,9 +9,9 @@ use Rattle.scj_model.specs.declared.events.Event.TheVariants.{Fault, End}
 use Rattle.scj_model.specs.Code.{Code}
 use Rattle.scj_model.specs.State.{Frame, Activity, Object, Ended, Release, Job, TheSequencer, ReleaseAt, State, object_at, with_activity, with_status}
 use Rattle.scj_model.specs.Memory.{closed}
-use Rattle.scj_model.specs.Steps.{Step, allocating, closed_all, fault_in, of_release, opening, silently, telling}
+use Rattle.scj_model.specs.Steps.{Step, allocating, closed_all, fault_in, of_release, opening, silently, reporting}
 use Rattle.scj_model.specs.Effects.{Effect, Goes, Prints, Makes, Stores, StoresStatic, SetsHidden, SetsCeiling, Calls, Opens, Leaves, AsksRegistration, AsksRelease, AsksTermination, Faults, Stuck}
-use Rattle.scj_model.specs.Apply.{applied, called, ceiling_entered, frame_left, is_full, opened_in, registered, tell_priority, with_frame}
+use Rattle.scj_model.specs.Apply.{applied, called, ceiling_entered, frame_left, is_full, opened_in, registered, report_priority, with_frame}
 
 module _ (code : Code) (s : State) (job : Job) (activity : Activity) (below : List Frame) (position : Position) where
   abbrev pub topped : Frame → Activity
@@ -25,7 +25,7 @@ module _ (code : Code) (s : State) (job : Job) (activity : Activity) (below : Li
       go : (j : Job) → fault_in s j (topped f) position fault ≡ fault_in s j (topped g) position fault
       go TheSequencer = refl
       go (ReleaseAt n) =
-          ap (λ (o : Option ℕ). telling (with_status (closed_all (closed s o) below) n Ended)
+          ap (λ (o : Option ℕ). reporting (with_status (closed_all (closed s o) below) n Ended)
           (Fault s.unit fault position ∷ of_release s (ReleaseAt n) (λ (r : Release). End s.unit r.handler r.number ∷ [])))
           e
 
@@ -42,12 +42,12 @@ module _ (code : Code) (s : State) (job : Job) (activity : Activity) (below : Li
         | None ↦ silently (with_activity s job (record a { frames = k ∷ h ∷ below }))
         | Some ceiling ↦
             if nat_lt ceiling a.priority then fault_in s job a position CeilingViolation
-            else telling
+            else reporting
             (with_activity s job (record a {
               frames = record k { saved = Some a.priority } ∷ h ∷ below;
               priority = ceiling;
             }))
-            (tell_priority s job a.priority ceiling)
+            (report_priority s job a.priority ceiling)
       ])
 
   called_alike : (f g h k : Frame) → f.opened ≡ g.opened → (found : Option ℕ) →

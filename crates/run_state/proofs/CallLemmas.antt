@@ -17,7 +17,7 @@ use Rattle.scj_model.specs.State.{Frame, Activity, Job, Object, State, object_at
 use Rattle.scj_model.specs.Effects.{monitor_of}
 use Rattle.scj_model.specs.Memory.{area_with_scope}
 use Rattle.scj_model.specs.Steps.{fault_in, silently}
-use Rattle.scj_model.specs.Apply.{called, ceiling_entered, is_full, opened_in, tell_priority}
+use Rattle.scj_model.specs.Apply.{called, ceiling_entered, is_full, opened_in, report_priority}
 use Rattle.job_frames.specs.declared.activities.Activity.{Activity as StoredActivity}
 use Rattle.job_frames.specs.declared.frames.Frame.{Frame as StoredFrame}
 use Rattle.job_frames.specs.Frames.{activity_seen, below, frame_of, frames_of}
@@ -70,10 +70,10 @@ none_on_top code g before after h e =
 -- the priority that was before the call is told
 pub priority_below : (code : Listing) (s : State) (job : Job) (g : Frame) (before after : StoredActivity) (ceiling : ℕ)
     (first second : List Event) → HasOnTop code g before after →
-    second ≡ first ++ tell_priority s job after.priority ceiling →
-    second ≡ first ++ tell_priority s job before.priority ceiling
+    second ≡ first ++ report_priority s job after.priority ceiling →
+    second ≡ first ++ report_priority s job before.priority ceiling
 priority_below code s job g before after ceiling first second h t =
-    t ∙ ap (λ (a : StoredActivity). first ++ tell_priority s job a.priority ceiling) h.whole
+    t ∙ ap (λ (a : StoredActivity). first ++ report_priority s job a.priority ceiling) h.whole
 
 -- the frame on top saves the priority, or has moved into an area that it opened
 pub entered_seen : (code : Listing) (g : Frame) (before after : StoredActivity) (frames : List StoredFrame) (ceiling : ℕ) →

@@ -64,31 +64,31 @@ status_is_seen code st n status =
 -- ---- ends
 
 -- the step of an end that tells nothing
-pub quiet : (code : Listing) (step : Step) (st : RunState) (told : List Event) → IsStep code step st [] [] →
-    IsStep code step st told told
-quiet code step st told h = record {
+pub quiet : (code : Listing) (step : Step) (st : RunState) (reported : List Event) → IsStep code step st [] [] →
+    IsStep code step st reported reported
+quiet code step st reported h = record {
   state = h.state;
-  told = sym (append-nil told) ∙ ap (λ (es : List Event). told ++ es) h.told;
+  reported = sym (append-nil reported) ∙ ap (λ (es : List Event). reported ++ es) h.reported;
 }
 
 module _ (code : Listing) (st : RunState) (n : ℕ) (rs : StoredReleases) (first last : List Event) where
-  abbrev end_told : List Event
-  end_told = of_release (state_of code st) (ReleaseAt n) (λ (r : ReleaseOfRun). End st.unit r.handler r.number ∷ [])
+  abbrev end_reported : List Event
+  end_reported = of_release (state_of code st) (ReleaseAt n) (λ (r : ReleaseOfRun). End st.unit r.handler r.number ∷ [])
 
   pub release_done : (activity : Activity) (value : Option Value) → rs ≡ status_set n Ended st.releases →
-      last ≡ first ++ end_told →
+      last ≡ first ++ end_reported →
       IsStep code (job_ended (state_of code st) (ReleaseAt n) activity value) (record st { releases = rs }) first last
   unfolding job_ended state_of
   release_done activity value e t = record {
     state = ap (λ (x : StoredReleases). state_of code (record st { releases = x })) e ∙ status_is_seen code st n Ended;
-    told = t;
+    reported = t;
   }
 
   pub release_at_fault : (m : Contents) (activity : StoredActivity) (position : Position) (fault : RunFault)
       (middle : List Event) →
       ((s : State) → closed_all (with_memory s st.memory) (frames_of code activity.frames) ≡ with_memory s m) →
       rs ≡ status_set n Ended st.releases → middle ≡ first ++ Fault st.unit fault position ∷ [] →
-      last ≡ middle ++ end_told →
+      last ≡ middle ++ end_reported →
       IsStep code (fault_in (state_of code st) (ReleaseAt n) (activity_seen code activity) position fault)
       (record st { memory = m; releases = rs }) first last
   unfolding fault_in state_of
@@ -98,8 +98,8 @@ module _ (code : Listing) (st : RunState) (n : ℕ) (rs : StoredReleases) (first
         state = ap (λ (x : StoredReleases). state_of code (record with_m { releases = x })) e
             ∙ (status_is_seen code with_m n Ended
             ∙ ap (λ (s : State). state_with_status s n EndedSeen) (sym (closes (state_of code st))));
-        told = u ∙ (ap (λ (es : List Event). es ++ end_told) t
-            ∙ append_assoc first (Fault st.unit fault position ∷ []) end_told);
+        reported = u ∙ (ap (λ (es : List Event). es ++ end_reported) t
+            ∙ append_assoc first (Fault st.unit fault position ∷ []) end_reported);
       }
 
 -- one place further down

@@ -8,7 +8,7 @@ use Rattle.op_list.specs.Listed.{Listing}
 use Rattle.scj_model.specs.State.{Frame, Activity, Job, State, with_activity}
 use Rattle.scj_model.specs.Memory.{closed}
 use Rattle.scj_model.specs.Steps.{job_ended, silently}
-use Rattle.scj_model.specs.Apply.{frame_left, returned, tell_priority, without}
+use Rattle.scj_model.specs.Apply.{frame_left, returned, report_priority, without}
 use Rattle.job_frames.specs.declared.activities.Activity.{Activity as StoredActivity}
 use Rattle.job_frames.specs.declared.frames.Frame.{Frame as StoredFrame}
 use Rattle.job_frames.specs.Frames.{activity_seen, below, frame_of, frames_of, with_operand}
@@ -28,19 +28,19 @@ after_leaving activity f below value = record activity {
 pub left_step : (code : Listing) (s : State) (job : Job) (activity : Activity) (f : Frame) (below : List Frame)
     (value : Option Value) (middle st : RunState) (first second third : List Event) →
     state_of code middle ≡ closed s f.opened →
-    second ≡ first ++ tell_priority s job activity.priority (unwrap_or f.saved activity.priority) →
+    second ≡ first ++ report_priority s job activity.priority (unwrap_or f.saved activity.priority) →
     IsStep code (settled (state_of code middle) job (after_leaving activity f below value) value below) st second
     third →
     IsStep code (frame_left s job activity f below value) st first third
 unfolding frame_left settled
 left_step code s job activity f below value middle st first second third e t h =
     let after : Activity = after_leaving activity f below value in
-    let told : List Event = tell_priority s job activity.priority (unwrap_or f.saved activity.priority) in
+    let reported : List Event = report_priority s job activity.priority (unwrap_or f.saved activity.priority) in
     record {
       state = h.state ∙ ap (λ (x : State). (settled x job after value below).state) e;
-      told = h.told ∙ (ap (λ (x : State). second ++ (settled x job after value below).events) e
+      reported = h.reported ∙ (ap (λ (x : State). second ++ (settled x job after value below).events) e
           ∙ (ap (λ (es : List Event). es ++ (settled (closed s f.opened) job after value below).events) t
-          ∙ append_assoc first told (settled (closed s f.opened) job after value below).events));
+          ∙ append_assoc first reported (settled (closed s f.opened) job after value below).events));
     }
 
 pub as_many : (value : Option Value) (frames : List Frame) → length (returned value frames) ≡ length frames
@@ -59,7 +59,7 @@ pub left_all : (code : Listing) (st : RunState) (job : Job) (activity after : St
       areas = without opened activity.areas;
       priority = unwrap_or saved activity.priority;
     } →
-    second ≡ first ++ tell_priority (state_of code st) job activity.priority after.priority →
+    second ≡ first ++ report_priority (state_of code st) job activity.priority after.priority →
     ((s : State) → closed (with_memory s st.memory) opened ≡ with_memory s m) →
     ((rest : List Frame) → length rest ≡ length after.frames →
     IsStep code (settled (state_of code (record st { memory = m })) job (activity_seen code after) value rest)
@@ -87,7 +87,7 @@ left_all code st job activity after f below value opened saved m final first sec
     left_step code (state_of code st) job (activity_seen code activity) (frame_of code f) (frames_of code below) value
     middle final first second third
     (sym (closes (state_of code st)) ∙ ap (closed (state_of code st)) o)
-    (t ∙ ap (λ (b : Activity). first ++ tell_priority (state_of code st) job activity.priority b.priority) seen)
+    (t ∙ ap (λ (b : Activity). first ++ report_priority (state_of code st) job activity.priority b.priority) seen)
     (subst
     (λ (b : Activity). IsStep code (settled (state_of code middle) job b value (frames_of code below)) final second
     third)

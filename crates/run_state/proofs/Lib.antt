@@ -11,5 +11,5 @@ pub mod Rows
 pub mod SeenLemmas
 pub mod Standing
 pub mod StepLemmas
-pub mod TellLemmas
+pub mod ReportLemmas
 pub mod TopEffects

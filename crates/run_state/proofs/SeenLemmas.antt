@@ -33,18 +33,18 @@ releases_there code st = refl
 
 -- ---- what the trace tells of the release at a place
 
-tell_found : (tell : ReleaseOfRun → List Event) → Option ReleaseOfRun → List Event
-tell_found tell o = elim o [ None ↦ [] | Some r ↦ tell r ]
+report_found : (report : ReleaseOfRun → List Event) → Option ReleaseOfRun → List Event
+report_found report o = elim o [ None ↦ [] | Some r ↦ report r ]
 
-pub told_of : (code : Listing) (st : RunState) (n : ℕ) (tell : ReleaseOfRun → List Event) (r : Release) →
-    Some r ≡ slice_get st.releases.rows n → of_release (state_of code st) (ReleaseAt n) tell ≡ tell
+pub reported_of : (code : Listing) (st : RunState) (n : ℕ) (report : ReleaseOfRun → List Event) (r : Release) →
+    Some r ≡ slice_get st.releases.rows n → of_release (state_of code st) (ReleaseAt n) report ≡ report
     (release_seen code r)
-unfolding state_of tell_found
-told_of code st n tell r e =
-    ap (tell_found tell) (get_map (release_seen code) st.releases.rows n ∙ ap (option_map (release_seen code)) (sym e))
+unfolding state_of report_found
+reported_of code st n report r e =
+    ap (report_found report) (get_map (release_seen code) st.releases.rows n ∙ ap (option_map (release_seen code)) (sym e))
 
-pub told_of_none : (code : Listing) (st : RunState) (n : ℕ) (tell : ReleaseOfRun → List Event) →
-    None ≡ slice_get st.releases.rows n → of_release (state_of code st) (ReleaseAt n) tell ≡ []
-unfolding state_of tell_found
-told_of_none code st n tell e =
-    ap (tell_found tell) (get_map (release_seen code) st.releases.rows n ∙ ap (option_map (release_seen code)) (sym e))
+pub reported_of_none : (code : Listing) (st : RunState) (n : ℕ) (report : ReleaseOfRun → List Event) →
+    None ≡ slice_get st.releases.rows n → of_release (state_of code st) (ReleaseAt n) report ≡ []
+unfolding state_of report_found
+reported_of_none code st n report e =
+    ap (report_found report) (get_map (release_seen code) st.releases.rows n ∙ ap (option_map (release_seen code)) (sym e))

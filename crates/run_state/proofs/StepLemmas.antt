@@ -6,7 +6,7 @@ use Rattle.scj_model.specs.declared.events.Event.{Event}
 use Rattle.scj_model.specs.Code.{code_of}
 use Rattle.op_list.specs.Listed.{Listing}
 use Rattle.scj_model.specs.State.{Frame, State, with_activity}
-use Rattle.scj_model.specs.Steps.{Step, telling}
+use Rattle.scj_model.specs.Steps.{Step, reporting}
 use Rattle.scj_model.specs.Effects.{Effect}
 use Rattle.scj_model.specs.Apply.{applied, with_frame}
 use Rattle.job_frames.specs.declared.activities.Activity.{Activity as StoredActivity}
@@ -42,33 +42,33 @@ applied_as code was acting activity effect st before after step same h =
     record { tried = λ f below e. try_of code st before after _ step (same f below e) h }
 
 -- an effect that changes the state, puts the frames back and tells something
-pub applied_telling : (code : Listing) (was : RunState) (acting : Acting) (activity : StoredActivity)
+pub applied_reporting : (code : Listing) (was : RunState) (acting : Acting) (activity : StoredActivity)
     (effect : Frame → Effect) (st : RunState) (before after : List Event) (s : State) (events : List Event) →
     ((f : Frame) (below : List Frame) →
     applied (code_of code.program) (state_of code was) (job_seen acting.job) (activity_seen code activity) below acting.position (effect f)
-    ≡ Some (telling (with_frame s (job_seen acting.job) (activity_seen code activity) f below) events)) →
+    ≡ Some (reporting (with_frame s (job_seen acting.job) (activity_seen code activity) f below) events)) →
     state_of code st ≡ with_activity s (job_seen acting.job) (activity_seen code activity) →
     after ≡ before ++ events →
     IsApplied code was acting activity effect true st before after
-applied_telling code was acting activity effect st before after s events same state told =
+applied_reporting code was acting activity effect st before after s events same state reported =
     applied_as code was acting activity effect st before after
-    (telling (with_activity s (job_seen acting.job) (activity_seen code activity)) events)
+    (reporting (with_activity s (job_seen acting.job) (activity_seen code activity)) events)
     (λ f below e. same (frame_of code f) (frames_of code below) ∙ ap (λ (fs : List StoredFrame).
-    Some (telling (with_activity s (job_seen acting.job)
+    Some (reporting (with_activity s (job_seen acting.job)
     (record (activity_seen code activity) { frames = frames_of code fs })) events)) (sym e))
-    (record { state = state; told = told })
+    (record { state = state; reported = reported })
 
 -- an effect that changes the memory, puts the frames back and tells nothing
 pub applied_on_memory : (code : Listing) (was : RunState) (acting : Acting) (activity : StoredActivity)
-    (effect : Frame → Effect) (m : Contents) (st : RunState) (told : List Event) (s : State) →
+    (effect : Frame → Effect) (m : Contents) (st : RunState) (reported : List Event) (s : State) →
     ((f : Frame) (below : List Frame) →
     applied (code_of code.program) (state_of code was) (job_seen acting.job) (activity_seen code activity) below acting.position (effect f)
-    ≡ Some (telling (with_frame s (job_seen acting.job) (activity_seen code activity) f below) [])) →
+    ≡ Some (reporting (with_frame s (job_seen acting.job) (activity_seen code activity) f below) [])) →
     state_of code (record was { memory = m }) ≡ s →
     state_of code st
     ≡ with_activity (state_of code (record was { memory = m })) (job_seen acting.job) (activity_seen code activity) →
-    IsApplied code was acting activity effect true st told told
-applied_on_memory code was acting activity effect m st told s same e put =
-    applied_telling code was acting activity effect st told told s [] same
+    IsApplied code was acting activity effect true st reported reported
+applied_on_memory code was acting activity effect m st reported s same e put =
+    applied_reporting code was acting activity effect st reported reported s [] same
     (put ∙ ap (λ (x : State). with_activity x (job_seen acting.job) (activity_seen code activity)) e)
-    (sym (append-nil told))
+    (sym (append-nil reported))

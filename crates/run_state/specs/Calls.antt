@@ -5,18 +5,18 @@ use Rattle.scj_base.specs.declared.values.Value.{Value}
 use Rattle.scj_base.specs.declared.values.Value.TheVariants.{At}
 use Rattle.scj_base.specs.declared.faults.RunFault.TheVariants.{MemoryFull}
 use Rattle.scj_model.specs.State.{Frame, Activity, Job, State, with_activity}
-use Rattle.scj_model.specs.Steps.{Step, fault_in, job_ended, opening, silently, telling}
-use Rattle.scj_model.specs.Apply.{tell_priority}
+use Rattle.scj_model.specs.Steps.{Step, fault_in, job_ended, opening, silently, reporting}
+use Rattle.scj_model.specs.Apply.{report_priority}
 
 -- a call that enters a monitor with this ceiling, which isn't below the priority
 unfoldable pub call_entered : State → Job → Activity → List Frame → Frame → ℕ → Step
 call_entered s job activity frames g ceiling =
-    telling
+    reporting
     (with_activity s job (record activity {
       frames = record g { saved = Some activity.priority } ∷ frames;
       priority = ceiling;
     }))
-    (tell_priority s job activity.priority ceiling)
+    (report_priority s job activity.priority ceiling)
 
 -- a call in a new area, where neither scope nor depth forbids it
 unfoldable pub call_opened : State → Job → Activity → List Frame → Position → Frame → ℕ → Option ℕ → ℕ → Step

@@ -17,7 +17,7 @@ use Rattle.run_state.specs.Seen.{state_of, job_seen}
 -- the step led to this state, and its events were told
 pub record IsStep (code : Listing) (step : Step) (st : RunState) (before after : List Event) : Type 0 where
   pub state : state_of code st ≡ step.state
-  pub told : after ≡ before ++ step.events
+  pub reported : after ≡ before ++ step.events
 
 -- a step that may have no result: the code answers whether it has one, and if so it is a step
 pub record IsTry (code : Listing) (step : Option Step) (answer : Bool) (st : RunState) (before after : List Event) : Type 0

@@ -16,7 +16,7 @@ ghost use Rattle.run_state.specs.Steps.{HasOnTop, IsStep};
 use crate::ends::fault_in;
 use crate::jobs::put_back;
 use crate::states::{Acting, RunState};
-use crate::told::tell_priority;
+use crate::reported::report_priority;
 use crate::tops::save_priority;
 use job_frames::{Activity, Frame, NewFrame};
 use op_list::OpList;
@@ -58,17 +58,17 @@ pub(crate) fn refused(
     acting: Acting,
     mut activity: Activity,
     fault: RunFault,
-    told: &mut Vec<Event>,
+    reported: &mut Vec<Event>,
 ) -> Result<(), Memory>
     requires { CloseInOrder state.old.memory (below activity.frames) }
     ensures { (code : Listing) (g : FrameOfRun) (before : StoredActivity) → HasOnTop code g before activity →
         IfOk result
         (λ _. IsStep code
         (fault_in (state_of code state.old) (job_seen acting.job) (activity_seen code before) acting.position fault)
-        state.new told.old.items told.new.items) }
+        state.new reported.old.items reported.new.items) }
 {
     activity.frames.drop_top();
-    fault_in(state, acting, &activity, fault, told)?;
+    fault_in(state, acting, &activity, fault, reported)?;
     Ok(())
 }
 
@@ -111,16 +111,16 @@ fn entered(
     acting: Acting,
     mut activity: Activity,
     ceiling: u8,
-    told: &mut Vec<Event>,
+    reported: &mut Vec<Event>,
 ) -> Result<(), Memory>
     ensures { (code : Listing) (g : FrameOfRun) (before : StoredActivity) → HasOnTop code g before activity →
         IfOk result
         (λ _. IsStep code (call_entered (state_of code state.old) (job_seen acting.job) (activity_seen code before)
-        (frames_of code before.frames) g ceiling) state.new told.old.items told.new.items) }
+        (frames_of code before.frames) g ceiling) state.new reported.old.items reported.new.items) }
 {
     let before = activity.priority;
     enter(&mut activity, ceiling);
-    tell_priority(state, acting.job, before, ceiling, told)?;
+    report_priority(state, acting.job, before, ceiling, reported)?;
     put_back(state, acting.job, activity)?;
     Ok(())
 }
@@ -131,7 +131,7 @@ pub fn called(
     state: &mut RunState,
     acting: Acting,
     activity: Activity,
-    told: &mut Vec<Event>,
+    reported: &mut Vec<Event>,
 ) -> Result<(), Memory>
     requires closes { CloseInOrder state.old.memory (below activity.frames) }
     requires live { IsOnLiveObject state.old.memory activity }
@@ -140,10 +140,10 @@ pub fn called(
         (λ _. IsStep code.now
         (called (code_of code.now.program) (state_of code.now state.old) (job_seen acting.job)
         (activity_seen code.now before) (frames_of code.now before.frames) acting.position g) state.new
-        told.old.items told.new.items) }
+        reported.old.items reported.new.items) }
 {
     if was_full(&activity) {
-        refused(state, acting, activity, RunFault::DepthFull, told)?;
+        refused(state, acting, activity, RunFault::DepthFull, reported)?;
         return Ok(());
     }
     match ceiling_on_top(code, state, &activity) {
@@ -153,10 +153,10 @@ pub fn called(
         }
         Some(ceiling) => {
             if ceiling < activity.priority {
-                refused(state, acting, activity, RunFault::CeilingViolation, told)?;
+                refused(state, acting, activity, RunFault::CeilingViolation, reported)?;
                 Ok(())
             } else {
-                entered(state, acting, activity, ceiling, told)?;
+                entered(state, acting, activity, ceiling, reported)?;
                 Ok(())
             }
         }

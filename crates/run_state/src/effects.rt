@@ -15,15 +15,15 @@ use crate::ends::fault_in;
 use crate::jobs::put_back;
 use crate::leaving::frame_left;
 use crate::states::{Acting, RunState};
-use crate::told::tell;
+use crate::reported::report;
 use job_frames::Activity;
 use scj_base::{Memory, NodeId, RunFault, Value};
 use scj_model::Event;
 
 /// The frame goes on.
 pub fn goes(state: &mut RunState, acting: Acting, activity: Activity) -> Result<(), Memory>
-    ensures { (code : Listing) (told : List EventOfRun) →
-        IfOk result (λ _. IsApplied code state.old acting activity Goes true state.new told told) }
+    ensures { (code : Listing) (reported : List EventOfRun) →
+        IfOk result (λ _. IsApplied code state.old acting activity Goes true state.new reported reported) }
 {
     put_back(state, acting.job, activity)?;
     Ok(())
@@ -36,15 +36,15 @@ pub fn prints(
     activity: Activity,
     label: NodeId,
     value: i32,
-    told: &mut Vec<Event>,
+    reported: &mut Vec<Event>,
 ) -> Result<(), Memory>
     ensures { (code : Listing) →
         IfOk result
-        (λ _. IsApplied code state.old acting activity (λ f. Prints f label value) true state.new told.old.items
-        told.new.items) }
+        (λ _. IsApplied code state.old acting activity (λ f. Prints f label value) true state.new reported.old.items
+        reported.new.items) }
 {
-    tell(
-        told,
+    report(
+        reported,
         Event::Print {
             unit: state.unit,
             label,
@@ -61,15 +61,15 @@ pub fn leaves(
     acting: Acting,
     activity: Activity,
     value: Option<Value>,
-    told: &mut Vec<Event>,
+    reported: &mut Vec<Event>,
 ) -> Result<(), Memory>
     requires { CloseInOrder state.old.memory activity.frames }
     ensures { (code : Listing) →
         IfOk result
-        (λ _. IsApplied code state.old acting activity (λ f. Leaves f value) true state.new told.old.items
-        told.new.items) }
+        (λ _. IsApplied code state.old acting activity (λ f. Leaves f value) true state.new reported.old.items
+        reported.new.items) }
 {
-    frame_left(state, acting.job, activity, value, told)?;
+    frame_left(state, acting.job, activity, value, reported)?;
     Ok(())
 }
 
@@ -79,15 +79,15 @@ pub fn faults(
     acting: Acting,
     activity: Activity,
     fault: RunFault,
-    told: &mut Vec<Event>,
+    reported: &mut Vec<Event>,
 ) -> Result<(), Memory>
     requires { CloseInOrder state.old.memory activity.frames }
     ensures { (code : Listing) →
         IfOk result
-        (λ _. IsApplied code state.old acting activity (λ f. Faults fault) true state.new told.old.items
-        told.new.items) }
+        (λ _. IsApplied code state.old acting activity (λ f. Faults fault) true state.new reported.old.items
+        reported.new.items) }
 {
-    fault_in(state, acting, &activity, fault, told)?;
+    fault_in(state, acting, &activity, fault, reported)?;
     Ok(())
 }
 

@@ -12,7 +12,7 @@ ghost use Rattle.run_state.specs.Standing.{CloseInOrder, ClosesLast, after_close
 ghost use Rattle.run_state.specs.Steps.{IsStep};
 
 use crate::states::{Acting, Job, RunState};
-use crate::told::{tell, tell_end, tell_two};
+use crate::reported::{report, report_end, report_two};
 use job_frames::{Activity, Frame};
 use region_heap::RegionHeap;
 use scj_base::{AreaId, Memory, Position, RunFault, Value};
@@ -65,16 +65,16 @@ pub fn halted(
     state: &mut RunState,
     position: Position,
     fault: RunFault,
-    told: &mut Vec<Event>,
+    reported: &mut Vec<Event>,
 ) -> Result<(), Memory>
     ensures { (code : Listing) (activity : ActivityOfRun) →
         IfOk result
         (λ _. IsStep code (fault_in (state_of code state.old) TheSequencer activity position fault) state.new
-        told.old.items told.new.items) }
+        reported.old.items reported.new.items) }
 {
     let unit = state.unit;
-    tell_two(
-        told,
+    report_two(
+        reported,
         Event::Fault { unit, fault, position },
         Event::Halted { unit },
     )?;
@@ -85,13 +85,13 @@ pub fn halted(
 }
 
 /// The release at a place has come to its end.
-fn release_ended(state: &mut RunState, release: usize, told: &mut Vec<Event>) -> Result<(), Memory>
+fn release_ended(state: &mut RunState, release: usize, reported: &mut Vec<Event>) -> Result<(), Memory>
     ensures { (code : Listing) (activity : ActivityOfRun) →
         IfOk result
         (λ _. IsStep code (job_ended (state_of code state.old) (ReleaseAt release) activity None) state.new
-        told.old.items told.new.items) }
+        reported.old.items reported.new.items) }
 {
-    tell_end(state, release, told)?;
+    report_end(state, release, reported)?;
     state.releases.end(release);
     Ok(())
 }
@@ -103,18 +103,18 @@ fn release_broken(
     activity: &Activity,
     position: Position,
     fault: RunFault,
-    told: &mut Vec<Event>,
+    reported: &mut Vec<Event>,
 ) -> Result<(), Memory>
     requires { CloseInOrder state.old.memory activity.now.frames }
     ensures { (code : Listing) →
         IfOk result
         (λ _. IsStep code
         (fault_in (state_of code state.old) (ReleaseAt release) (activity_seen code activity.now) position fault) state.new
-        told.old.items told.new.items) }
+        reported.old.items reported.new.items) }
 {
     let unit = state.unit;
-    tell(told, Event::Fault { unit, fault, position })?;
-    tell_end(state, release, told)?;
+    report(reported, Event::Fault { unit, fault, position })?;
+    report_end(state, release, reported)?;
     close_all(&mut state.memory, activity.frames.in_order());
     state.releases.end(release);
     Ok(())
@@ -126,22 +126,22 @@ pub fn fault_in(
     acting: Acting,
     activity: &Activity,
     fault: RunFault,
-    told: &mut Vec<Event>,
+    reported: &mut Vec<Event>,
 ) -> Result<(), Memory>
     requires { CloseInOrder state.old.memory activity.now.frames }
     ensures { (code : Listing) →
         IfOk result
         (λ _. IsStep code
         (fault_in (state_of code state.old) (job_seen acting.job) (activity_seen code activity.now) acting.position fault)
-        state.new told.old.items told.new.items) }
+        state.new reported.old.items reported.new.items) }
 {
     match acting.job {
         Job::Sequencer => {
-            halted(state, acting.position, fault, told)?;
+            halted(state, acting.position, fault, reported)?;
             Ok(())
         }
         Job::Release(release) => {
-            release_broken(state, release, activity, acting.position, fault, told)?;
+            release_broken(state, release, activity, acting.position, fault, reported)?;
             Ok(())
         }
     }
@@ -163,12 +163,12 @@ pub fn job_ended(
     job: Job,
     activity: Activity,
     value: Option<Value>,
-    told: &mut Vec<Event>,
+    reported: &mut Vec<Event>,
 ) -> Result<(), Memory>
     ensures { (code : Listing) →
         IfOk result
         (λ _. IsStep code (job_ended (state_of code state.old) (job_seen job) (activity_seen code activity) value)
-        state.new told.old.items told.new.items) }
+        state.new reported.old.items reported.new.items) }
 {
     match job {
         Job::Sequencer => {
@@ -176,7 +176,7 @@ pub fn job_ended(
             Ok(())
         }
         Job::Release(release) => {
-            release_ended(state, release, told)?;
+            release_ended(state, release, reported)?;
             Ok(())
         }
     }

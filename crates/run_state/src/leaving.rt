@@ -14,7 +14,7 @@ ghost use Rattle.run_state.specs.Calls.{settled};
 use crate::ends::{close_opened, job_ended};
 use crate::jobs::put_back;
 use crate::states::{Job, RunState};
-use crate::told::tell_priority;
+use crate::reported::report_priority;
 use job_frames::Activity;
 use scj_base::{AreaId, Memory, Value};
 use scj_model::Event;
@@ -95,15 +95,15 @@ fn settle(
     job: Job,
     activity: Activity,
     value: Option<Value>,
-    told: &mut Vec<Event>,
+    reported: &mut Vec<Event>,
 ) -> Result<(), Memory>
     ensures { (code : Listing) (below : List FrameOfRun) → length below ≡ length activity.frames →
         IfOk result
         (λ _. IsStep code (settled (state_of code state.old) (job_seen job) (activity_seen code activity) value below)
-        state.new told.old.items told.new.items) }
+        state.new reported.old.items reported.new.items) }
 {
     if activity.frames.depth() == 0 {
-        job_ended(state, job, activity, value, told)?;
+        job_ended(state, job, activity, value, reported)?;
         Ok(())
     } else {
         put_back(state, job, activity)?;
@@ -118,22 +118,22 @@ pub fn frame_left(
     job: Job,
     mut activity: Activity,
     value: Option<Value>,
-    told: &mut Vec<Event>,
+    reported: &mut Vec<Event>,
 ) -> Result<(), Memory>
     requires { CloseInOrder state.old.memory activity.frames }
     ensures { (code : Listing) (f : StoredFrame) (below : List StoredFrame) → activity.frames ≡ f ∷ below →
         IfOk result
         (λ _. IsStep code
         (frame_left (state_of code state.old) (job_seen job) (activity_seen code activity) (frame_of code f)
-        (frames_of code below) value) state.new told.old.items told.new.items) }
+        (frames_of code below) value) state.new reported.old.items reported.new.items) }
 {
     let left = left_by(&activity)?;
     let opened = opened_by(&activity)?;
     let before = activity.priority;
     let given = value;
     step_down(&mut activity, left, given)?;
-    tell_priority(state, job, before, activity.priority, told)?;
+    report_priority(state, job, before, activity.priority, reported)?;
     close_opened(&mut state.memory, opened);
-    settle(state, job, activity, value, told)?;
+    settle(state, job, activity, value, reported)?;
     Ok(())
 }

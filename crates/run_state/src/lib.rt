@@ -10,7 +10,7 @@ pub mod memory;
 pub mod openings;
 pub mod states;
 pub mod stores;
-pub mod told;
+pub mod reported;
 mod tops;
 
 pub use states::{Acting, Job, NewArea, NewArray, NewObject, RunState, Turn};

@@ -67,7 +67,7 @@ fn opened_on_top(
     acting: Acting,
     mut activity: Activity,
     area: NewArea,
-    told: &mut Vec<Event>,
+    reported: &mut Vec<Event>,
 ) -> Result<(), Memory>
     requires numbers { HasNumbers state.old.memory }
     requires few { open_count state.old.memory < 1794 }
@@ -75,8 +75,8 @@ fn opened_on_top(
     ensures { (code : Listing) (g : FrameOfRun) (before : StoredActivity) → HasOnTop code g before activity →
         IfOk result
         (λ _. IsStep code (call_opened (state_of code state.old) (job_seen acting.job) (activity_seen code before)
-        (frames_of code before.frames) acting.position g area.scope area.parent area.bytes) state.new told.old.items
-        told.new.items) }
+        (frames_of code before.frames) acting.position g area.scope area.parent area.bytes) state.new reported.old.items
+        reported.new.items) }
 {
     match open_area(state, area) {
         Some(opened) => {
@@ -85,7 +85,7 @@ fn opened_on_top(
             Ok(())
         }
         None => {
-            refused(state, acting, activity, RunFault::StoreFull, told)?;
+            refused(state, acting, activity, RunFault::StoreFull, reported)?;
             Ok(())
         }
     }
@@ -98,21 +98,21 @@ pub fn opened_in(
     activity: Activity,
     scope: ScopeId,
     bytes: u64,
-    told: &mut Vec<Event>,
+    reported: &mut Vec<Event>,
 ) -> Result<(), Memory>
     requires numbers { HasNumbers state.old.memory }
     requires stands { StandsIn state.old.memory (below_top activity) }
     ensures { (code : Listing) (g : FrameOfRun) (before : StoredActivity) → HasOnTop code g before activity →
         IfOk result
         (λ _. IsStep code (opened_in (state_of code state.old) (job_seen acting.job) (activity_seen code before)
-        (frames_of code before.frames) acting.position g scope bytes) state.new told.old.items told.new.items) }
+        (frames_of code before.frames) acting.position g scope bytes) state.new reported.old.items reported.new.items) }
 {
     if is_cycle(state, &activity, scope) {
-        refused(state, acting, activity, RunFault::ScopedCycle, told)?;
+        refused(state, acting, activity, RunFault::ScopedCycle, reported)?;
         return Ok(());
     }
     if was_full(&activity) {
-        refused(state, acting, activity, RunFault::DepthFull, told)?;
+        refused(state, acting, activity, RunFault::DepthFull, reported)?;
         return Ok(());
     }
     let parent = area_on_top(&activity);
@@ -121,6 +121,6 @@ pub fn opened_in(
         parent,
         bytes,
     };
-    opened_on_top(state, acting, activity, area, told)?;
+    opened_on_top(state, acting, activity, area, reported)?;
     Ok(())
 }

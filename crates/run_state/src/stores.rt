@@ -30,9 +30,9 @@ pub fn stores(
     slot: usize,
     value: Value,
 ) -> Result<(), Memory>
-    ensures { (code : Listing) (told : List EventOfRun) →
+    ensures { (code : Listing) (reported : List EventOfRun) →
         IfOk result
-        (λ _. IsApplied code state.old acting activity (λ f. Stores f r slot value) true state.new told told) }
+        (λ _. IsApplied code state.old acting activity (λ f. Stores f r slot value) true state.new reported reported) }
 {
     state.memory.set_slot(r, slot, value);
     put_back(state, acting.job, activity)?;
@@ -47,9 +47,9 @@ pub fn stores_static(
     index: usize,
     value: Value,
 ) -> Result<(), Memory>
-    ensures { (code : Listing) (told : List EventOfRun) →
+    ensures { (code : Listing) (reported : List EventOfRun) →
         IfOk result
-        (λ _. IsApplied code state.old acting activity (λ f. StoresStatic f index value) true state.new told told) }
+        (λ _. IsApplied code state.old acting activity (λ f. StoresStatic f index value) true state.new reported reported) }
 {
     state.memory.set_static(index, value);
     put_back(state, acting.job, activity)?;
@@ -64,10 +64,10 @@ pub fn sets_hidden(
     r: Ref,
     hidden: Vec<u64>,
 ) -> Result<(), Memory>
-    ensures { (code : Listing) (told : List EventOfRun) →
+    ensures { (code : Listing) (reported : List EventOfRun) →
         IfOk result
         (λ _. IsApplied code state.old acting activity (λ f. SetsHidden f r (hidden_slots hidden.items)) true state.new
-        told told) }
+        reported reported) }
 {
     state.memory.set_hidden(r, &hidden)?;
     put_back(state, acting.job, activity)?;
@@ -81,13 +81,13 @@ pub fn sets_ceiling(
     activity: Activity,
     r: Ref,
     ceiling: u8,
-    told: &mut Vec<Event>,
+    reported: &mut Vec<Event>,
 ) -> Result<(), Memory>
     requires { CloseInOrder state.old.memory activity.frames }
     ensures { (code : Listing) →
         IfOk result
-        (λ _. IsApplied code state.old acting activity (λ f. SetsCeiling f r ceiling) true state.new told.old.items
-        told.new.items) }
+        (λ _. IsApplied code state.old acting activity (λ f. SetsCeiling f r ceiling) true state.new reported.old.items
+        reported.new.items) }
 {
     match acting.job {
         Job::Sequencer => {
@@ -96,7 +96,7 @@ pub fn sets_ceiling(
             Ok(())
         }
         Job::Release(_) => {
-            fault_in(state, acting, &activity, RunFault::NotInitializing, told)?;
+            fault_in(state, acting, &activity, RunFault::NotInitializing, reported)?;
             Ok(())
         }
     }
@@ -120,14 +120,14 @@ fn made(
     acting: Acting,
     mut activity: Activity,
     made: Option<Ref>,
-    told: &mut Vec<Event>,
+    reported: &mut Vec<Event>,
 ) -> Result<(), Memory>
     requires { made ≡ None → CloseInOrder state.old.memory activity.frames }
     ensures { (code : Listing) →
         (f : StoredFrame) (below : List StoredFrame) → activity.frames ≡ f ∷ below →
         IfOk result
         (λ _. IsStep code (made_or_full (state_of code state.old) (job_seen acting.job) (activity_seen code activity)
-        (frame_of code f) (frames_of code below) acting.position made) state.new told.old.items told.new.items) }
+        (frame_of code f) (frames_of code below) acting.position made) state.new reported.old.items reported.new.items) }
 {
     match made {
         Some(r) => {
@@ -136,7 +136,7 @@ fn made(
             Ok(())
         }
         None => {
-            fault_in(state, acting, &activity, RunFault::MemoryFull, told)?;
+            fault_in(state, acting, &activity, RunFault::MemoryFull, reported)?;
             Ok(())
         }
     }
@@ -148,7 +148,7 @@ pub fn makes(
     acting: Acting,
     activity: Activity,
     object: NewObject,
-    told: &mut Vec<Event>,
+    reported: &mut Vec<Event>,
 ) -> Result<(), Memory>
     requires open { IsTopOpen state.old.memory activity.frames }
     requires closes { CloseInOrder state.old.memory activity.frames }
@@ -157,11 +157,11 @@ pub fn makes(
         IfOk result
         (λ _. IsApplied code state.old acting activity
         (λ f. Makes f object.class object.slots.items) true state.new
-        told.old.items told.new.items) }
+        reported.old.items reported.new.items) }
 {
     let area = area_of(&activity)?;
     let found = make_object(state, area, &object);
-    made(state, acting, activity, found, told)?;
+    made(state, acting, activity, found, reported)?;
     Ok(())
 }
 
@@ -171,7 +171,7 @@ pub fn makes_array(
     acting: Acting,
     activity: Activity,
     array: NewArray,
-    told: &mut Vec<Event>,
+    reported: &mut Vec<Event>,
 ) -> Result<(), Memory>
     requires open { IsTopOpen state.old.memory activity.frames }
     requires closes { CloseInOrder state.old.memory activity.frames }
@@ -179,10 +179,10 @@ pub fn makes_array(
     ensures { (code : Listing) →
         IfOk result
         (λ _. IsApplied code state.old acting activity (λ f. Makes f array.class (new_elements array.kind array.count))
-        true state.new told.old.items told.new.items) }
+        true state.new reported.old.items reported.new.items) }
 {
     let area = area_of(&activity)?;
     let found = make_array(state, area, array);
-    made(state, acting, activity, found, told)?;
+    made(state, acting, activity, found, reported)?;
     Ok(())
 }

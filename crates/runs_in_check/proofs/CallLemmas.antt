@@ -17,8 +17,8 @@ use Rattle.scj_rules.specs.Types.{call_receiver, called_method, method_called}
 use Rattle.scj_rules.specs.UseRules.{current_at, receiver_scope, scope_of, scope_of_call, misfit_arguments, misfits_call, e3_of_call, e3_of_constructor, e1, e2, e3, e4_and_e5, e6, e7, e8, e9, e10, use_breaks}
 use Rattle.runs_in_check.specs.declared.calls.Callee.{Callee}
 use Rattle.runs_in_check.specs.declared.calls.Callee.TheVariants.{Method, Constructor}
-use Rattle.program_facts.specs.declared.told.At.{At}
-use Rattle.program_facts.specs.Told.{declared, types, scopes}
+use Rattle.program_facts.specs.declared.reported.At.{At}
+use Rattle.program_facts.specs.Reported.{declared, types, scopes}
 use Rattle.runs_in_check.specs.Phase.{parameters_of, seen_scope, argument_breaks, misfits_from, e3_of, entry_breaks}
 
 -- an assignment of a value that fits breaks nothing

@@ -73,11 +73,11 @@ unfolding declarations_of type_of_next type_of_right types_in type_of
 plain_name forest types id position name there right h =
     let p : Declarations = declarations_of forest in
     let smaller : Types = below None id (lookup None (types_in p)) in
-    let told : lookup None types id ≡ type_of_right p smaller id (SimpleName position name) =
+    let reported : lookup None types id ≡ type_of_right p smaller id (SimpleName position name) =
     ap (λ (ts : List (Option Ty)). lookup None ts id) right
     ∙ bottom_up-is None (type_of_next p) (length p.nodes) id (slice_get_within forest.nodes id _ there)
     ∙ ap (λ (o : Option Node). option_and_then (type_of_right p smaller id) o) there in
-    plain_meaning forest id (meaning p id name) (rightly _ _ (h ∙ ap (λ (o : Option Ty). is_plain o) told))
+    plain_meaning forest id (meaning p id name) (rightly _ _ (h ∙ ap (λ (o : Option Ty). is_plain o) reported))
   where
     rightly : (b : Bool) (o : Option Ty) → true ≡ is_plain (if b then o else None) → true ≡ is_plain o
     rightly true o h = h

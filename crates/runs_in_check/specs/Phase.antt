@@ -20,8 +20,8 @@ use Rattle.scj_rules.specs.UseRules.{Scopes, current_at, misfit_scope, misfit_ar
 use Rattle.method_rows.specs.Methods.{found_method}
 use Rattle.runs_in_check.specs.declared.calls.Callee.{Callee}
 use Rattle.runs_in_check.specs.declared.calls.Callee.TheVariants.{Method, Constructor}
-use Rattle.program_facts.specs.declared.told.At.{At}
-use Rattle.program_facts.specs.Told.{declared, types, scopes}
+use Rattle.program_facts.specs.declared.reported.At.{At}
+use Rattle.program_facts.specs.Reported.{declared, types, scopes}
 
 -- ---- a node
 

@@ -8,7 +8,7 @@ ghost use Rattle.scj_rules.specs.Contexts.{declarations_of};
 ghost use Rattle.scj_rules.specs.Types.{called_builtin, method_called};
 ghost use Rattle.scj_rules.specs.UseRules.{current_at, receiver_scope, misfits_call, e3_of_call, run_of, isnt_in_parent, misfits_enter, misfits_execute, scope_of, use_breaks};
 ghost use Rattle.method_rows.specs.Methods.{found_method};
-ghost use Rattle.program_facts.specs.Told.{declared, types, scopes};
+ghost use Rattle.program_facts.specs.Reported.{declared, types, scopes};
 ghost use Rattle.runs_in_check.specs.Phase.{parameters_of, seen_scope, argument_breaks, e3_of, entry_breaks};
 
 use crate::scopes::{is_other, misfit_scope, receiver_scope, scope_of_call};

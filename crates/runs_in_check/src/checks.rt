@@ -10,7 +10,7 @@ ghost use Rattle.scj_rules.specs.Report.{IsReport};
 ghost use Rattle.scj_rules.specs.TypeRules.{types_in};
 ghost use Rattle.scj_rules.specs.AnnotationRules.{annotation_breaks};
 ghost use Rattle.scj_rules.specs.UseRules.{scope_of, scope_of_next, use_breaks};
-ghost use Rattle.program_facts.specs.Told.{declared, types, scopes};
+ghost use Rattle.program_facts.specs.Reported.{declared, types, scopes};
 ghost use Rattle.runs_in_check.specs.Guards.{AreGuards};
 ghost use Rattle.runs_in_check.specs.Phase.{is_plain, is_asked, breaks_at};
 

@@ -6,7 +6,7 @@ ghost use Rattle.scj_tree.specs.Recursion.{lookup};
 ghost use Rattle.scj_rules.specs.Words.{holds};
 ghost use Rattle.scj_rules.specs.Contexts.{declarations_of, parent_in};
 ghost use Rattle.scj_rules.specs.Guards.{asked_at, ifs_around, is_first_part, is_guarded, is_subject};
-ghost use Rattle.program_facts.specs.Told.{declared, types};
+ghost use Rattle.program_facts.specs.Reported.{declared, types};
 ghost use Rattle.runs_in_check.specs.Guards.{guards_both, ifs_at, left_by, left_from, row_in, AreGuards};
 
 use crate::parents::parents_of;
@@ -14,7 +14,7 @@ use crate::subjects::{are_subjects, asked_at, assigned_at, is_first_part, is_sub
 use program_facts::{At, Facts};
 use scj_base::{Memory, NodeId};
 use scj_rules::{Guard, Subject, Ty};
-use scj_tree::{Program, told};
+use scj_tree::{Program, row_or};
 use std::alloc::Global;
 use std::collections::HashMap;
 
@@ -127,7 +127,7 @@ fn undo(
     let mut part = id;
     let mut left = program.len();
     while left > 0 {
-        let Some(parent) = told(parents, None, part) else {
+        let Some(parent) = row_or(parents, None, part) else {
             return;
         };
         undo_at(rows, program, parent, part, x);
@@ -227,7 +227,7 @@ pub fn is_guarded(guards: &Guards, at: &At<'_>, x: &Subject, y: &Subject) -> boo
     let mut part = at.id;
     let mut left = program.len();
     while left > 0 {
-        let Some(parent) = told(&guards.parents, None, part) else {
+        let Some(parent) = row_or(&guards.parents, None, part) else {
             return false;
         };
         if guards_part(guards, program, parent, part, x, y) {

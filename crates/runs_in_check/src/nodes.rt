@@ -9,7 +9,7 @@ ghost use Rattle.scj_rules.specs.Contexts.{declarations_of};
 ghost use Rattle.scj_rules.specs.TypeRules.{written_type, superclass_at};
 ghost use Rattle.scj_rules.specs.UseRules.{this_at, scope_in_class, scope_of_new, misfits_new, lies_elsewhere, e3_of_constructor, misfit_scope, variable_scope_at, target_rule, result_scope_at, misfits_cast, lies_outside, isnt_around_current, misfits_element};
 ghost use Rattle.scj_rules.specs.Guards.{is_guarded_store};
-ghost use Rattle.program_facts.specs.Told.{declared, types, scopes};
+ghost use Rattle.program_facts.specs.Reported.{declared, types, scopes};
 ghost use Rattle.runs_in_check.specs.Guards.{AreGuards};
 
 use crate::calls::{Callee, note_arguments};

@@ -10,7 +10,7 @@ ghost use Rattle.scj_rules.specs.UseRules.{current_at, misfit_scope, receiver_sc
 ghost use Rattle.class_rows.specs.Fields.{found_field};
 ghost use Rattle.method_rows.specs.Methods.{found_method};
 ghost use Rattle.program_facts.specs.Meanings.{simply_named};
-ghost use Rattle.program_facts.specs.Told.{declared, types, scopes};
+ghost use Rattle.program_facts.specs.Reported.{declared, types, scopes};
 
 use class_rows::FieldRef;
 use method_rows::MethodRef;

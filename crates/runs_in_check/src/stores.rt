@@ -4,7 +4,7 @@ ghost use Rattle.std.specs.Prelude.{◌≡◌, option_map};
 ghost use Rattle.scj_rules.specs.Definitions.{read};
 ghost use Rattle.scj_rules.specs.Guards.{is_in_this, stored_field, is_guarded_store};
 ghost use Rattle.class_rows.specs.Fields.{found_field};
-ghost use Rattle.program_facts.specs.Told.{declared, types};
+ghost use Rattle.program_facts.specs.Reported.{declared, types};
 ghost use Rattle.runs_in_check.specs.Guards.{accessed_of, stored_in, AreGuards};
 
 use crate::guards::{Guards, is_guarded};

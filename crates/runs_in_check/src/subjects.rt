@@ -7,7 +7,7 @@ ghost use Rattle.scj_rules.specs.Definitions.{read};
 ghost use Rattle.scj_rules.specs.Guards.{subject_at, are_same_subject, are_subjects, asked_at, asked_by, assigned_at, guard_of, is_first_part, is_subject};
 ghost use Rattle.scj_rules.specs.Types.{called_builtin};
 ghost use Rattle.scj_builtins.specs.Framework.{managed_memory_alloc_in_same};
-ghost use Rattle.program_facts.specs.Told.{declared, types};
+ghost use Rattle.program_facts.specs.Reported.{declared, types};
 
 use crate::calls::called_builtin;
 use program_facts::{At, Facts, NameMeaning};

@@ -16,7 +16,7 @@ use Rattle.command_line.specs.Job.{Job, Check, Run, Areas, Gen, Faults, Bounds, 
 use Rattle.scj_cli.specs.Jobs.{files_of, sources_among, limits_of, one_limit}
 use Rattle.scj_cli.specs.Outcomes.{Outcome, Reported, Unplanned, Ran, ComesTo, breaks_rules, has_no_plan, runs, run_status}
 use Rattle.scj_cli.specs.Answers.{Answer, refused, accepted, ran, needed, generated, faults_of_none, faults_listed, bounds_of_none, bounds_listed}
-use Rattle.scj_cli.specs.Endings.{Call, call_of, MayStand, none, next, Comes, answered, unread, overlong, out_of_memory, Ends, whole, fault_of_out, fault_of_err, cut_short, cut_short_untold, IsUnanswered}
+use Rattle.scj_cli.specs.Endings.{Call, call_of, MayStand, none, next, Comes, answered, unread, overlong, out_of_memory, Ends, whole, fault_of_out, fault_of_err, cut_short, cut_short_unreported, IsUnanswered}
 use Rattle.safe_texts.specs.SafeCalls.{sources_of, Accepts, HasSafeProgram}
 use Rattle.safe_texts.specs.SafePrograms.{AreShort, AreWithinLimits}
 use Rattle.safe_texts.proofs.JobLimits.{IsWithin, job_within}
@@ -159,7 +159,7 @@ module _ (words : List (List ℕ)) (shelf : ShelfRun) (out err : SinkRun) where
   of_end WriteFault (fault_of_out c p q) a = absurd (never_unanswered (job_of words) WriteFault a tt)
   of_end WriteFault (fault_of_err c p q) a = absurd (never_unanswered (job_of words) WriteFault a tt)
   of_end NoMemory (cut_short s c p) a = absurd (never_unanswered (job_of words) NoMemory a tt)
-  of_end WriteFault (cut_short_untold s c p) a = absurd (never_unanswered (job_of words) WriteFault a tt)
+  of_end WriteFault (cut_short_unreported s c p) a = absurd (never_unanswered (job_of words) WriteFault a tt)
 
 pub accepted_calls : (words : List (List ℕ)) (shelf : ShelfRun) (out err : SinkRun) (status : Status) →
     Ends (call_of (job_of words) shelf out err) status → Accepts (job_of words) status →

@@ -91,12 +91,12 @@ one_program file before texts one other a b =
     (subst (λ (rows : List (List Lexeme)). FilesRead before rows other) (one_list b.have_lexemes a.have_lexemes)
     b.files_read)
 
-pub one_break_told : (file : ℕ) (before : Forest) (texts : List (List ℕ)) (one other : Found) →
+pub one_break_reported : (file : ℕ) (before : Forest) (texts : List (List ℕ)) (one other : Found) →
     BreaksFrom file before texts one → BreaksFrom file before texts other → one ≡ other
-one_break_told file before texts one other (in_lexemes a) (in_lexemes b) = one_break_of_lexemes a b
-one_break_told file before texts one other (in_lexemes a) (in_grammar have b) = absurd (lexemes_or_break have a)
-one_break_told file before texts one other (in_grammar have a) (in_lexemes b) = absurd (lexemes_or_break have b)
-one_break_told file before texts one other (in_grammar have a) (in_grammar have_too b) =
+one_break_reported file before texts one other (in_lexemes a) (in_lexemes b) = one_break_of_lexemes a b
+one_break_reported file before texts one other (in_lexemes a) (in_grammar have b) = absurd (lexemes_or_break have a)
+one_break_reported file before texts one other (in_grammar have a) (in_lexemes b) = absurd (lexemes_or_break have b)
+one_break_reported file before texts one other (in_grammar have a) (in_grammar have_too b) =
     one_break_of_grammar a
     (subst (λ (rows : List (List Lexeme)). FirstBreakOfGrammar before rows other) (one_list have_too have) b)
 

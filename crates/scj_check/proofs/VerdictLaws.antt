@@ -12,7 +12,7 @@ use Rattle.scj_rules.proofs.VerdictLemmas.{nothing_found}
 use Rattle.scj_check.specs.Verdicts.{IsVerdict, IsVerdictOn}
 use Rattle.scj_check.specs.declared.verdicts.Verdict.{Verdict}
 use Rattle.scj_check.specs.declared.verdicts.Verdict.TheVariants.{Accepted, Refused}
-use Rattle.scj_check.proofs.SyntaxLaws.{one_program, one_break_told, program_or_break}
+use Rattle.scj_check.proofs.SyntaxLaws.{one_program, one_break_reported, program_or_break}
 
 pub one_forest : {texts : List (List ℕ)} {forest other : Forest} → Reads texts forest → Reads texts other →
     forest ≡ other
@@ -20,7 +20,7 @@ one_forest a b = one_program 0 (forest_of [] []) _ _ _ a b
 
 pub one_break : {texts : List (List ℕ)} {one other : Found} → BreaksSyntax texts one → BreaksSyntax texts other →
     one ≡ other
-one_break a b = one_break_told 0 (forest_of [] []) _ _ _ a b
+one_break a b = one_break_reported 0 (forest_of [] []) _ _ _ a b
 
 pub no_break : {texts : List (List ℕ)} {forest : Forest} {found : Found} → Reads texts forest →
     BreaksSyntax texts found → ⊥

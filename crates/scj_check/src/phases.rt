@@ -32,7 +32,7 @@ pub enum Judgement {
 }
 
 /// Judges a program, phase after phase. What several phases ask is told by its facts, of which each phase makes a part.
-#[tactic(auto, using(scj_rules::proofs::VerdictLemmas::told_of_classes))]
+#[tactic(auto, using(scj_rules::proofs::VerdictLemmas::reported_of_classes))]
 pub fn judge(alloc: Global, program: &Program) -> Result<Judgement, Memory>
     ensures { IfOk result (λ judgement. IsJudgement program.now judgement) }
 {
@@ -47,7 +47,7 @@ pub fn judge(alloc: Global, program: &Program) -> Result<Judgement, Memory>
 }
 
 /// Judges a program that breaks no rule on classes.
-#[tactic(auto, using(scj_rules::proofs::VerdictLemmas::told_of_types, crate::proofs::VerdictLaws::accepted_of))]
+#[tactic(auto, using(scj_rules::proofs::VerdictLemmas::reported_of_types, crate::proofs::VerdictLaws::accepted_of))]
 fn judge_types(alloc: Global, facts: &Facts<'_>, numbers: &[u32]) -> Result<Judgement, Memory>
     requires right { NothingBreaks (BreaksClassRules facts.now) }
     requires numbers { numbers.now ≡ numbers_before (declarations_of facts.now) }
@@ -67,7 +67,7 @@ fn judge_types(alloc: Global, facts: &Facts<'_>, numbers: &[u32]) -> Result<Judg
 }
 
 /// The report of a program that breaks no rule of the phases before the scopes.
-#[tactic(auto, using(scj_rules::proofs::VerdictLemmas::told_of_scopes))]
+#[tactic(auto, using(scj_rules::proofs::VerdictLemmas::reported_of_scopes))]
 fn late_report(alloc: Global, facts: &Facts<'_>, types: &[Option<Ty>]) -> Result<Vec<Found>, Memory>
     requires right_classes { NothingBreaks (BreaksClassRules facts.now) }
     requires right_types { NothingBreaks (BreaksTypeRules facts.now) }

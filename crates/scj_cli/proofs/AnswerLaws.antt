@@ -4,7 +4,7 @@ use Rattle.scj_base.specs.declared.statuses.Status.{Status}
 use Rattle.scj_base.specs.declared.findings.Found.{Found}
 use Rattle.scj_tree.specs.Forest.{Forest, forest_of}
 use Rattle.scj_rules.specs.Syntax.{Reads, BreaksSyntax}
-use Rattle.scj_check.proofs.SyntaxLaws.{one_program, one_break_told, program_or_break}
+use Rattle.scj_check.proofs.SyntaxLaws.{one_program, one_break_reported, program_or_break}
 use Rattle.scj_check.proofs.VerdictLaws.{one_report_of_texts}
 use Rattle.scj_model.specs.Plan.{Plan}
 use Rattle.run_plan.specs.PlanOf.{Meaning, Refusal, plan, refused as no_plan}
@@ -30,7 +30,7 @@ one_forest contents = one_program 0 (forest_of [] []) contents
 
 one_found : (contents : List (List ℕ)) (found other : Found) → BreaksSyntax contents found →
     BreaksSyntax contents other → found ≡ other
-one_found contents = one_break_told 0 (forest_of [] []) contents
+one_found contents = one_break_reported 0 (forest_of [] []) contents
 
 not_both : {A : Type 0} (contents : List (List ℕ)) (forest : Forest) (found : Found) → Reads contents forest →
     BreaksSyntax contents found → A
@@ -77,9 +77,9 @@ same_text : {job : Option Job} {status : Status} {out again err : List ℕ} → 
     IsSameAnswer job status out err status again err
 same_text e = record { same_status = refl; same_out = is_same e; same_err = refl }
 
-same_told : {job : Option Job} {status : Status} {out err again : List ℕ} → err ≡ again →
+same_reported : {job : Option Job} {status : Status} {out err again : List ℕ} → err ≡ again →
     IsSameAnswer job status out err status out again
-same_told e = record { same_status = refl; same_out = same; same_err = e }
+same_reported e = record { same_status = refl; same_out = same; same_err = e }
 
 same_plan_text : {name : List ℕ} {status : Status} {out again err : List ℕ} {p q : Plan} → p ≡ q →
     IsTextOf (new_table p) out → IsTextOf (new_table q) again →
@@ -96,9 +96,9 @@ one_list contents forest other faults again reads reads_again report report_agai
     (one_forest contents other forest reads_again reads) report_again)
 
 -- the bounds of texts that are read
-one_told : (contents names : List (List ℕ)) (forest other : Forest) (text again : List ℕ) → Reads contents forest →
+one_reported : (contents names : List (List ℕ)) (forest other : Forest) (text again : List ℕ) → Reads contents forest →
     Reads contents other → IsBoundList forest names text → IsBoundList other names again → text ≡ again
-one_told contents names forest other text again reads reads_again is is_again =
+one_reported contents names forest other text again reads reads_again is is_again =
     one_bound_list contents forest names text again reads is
     (subst (λ (read : Forest). IsBoundList read names again)
     (one_forest contents other forest reads_again reads) is_again)
@@ -135,7 +135,7 @@ one_answer_of (faults_listed none reads faults) (faults_of_none some report) =
 one_answer_of (faults_listed {names = names} none reads faults) (faults_listed none_again reads_again again) =
     same_text (ap (fault_list names) (one_list _ _ _ _ _ reads reads_again faults again))
 one_answer_of audited audited = same_text refl
-one_answer_of (not_migrated is) (not_migrated is_again) = same_told (ap plan_line (same_refusal _ _ _ is is_again))
+one_answer_of (not_migrated is) (not_migrated is_again) = same_reported (ap plan_line (same_refusal _ _ _ is is_again))
 one_answer_of (not_migrated is) (migrated is_again text) = plan_or_refusal _ _ _ is is_again
 one_answer_of (migrated is text) (not_migrated is_again) = plan_or_refusal _ _ _ is_again is
 one_answer_of (migrated is text) (migrated is_again text_again) =
@@ -147,4 +147,4 @@ one_answer_of (bounds_of_none some report) (bounds_listed none reads is) =
 one_answer_of (bounds_listed none reads is) (bounds_of_none some report) =
     some_found _ some (one_report_of_texts report none)
 one_answer_of (bounds_listed none reads is) (bounds_listed none_again reads_again is_again) =
-    same_text (one_told _ _ _ _ _ _ reads reads_again is is_again)
+    same_text (one_reported _ _ _ _ _ _ reads reads_again is is_again)

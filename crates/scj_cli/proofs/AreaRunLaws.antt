@@ -39,8 +39,8 @@ pub areas_report : {plan plan_text text : List ℕ} {names texts : List (List �
     Answer (Some (Areas plan names)) (texts ++ plan_text ∷ []) status.Refused text []
 areas_report count comes is = rw is (needed_of count comes)
 
-pub areas_told : {plan plan_text text : List ℕ} {names texts : List (List ℕ)} {forest : Forest} {p : Plan}
-    {told : Status} → length texts ≡ length names → ComesTo texts plan_text (Ran forest p) →
-    told ≡ run_status (Ran forest p) → text ≡ areas_text forest p names →
-    Answer (Some (Areas plan names)) (texts ++ plan_text ∷ []) told text []
-areas_told count comes is_told is = rw (is_told, is) (needed_of count comes)
+pub areas_reported : {plan plan_text text : List ℕ} {names texts : List (List ℕ)} {forest : Forest} {p : Plan}
+    {reported : Status} → length texts ≡ length names → ComesTo texts plan_text (Ran forest p) →
+    reported ≡ run_status (Ran forest p) → text ≡ areas_text forest p names →
+    Answer (Some (Areas plan names)) (texts ++ plan_text ∷ []) reported text []
+areas_reported count comes is_reported is = rw (is_reported, is) (needed_of count comes)

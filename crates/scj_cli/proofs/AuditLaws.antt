@@ -22,10 +22,10 @@ audited_by plan trace plan_text trace_text meaning is =
     subst (λ (m : Meaning). Answer (Some (AuditJob plan trace)) (trace_text ∷ plan_text ∷ []) (audit_status m)
     (audit_out trace_text m) (audit_err m)) is audited
 
-pub audit_told : {plan_text trace_text line : List ℕ} {p : Plan} {audit : Audit} →
+pub audit_reported : {plan_text trace_text line : List ℕ} {p : Plan} {audit : Audit} →
     meaning_of_text plan_text ≡ means_plan p → audit ≡ audit_of p trace_text → line ≡ audit_line audit →
     (plan trace : List ℕ) → Answer (Some (AuditJob plan trace)) (trace_text ∷ plan_text ∷ []) Done line []
-audit_told {plan_text = plan_text} {trace_text = trace_text} means is_audit is plan trace =
+audit_reported {plan_text = plan_text} {trace_text = trace_text} means is_audit is plan trace =
     rw (is, is_audit) (audited_by plan trace plan_text trace_text _ means)
 
 pub form_of_audit : (plan_text trace_text : List ℕ) (refusal : Refusal) →

@@ -13,7 +13,7 @@ use Rattle.scj_model.specs.Code.{Code, code_of}
 use Rattle.memory_needs.specs.declared.answers.BoundAnswer.{BoundAnswer}
 use Rattle.memory_needs.specs.declared.answers.BoundRow.{BoundRow}
 use Rattle.memory_needs.specs.Room.{HasRoom}
-use Rattle.memory_needs.specs.Rows.{IsAnswer, IsRoom, IsStoreNeeded, TellsStore, handler_classes, release_bytes, store_needed, is_no}
+use Rattle.memory_needs.specs.Rows.{IsAnswer, IsRoom, IsStoreNeeded, ReportsStore, handler_classes, release_bytes, store_needed, is_no}
 use Rattle.memory_needs.proofs.Agree.{highest_same, room_is_one}
 use Rattle.memory_bounds.proofs.OneAnswer.{answers_are_one}
 use Rattle.scj_cli.specs.BoundLists.{bound_list, IsBoundList}
@@ -96,7 +96,7 @@ no_and_not : {A : Type 0} (row : BoundRow) → is_no row.answer ≡ true → is_
 no_and_not row is isnt = let both : true ≡ false = sym is ∙ isnt in absurd (cc (both))
 
 one_need : (code : Code) → ChildrenFirst 0 code.program.nodes → (rows : List BoundRow) (need again : Option ℕ) →
-    TellsStore code rows need → TellsStore code rows again → need ≡ again
+    ReportsStore code rows need → ReportsStore code rows again → need ≡ again
 one_need code first rows None None x y = refl
 one_need code first rows (Some m) (Some n) x y = ap (λ k. Some k) (one_store code first m n x.1 y.1)
 one_need code first rows None (Some n) x y = no_and_not x.0 x.2 (y.0 x.0 x.1)
@@ -112,7 +112,7 @@ module _ (forest : Forest) (first : ChildrenFirst 0 (code_of forest).program.nod
       x.are_rows.are_answers y.are_rows.are_answers in
       let need : x.need ≡ y.need =
       one_need (code_of forest) first y.rows x.need y.need
-      (subst (λ rows. TellsStore (code_of forest) rows x.need) rows x.tells_store) y.tells_store in
+      (subst (λ rows. ReportsStore (code_of forest) rows x.need) rows x.reports_store) y.reports_store in
       x.is_text
       ∙ (ap (λ rows. bound_list (declarations_of forest) names rows x.need) rows
       ∙ (ap (λ need. bound_list (declarations_of forest) names y.rows need) need ∙ sym y.is_text))

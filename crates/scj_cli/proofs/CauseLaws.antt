@@ -11,10 +11,10 @@ use Rattle.scj_cli.specs.Answers.Answer.{no_job}
 use Rattle.scj_cli.specs.Endings.{call_of, MayStand, Comes, Ends}
 use Rattle.scj_cli.specs.Endings.MayStand.{none}
 use Rattle.scj_cli.specs.Endings.Comes.{answered, unread, overlong, out_of_memory}
-use Rattle.scj_cli.specs.Endings.Ends.{whole, fault_of_out, fault_of_err, cut_short as end_cut_short, cut_short_untold}
+use Rattle.scj_cli.specs.Endings.Ends.{whole, fault_of_out, fault_of_err, cut_short as end_cut_short, cut_short_unreported}
 use Rattle.scj_cli.specs.Refusals.{status_of, line_of, RefusesLoads}
 use Rattle.scj_cli.specs.Modes.{IsAnswered, Stops, RefusesForm, Tells}
-use Rattle.scj_cli.specs.Modes.Stops.{told, broken, cut_short}
+use Rattle.scj_cli.specs.Modes.Stops.{reported, broken, cut_short}
 use Rattle.scj_cli.specs.Modes.Tells.{whole as put_whole, fault as put_fault}
 use Rattle.scj_cli.specs.declared.refusals.Refusal.{Refusal}
 use Rattle.scj_cli.specs.declared.refusals.Refusal.TheVariants.{Usage, Unread, Overlong, Unplanned, OutOfMemory}
@@ -42,19 +42,19 @@ Comes-form job shelf contents OutOfMemory stands refuses = out_of_memory
 -- words that ask for nothing stop the call
 pub Stops-no_job : (shelf : ShelfRun) (taken : Option (List ℕ)) (faults : ℕ) →
     Stops None shelf (sink_run taken taken faults faults) (Told Usage)
-Stops-no_job shelf taken faults = told (answered none no_job) (PutWhole-nothing taken faults)
+Stops-no_job shelf taken faults = reported (answered none no_job) (PutWhole-nothing taken faults)
 
 -- from what the modes leave to the end of the call
 pub Ends-answered : {job : Option Job} {shelf : ShelfRun} {out err : SinkRun} {status : Status} →
     IsAnswered job shelf out status → PutWhole err [] → Ends (call_of job shelf out err) status
 Ends-answered answer untouched = whole answer.comes answer.put untouched
 
-pub Ends-told : {job : Option Job} {shelf : ShelfRun} {out err : SinkRun} {refusal : Refusal} {status : Status} →
+pub Ends-reported : {job : Option Job} {shelf : ShelfRun} {out err : SinkRun} {refusal : Refusal} {status : Status} →
     Stops job shelf out (Told refusal) → Tells err refusal status → Ends (call_of job shelf out err) status
-Ends-told (told comes untouched) (put_whole put) = whole comes untouched put
-Ends-told (told comes untouched) (put_fault put) = fault_of_err comes untouched put
-Ends-told (cut_short stands cut) (put_whole put) = end_cut_short stands cut put
-Ends-told (cut_short stands cut) (put_fault put) = cut_short_untold stands cut put
+Ends-reported (reported comes untouched) (put_whole put) = whole comes untouched put
+Ends-reported (reported comes untouched) (put_fault put) = fault_of_err comes untouched put
+Ends-reported (cut_short stands cut) (put_whole put) = end_cut_short stands cut put
+Ends-reported (cut_short stands cut) (put_fault put) = cut_short_unreported stands cut put
 
 pub Ends-broken : {job : Option Job} {shelf : ShelfRun} {out err : SinkRun} → Stops job shelf out Broken →
     PutWhole err [] → Ends (call_of job shelf out err) WriteFault
@@ -65,15 +65,15 @@ pub Stops-loads : (job : Job) (shelf : ShelfRun) (taken : Option (List ℕ)) (fa
     RefusesLoads shelf (limits_of (Some job)) (files_of (Some job)) refusal → Stops (Some job) shelf (sink_run taken taken faults faults)
     (Told refusal)
 Stops-loads job shelf taken faults refusal refuses =
-    told (Comes-loads job shelf refusal refuses) (PutWhole-nothing taken faults)
+    reported (Comes-loads job shelf refusal refuses) (PutWhole-nothing taken faults)
 
 pub Stops-form : (job : Job) (shelf : ShelfRun) (contents : List (List ℕ)) (taken : Option (List ℕ)) (faults : ℕ)
     (refusal : Refusal) → MayStand shelf (limits_of (Some job)) (files_of (Some job)) contents → RefusesForm job contents refusal →
     Stops (Some job) shelf (sink_run taken taken faults faults) (Told refusal)
 Stops-form job shelf contents taken faults refusal stands refuses =
-    told (Comes-form job shelf contents refusal stands refuses) (PutWhole-nothing taken faults)
+    reported (Comes-form job shelf contents refusal stands refuses) (PutWhole-nothing taken faults)
 
 -- words that were not read for want of memory
 pub Stops-words : (job : Option Job) (shelf : ShelfRun) (taken : Option (List ℕ)) (faults : ℕ) →
     Stops job shelf (sink_run taken taken faults faults) (Told OutOfMemory)
-Stops-words job shelf taken faults = told out_of_memory (PutWhole-nothing taken faults)
+Stops-words job shelf taken faults = reported out_of_memory (PutWhole-nothing taken faults)

@@ -38,7 +38,7 @@ pub gen_report : {size : ℕ} {contents texts names : List (List ℕ)} {plan_tex
 gen_report source plan named comes is = rw (is, named) (generated_of source plan comes)
 
 pub gen_summary : {size : ℕ} {contents texts : List (List ℕ)} {plan_text text : List ℕ} {forest : Forest} {p : Plan}
-    {told : Status} → texts ≡ source_of size ∷ [] → plan_text ≡ plan_of size → ComesTo texts plan_text (Ran forest p) →
-    told ≡ run_status (Ran forest p) → text ≡ gen_out size (Ran forest p) →
-    Answer (Some (Gen size)) contents told text []
-gen_summary source plan comes is_told is = rw (is_told, is) (generated_of source plan comes)
+    {reported : Status} → texts ≡ source_of size ∷ [] → plan_text ≡ plan_of size → ComesTo texts plan_text (Ran forest p) →
+    reported ≡ run_status (Ran forest p) → text ≡ gen_out size (Ran forest p) →
+    Answer (Some (Gen size)) contents reported text []
+gen_summary source plan comes is_reported is = rw (is_reported, is) (generated_of source plan comes)

@@ -37,9 +37,9 @@ unfolding shown_key
 bytes_shown = refl
 
 -- a key that would forge a line
-one_line_told : plan_line (bad_key (codes "a\n5 stopped")) ≡ codes "scj: plan bad key a?5 stopped\n"
+one_line_reported : plan_line (bad_key (codes "a\n5 stopped")) ≡ codes "scj: plan bad key a?5 stopped\n"
 unfolding plan_line shown_key
-one_line_told = refl
+one_line_reported = refl
 
 empty_key : plan_line (bad_key []) ≡ codes "scj: plan bad key \n"
 unfolding plan_line shown_key

@@ -89,7 +89,7 @@ pub answered_by_run : {shelf : ShelfRun} {out : SinkRun} {plan plan_text : List 
     ComesTo texts plan_text (Ran forest p) → HasRun forest p names out status →
     IsAnswered (Some (Run plan names)) shelf out status
 answered_by_run stands count comes has =
-    record { text = _; comes = rw has.told (answered stands (ran_of count comes)); put = has.put }
+    record { text = _; comes = rw has.reported (answered stands (ran_of count comes)); put = has.put }
 
 pub stopped_by_run : {shelf : ShelfRun} {out : SinkRun} {plan plan_text : List ℕ} {names texts : List (List ℕ)}
     {forest : Forest} {p : Plan} (stop : ModeError) → MayStand shelf one_limit (names ++ plan ∷ []) (texts ++ plan_text ∷ []) →

@@ -10,7 +10,7 @@ use Rattle.memory_needs.specs.declared.answers.BoundAnswer.TheVariants.{Yes, No}
 use Rattle.memory_needs.specs.declared.answers.BoundRow.{BoundRow}
 use Rattle.memory_needs.specs.declared.answers.NoBound.{NoBound}
 use Rattle.memory_needs.specs.declared.answers.NoBound.TheVariants.{Recursion, NotLiteral, OuterArea, NewInLoop, TooSmall}
-use Rattle.memory_needs.specs.Rows.{AreRows, TellsStore}
+use Rattle.memory_needs.specs.Rows.{AreRows, ReportsStore}
 
 -- ---- the row of a handler class
 
@@ -55,5 +55,5 @@ pub record IsBoundList (forest : Forest) (names : List (List ℕ)) (text : List 
   pub rows : List BoundRow
   pub need : Option ℕ
   pub are_rows : AreRows (code_of forest) rows
-  pub tells_store : TellsStore (code_of forest) rows need
+  pub reports_store : ReportsStore (code_of forest) rows need
   pub is_text : text ≡ bound_list (declarations_of forest) names rows need

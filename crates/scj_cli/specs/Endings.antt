@@ -4,7 +4,7 @@ use Rattle.scj_base.specs.declared.statuses.Status.{Status}
 use Rattle.scj_base.specs.declared.statuses.Status.TheVariants.{Done, Refused, Usage, Halted, PlanRefused, ReadFault, WriteFault, NoMemory, TooLong}
 use Rattle.scj_io.specs.Counters.{Rose}
 use Rattle.scj_io.specs.Loads.{Held, ShelfRun, MayHold, MayExceed}
-use Rattle.scj_io.specs.Loads.Held.{Told, Absent}
+use Rattle.scj_io.specs.Loads.Held.{Reported, Absent}
 use Rattle.scj_io.specs.Puts.{SinkRun, PutWhole, PutFront}
 use Rattle.scj_tree.specs.Forest.{Forest}
 use Rattle.scj_model.specs.Plan.{Plan}
@@ -96,7 +96,7 @@ pub data Ends (call : Call) : Status → Type 0 where
       MayStand call.shelf (limits_of call.job) (files_of call.job) contents → IsCutShort call.out call.job contents →
       PutWhole call.err memory_line →
       Ends call NoMemory
-  cut_short_untold : {contents : List (List ℕ)} →
+  cut_short_unreported : {contents : List (List ℕ)} →
       MayStand call.shelf (limits_of call.job) (files_of call.job) contents → IsCutShort call.out call.job contents →
       PutFront call.err memory_line →
       Ends call WriteFault
@@ -108,11 +108,11 @@ pub record IsCalm (call : Call) : Type 0 where
   pub err : Rose call.err.faults_before call.err.faults_after → ⊥
 
 -- the contents, each within the limit of its name, are what is told of the names
-pub data AreTold (held : List ℕ → Held) (limits : List ℕ → ℕ) : List (List ℕ) → List (List ℕ) → Type 0 where
-  none : AreTold held limits [] []
+pub data AreReported (held : List ℕ → Held) (limits : List ℕ → ℕ) : List (List ℕ) → List (List ℕ) → Type 0 where
+  none : AreReported held limits [] []
   next : {name content : List ℕ} {names contents : List (List ℕ)} →
-      held name ≡ Told content → length content ≤ limits name →
-      AreTold held limits names contents → AreTold held limits (name ∷ names) (content ∷ contents)
+      held name ≡ Reported content → length content ≤ limits name →
+      AreReported held limits names contents → AreReported held limits (name ∷ names) (content ∷ contents)
 
 -- the call ends with the answer on these contents, or for want of memory, in a run also in its midst
 pub data EndsBy (call : Call) (contents : List (List ℕ)) : Status → Type 0 where
@@ -126,13 +126,13 @@ pub data EndsBy (call : Call) (contents : List (List ℕ)) : Status → Type 0 w
 -- where the files are told and within their limits and nothing fails, the call ends with the answer
 abbrev pub IsExact : Call → Status → Type 0
 IsExact call status = (contents : List (List ℕ)) →
-    AreTold call.shelf.held (limits_of call.job) (files_of call.job) contents → IsCalm call →
+    AreReported call.shelf.held (limits_of call.job) (files_of call.job) contents → IsCalm call →
     EndsBy call contents status
 
 -- where a file is told to be longer than its limit and nothing fails, that is told
 abbrev pub IsLongExactly : Call → Status → Type 0
 IsLongExactly call status = (name content : List ℕ) → IsAmong name (files_of call.job) →
-    call.shelf.held name ≡ Told content → limits_of call.job name < length content → IsCalm call →
+    call.shelf.held name ≡ Reported content → limits_of call.job name < length content → IsCalm call →
     (status ≡ TooLong) ⊎ (status ≡ NoMemory)
 
 -- the statuses that no contents of an absent file give

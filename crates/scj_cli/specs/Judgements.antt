@@ -51,7 +51,7 @@ RefusesRun texts plan_text _ = ⊥
 pub record HasRun (forest : Forest) (plan : Plan) (names : List (List ℕ)) (out : SinkRun) (status : Status) : Type 0
   where
     pub put : PutWhole out (trace_text forest plan names)
-    pub told : status ≡ run_status (Ran forest plan)
+    pub reported : status ≡ run_status (Ran forest plan)
 
 -- or a front of the trace, where memory ran out or a put failed
 abbrev pub StopsRun : Forest → Plan → List (List ℕ) → SinkRun → ModeError → Type 0

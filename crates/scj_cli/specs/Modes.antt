@@ -23,7 +23,7 @@ pub record IsAnswered (job : Option Job) (shelf : ShelfRun) (out : SinkRun) (sta
 -- nothing stands on `out` and the refusal is to be told on `err`; or the put of the answer failed; or a run was cut
 -- short
 pub data Stops (job : Option Job) (shelf : ShelfRun) (out : SinkRun) : ModeError → Type 0 where
-  told : {refusal : Refusal} →
+  reported : {refusal : Refusal} →
       Comes job shelf (status_of refusal) [] (line_of refusal) → PutWhole out [] →
       Stops job shelf out (Told refusal)
   broken : {status : Status} {text : List ℕ} →

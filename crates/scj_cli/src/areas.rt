@@ -39,9 +39,9 @@ pub fn areas<H: Shelf, K: Sink>(
         (sink_run (K.taken out.old) (K.taken out.new) (K.faults out.old) (K.faults out.new)) stop) }
 {
     let files = load_run(alloc, plan, names, shelf)?;
-    let told = told_of(alloc, names, &files.sources, &files.plan)?;
-    put_all(out, &told.text)?;
-    Ok(told.status)
+    let reported = reported_of(alloc, names, &files.sources, &files.plan)?;
+    put_all(out, &reported.text)?;
+    Ok(reported.status)
 }
 
 // What a run that tells its memory areas answers.
@@ -52,7 +52,7 @@ struct Told {
 }
 
 // The answer on sources of these names and the text of a plan.
-fn told_of(
+fn reported_of(
     alloc: Global,
     names: &[String],
     sources: &Sources,
@@ -61,8 +61,8 @@ fn told_of(
     requires few { length names.now ≤ 16 }
     requires named { length sources.now ≡ length names.now }
     ensures ok { IfOk result
-        (λ told. (plan : List ℕ) → Answer (Some (Areas plan (map string_bytes names.now)))
-        (texts_of sources.now ++ plan_text.now ∷ []) told.status told.text.items []) }
+        (λ reported. (plan : List ℕ) → Answer (Some (Areas plan (map string_bytes names.now)))
+        (texts_of sources.now ++ plan_text.now ∷ []) reported.status reported.text.items []) }
     ensures refusal { IfErr result
         (λ refusal. (plan : List ℕ) → RefusesForm (Areas plan (map string_bytes names.now))
         (texts_of sources.now ++ plan_text.now ∷ []) refusal) }
@@ -79,9 +79,9 @@ fn told_of(
 // What the memory areas of a run need.
 fn needed(alloc: Global, runnable: Runnable) -> Result<Told, Memory>
     requires named { length runnable.checked.program.files ≡ length runnable.files }
-    ensures status { IfOk result (λ told. told.status ≡ run_status (Ran runnable.checked.program runnable.plan)) }
+    ensures status { IfOk result (λ reported. reported.status ≡ run_status (Ran runnable.checked.program runnable.plan)) }
     ensures text { IfOk result
-        (λ told. told.text.items ≡ areas_text runnable.checked.program runnable.plan runnable.files) }
+        (λ reported. reported.text.items ≡ areas_text runnable.checked.program runnable.plan runnable.files) }
 {
     let mut kept = KeptTrace::new(alloc);
     match plain_machine::run_areas(

@@ -11,7 +11,7 @@ ghost use Rattle.scj_cli.specs.Modes.{IsAnswered, Stops, RefusesForm};
 
 use crate::loads::load_all;
 use crate::refusals::{Refusal, ModeError};
-use crate::told::{Told, refused};
+use crate::reported::{Told, refused};
 use scj_base::Status;
 use scj_check::{Sources, Verdict};
 use scj_io::{Shelf, Sink, put_all};
@@ -35,16 +35,16 @@ pub fn check<H: Shelf, K: Sink>(
         (sink_run (K.taken out.old) (K.taken out.new) (K.faults out.old) (K.faults out.new)) stop) }
 {
     let sources = load_all(alloc, names, shelf)?;
-    let told = judge(alloc, names, &sources)?;
-    put_all(out, told.text.as_bytes())?;
-    Ok(told.status)
+    let reported = judge(alloc, names, &sources)?;
+    put_all(out, reported.text.as_bytes())?;
+    Ok(reported.status)
 }
 
 // The answer on the contents of the files.
 fn judge(alloc: Global, names: &[String], sources: &Sources) -> Result<Told, Refusal>
     ensures ok { IfOk result
-        (λ told. Answer (Some (Check (map string_bytes names.now))) (texts_of sources.now) told.status
-        (string_bytes told.text) []) }
+        (λ reported. Answer (Some (Check (map string_bytes names.now))) (texts_of sources.now) reported.status
+        (string_bytes reported.text) []) }
     ensures refusal { IfErr result
         (λ refusal. RefusesForm (Check (map string_bytes names.now)) (texts_of sources.now) refusal) }
 {
@@ -55,7 +55,7 @@ fn judge(alloc: Global, names: &[String], sources: &Sources) -> Result<Told, Ref
 }
 
 fn accepted(alloc: Global) -> Result<Told, AllocError>
-    ensures { IfOk result (λ told. (told.status ≡ Done) × (string_bytes told.text ≡ accepted_line)) }
+    ensures { IfOk result (λ reported. (reported.status ≡ Done) × (string_bytes reported.text ≡ accepted_line)) }
 {
     let text = String::from_str(alloc, "accepted\n")?;
     Ok(Told {

@@ -15,7 +15,7 @@ ghost use Rattle.scj_cli.specs.Modes.{IsAnswered, Stops, RefusesForm};
 use crate::fault_lists::fault_list;
 use crate::loads::load_all;
 use crate::refusals::{Refusal, ModeError};
-use crate::told::{Told, refused};
+use crate::reported::{Told, refused};
 use certain_faults::{CertainFault, certain_faults};
 use scj_base::{Memory, Status};
 use scj_check::{Sources, Verdict};
@@ -41,16 +41,16 @@ pub fn faults<H: Shelf, K: Sink>(
         (sink_run (K.taken out.old) (K.taken out.new) (K.faults out.old) (K.faults out.new)) stop) }
 {
     let sources = load_all(alloc, names, shelf)?;
-    let told = judge(alloc, names, &sources)?;
-    put_all(out, told.text.as_bytes())?;
-    Ok(told.status)
+    let reported = judge(alloc, names, &sources)?;
+    put_all(out, reported.text.as_bytes())?;
+    Ok(reported.status)
 }
 
 // The answer on the contents of the files.
 fn judge(alloc: Global, names: &[String], sources: &Sources) -> Result<Told, Refusal>
     ensures ok { IfOk result
-        (λ told. Answer (Some (Faults (map string_bytes names.now))) (texts_of sources.now) told.status
-        (string_bytes told.text) []) }
+        (λ reported. Answer (Some (Faults (map string_bytes names.now))) (texts_of sources.now) reported.status
+        (string_bytes reported.text) []) }
     ensures refusal { IfErr result
         (λ refusal. RefusesForm (Faults (map string_bytes names.now)) (texts_of sources.now) refusal) }
 {
@@ -72,8 +72,8 @@ fn faults_in(alloc: Global, checked: Checked) -> Result<Vec<CertainFault>, Memor
 
 fn listed(alloc: Global, names: &[String], faults: &[CertainFault]) -> Result<Told, AllocError>
     ensures { IfOk result
-        (λ told. (told.status ≡ Done) ×
-        (string_bytes told.text ≡ fault_list (map string_bytes names.now) faults.now)) }
+        (λ reported. (reported.status ≡ Done) ×
+        (string_bytes reported.text ≡ fault_list (map string_bytes names.now) faults.now)) }
 {
     let text = fault_list(alloc, names, faults)?;
     Ok(Told {

@@ -29,9 +29,9 @@ pub fn run_generated<K: Sink>(alloc: Global, size: u32, out: &mut K) -> Result<S
     ensures stop { IfErr result (λ stop. (shelf : ShelfRun) → Stops (Some (Gen size)) shelf
         (sink_run (K.taken out.old) (K.taken out.new) (K.faults out.old) (K.faults out.new)) stop) }
 {
-    let told = told_of(alloc, size)?;
-    put_all(out, &told.text)?;
-    Ok(told.status)
+    let reported = reported_of(alloc, size)?;
+    put_all(out, &reported.text)?;
+    Ok(reported.status)
 }
 
 // What a run of a generated program answers.
@@ -42,9 +42,9 @@ struct Told {
 }
 
 // The answer on the generated program of a size.
-fn told_of(alloc: Global, size: u32) -> Result<Told, Refusal>
+fn reported_of(alloc: Global, size: u32) -> Result<Told, Refusal>
     requires { IsSize size }
-    ensures ok { IfOk result (λ told. Answer (Some (Gen size)) [] told.status told.text.items []) }
+    ensures ok { IfOk result (λ reported. Answer (Some (Gen size)) [] reported.status reported.text.items []) }
     ensures refusal { IfErr result (λ refusal. RefusesForm (Gen size) [] refusal) }
 {
     let (source, plan) = texts_of(alloc, size)?;
@@ -97,9 +97,9 @@ fn alone(alloc: Global, text: Vec<u8>) -> Result<Sources, Memory>
 fn summarized(alloc: Global, size: u32, runnable: Runnable) -> Result<Told, Memory>
     requires named { length runnable.checked.program.files ≡ length runnable.files }
     requires names { runnable.files ≡ generated_names }
-    ensures status { IfOk result (λ told. told.status ≡ run_status (Ran runnable.checked.program runnable.plan)) }
+    ensures status { IfOk result (λ reported. reported.status ≡ run_status (Ran runnable.checked.program runnable.plan)) }
     ensures text { IfOk result
-        (λ told. told.text.items ≡ gen_out size (Ran runnable.checked.program runnable.plan)) }
+        (λ reported. reported.text.items ≡ gen_out size (Ran runnable.checked.program runnable.plan)) }
 {
     let mut kept = KeptTrace::new(alloc);
     match runnable.run(alloc, &mut kept) {

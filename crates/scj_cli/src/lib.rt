@@ -24,6 +24,6 @@ mod runnables;
 mod runs;
 mod shows;
 mod summaries;
-mod told;
+mod reported;
 
 pub use calls::scj;

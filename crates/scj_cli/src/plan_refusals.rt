@@ -2,10 +2,10 @@
 
 ghost use Rattle.std.specs.Prelude.{◌≡◌, IfOk, IfErr, Err};
 ghost use Rattle.run_plan.specs.PlanOf.{Meaning, meaning_of_text, plan, not_toml, bad_key, bad_value};
-ghost use Rattle.run_plan.specs.Answers.{TellsMeaning};
+ghost use Rattle.run_plan.specs.Answers.{ReportsMeaning};
 ghost use Rattle.response_bounds.specs.Rows.{AreDeclared};
 ghost use Rattle.response_times.specs.DeclaredOf.{DeclaredMeaning, declared_of_text, declared};
-ghost use Rattle.response_times.specs.Answers.{TellsDeclared};
+ghost use Rattle.response_times.specs.Answers.{ReportsDeclared};
 ghost use Rattle.scj_cli.specs.Judgements.{RefusesPlan, RefusesDeclared};
 ghost use Rattle.scj_cli.specs.Outcomes.{plan_line};
 
@@ -29,7 +29,7 @@ pub fn plan_in(alloc: Global, text: &[u8]) -> Result<Plan, Refusal>
 /// What is told of a text that is no plan.
 fn refusal_of(alloc: Global, answer: &PlanError) -> Result<Refusal, AllocError>
     ensures { IfOk result
-        (λ refusal. (meaning : Meaning) → TellsMeaning meaning (Err answer.now) → RefusesPlan meaning refusal) }
+        (λ refusal. (meaning : Meaning) → ReportsMeaning meaning (Err answer.now) → RefusesPlan meaning refusal) }
 {
     match answer {
         PlanError::NotToml => Ok(Refusal::Unplanned(not_toml(alloc)?)),
@@ -54,7 +54,7 @@ pub fn declared_in(alloc: Global, text: &[u8]) -> Result<DeclaredFile, Refusal>
 /// What is told of a text that has no declared rows.
 fn refusal_of_rows(alloc: Global, error: &DeclaredError) -> Result<Refusal, AllocError>
     ensures { IfOk result
-        (λ refusal. (meaning : DeclaredMeaning) → TellsDeclared meaning (Err error.now) →
+        (λ refusal. (meaning : DeclaredMeaning) → ReportsDeclared meaning (Err error.now) →
         RefusesDeclared meaning refusal) }
 {
     match error {

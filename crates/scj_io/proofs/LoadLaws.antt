@@ -2,7 +2,7 @@
 use Rattle.std.proofs.Common.{◌≡◌, ◌⊎◌, inl, inr, ℕ, ◌<◌, ◌≤◌, List, length, refl, sym, subst, ◌∙◌, Result, Ok, Err, IfOk, IfErr, arith}
 use Rattle.scj_io.specs.Counters.{Rose}
 use Rattle.scj_io.specs.Loads.{Held, ShelfRun, shelf_run, ShelfGoes, MayHold, MayExceed, LoadHolds, LoadExceeds, LoadRefuses, IsTooLongOrMemory}
-use Rattle.scj_io.specs.Loads.Held.{Told, Absent}
+use Rattle.scj_io.specs.Loads.Held.{Reported, Absent}
 use Rattle.scj_io.specs.declared.shelves.LoadError.{LoadError}
 use Rattle.scj_io.specs.declared.shelves.LoadError.TheVariants.{Failed, TooLong, Memory}
 
@@ -46,31 +46,31 @@ LoadRefuses-within name limit (TooLong taken) before refused after = LoadExceeds
 LoadRefuses-within name limit Memory before refused after = tt
 
 -- where the bytes are told and fit, a load is not too long
-pub told_fits : {run : ShelfRun} {name : List ℕ} {limit taken : ℕ} {bytes : List ℕ} → LoadExceeds run name limit taken →
-    run.held name ≡ Told bytes → limit < length bytes
-told_fits {limit = limit} exceeds told = subst (λ (held : Held). MayExceed held limit) told exceeds.content
+pub reported_fits : {run : ShelfRun} {name : List ℕ} {limit taken : ℕ} {bytes : List ℕ} → LoadExceeds run name limit taken →
+    run.held name ≡ Reported bytes → limit < length bytes
+reported_fits {limit = limit} exceeds reported = subst (λ (held : Held). MayExceed held limit) reported exceeds.content
 
 -- where the bytes are told, a load gives exactly these
-pub told_bytes : {run : ShelfRun} {name : List ℕ} {limit : ℕ} {items bytes : List ℕ} → LoadHolds run name limit items →
-    run.held name ≡ Told bytes → items ≡ bytes
-told_bytes {items = items} holds told = subst (λ (held : Held). MayHold held items) told holds.content
+pub reported_bytes : {run : ShelfRun} {name : List ℕ} {limit : ℕ} {items bytes : List ℕ} → LoadHolds run name limit items →
+    run.held name ≡ Reported bytes → items ≡ bytes
+reported_bytes {items = items} holds reported = subst (λ (held : Held). MayHold held items) reported holds.content
 
 -- where the bytes are told and are more than the limit, and no fault rises, a load is too long
-pub told_exceeds : {V : Type 0} (items_of : V → List ℕ) (run : ShelfRun) (name : List ℕ) (limit : ℕ) (bytes : List ℕ)
-    (result : Result V LoadError) → run.held name ≡ Told bytes → limit < length bytes →
+pub reported_exceeds : {V : Type 0} (items_of : V → List ℕ) (run : ShelfRun) (name : List ℕ) (limit : ℕ) (bytes : List ℕ)
+    (result : Result V LoadError) → run.held name ≡ Reported bytes → limit < length bytes →
     (Rose (run.faults_before name) (run.faults_after name) → ⊥) →
     IfOk result (λ v. LoadHolds run name limit (items_of v)) →
     IfErr result (λ answer. LoadRefuses run name limit answer) → (answer : LoadError) × (result ≡ Err answer) ×
     IsTooLongOrMemory answer
-told_exceeds items_of run name limit bytes (Ok v) told long calm ok err =
-    absurd (too_short (told_bytes ok told) ok.within)
+reported_exceeds items_of run name limit bytes (Ok v) reported long calm ok err =
+    absurd (too_short (reported_bytes ok reported) ok.within)
   where
     too_short : items_of v ≡ bytes → length (items_of v) ≤ limit → ⊥
     too_short same within = let longer : limit < length (items_of v) =
         subst (λ (t : List ℕ). limit < length t) (sym same) long in omega arith
-told_exceeds items_of run name limit bytes (Err Failed) told long calm ok err = absurd (calm err)
-told_exceeds items_of run name limit bytes (Err (TooLong taken)) told long calm ok err = (TooLong taken, refl, tt)
-told_exceeds items_of run name limit bytes (Err Memory) told long calm ok err = (Memory, refl, tt)
+reported_exceeds items_of run name limit bytes (Err Failed) reported long calm ok err = absurd (calm err)
+reported_exceeds items_of run name limit bytes (Err (TooLong taken)) reported long calm ok err = (TooLong taken, refl, tt)
+reported_exceeds items_of run name limit bytes (Err Memory) reported long calm ok err = (Memory, refl, tt)
 
 -- a name told as absent is answered neither with bytes nor as too long
 pub absent_refused : {V : Type 0} (items_of : V → List ℕ) (run : ShelfRun) (name : List ℕ) (limit : ℕ)

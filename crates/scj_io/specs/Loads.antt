@@ -6,9 +6,9 @@ use Rattle.scj_io.specs.declared.shelves.LoadError.TheVariants.{Failed, TooLong,
 
 -- what a shelf tells of a name: its bytes, that it holds none, or nothing
 pub data Held : Type 0 where
-  Told : List ℕ → Held
+  Reported : List ℕ → Held
   Absent : Held
-  Untold : Held
+  Unreported : Held
 
 -- a shelf at two moments: what it holds, its count of faults of each name at the first and at the
 -- second moment, and by the second moment the most bytes that a load of each name has taken
@@ -35,15 +35,15 @@ pub record ShelfGoes (old_held new_held : List ℕ → Held) (old_faults new_fau
 
 -- the bytes may be what stands under a name
 abbrev pub MayHold : Held → List ℕ → Type 0
-MayHold (Told bytes) items = items ≡ bytes
+MayHold (Reported bytes) items = items ≡ bytes
 MayHold Absent items = ⊥
-MayHold Untold items = Unit {0}
+MayHold Unreported items = Unit {0}
 
 -- more bytes than the limit may stand under a name
 abbrev pub MayExceed : Held → ℕ → Type 0
-MayExceed (Told bytes) limit = limit < length bytes
+MayExceed (Reported bytes) limit = limit < length bytes
 MayExceed Absent limit = ⊥
-MayExceed Untold limit = Unit {0}
+MayExceed Unreported limit = Unit {0}
 
 -- a load of the name gave these bytes
 pub record LoadHolds (run : ShelfRun) (name : List ℕ) (limit : ℕ) (items : List ℕ) : Type 0 where

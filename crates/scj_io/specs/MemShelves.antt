@@ -3,15 +3,15 @@ use Rattle.std.specs.Prelude.{◌≡◌, ℕ, List, Option, Some, None, Contains
 use Rattle.std.specs.BTreeMap.{get_by_text}
 use Rattle.scj_io.specs.Counters.{one_more}
 use Rattle.scj_io.specs.Loads.{Held}
-use Rattle.scj_io.specs.Loads.Held.{Told, Absent}
+use Rattle.scj_io.specs.Loads.Held.{Reported, Absent}
 use Rattle.scj_io.specs.declared.shelves.LoadError.{LoadError}
 use Rattle.scj_io.specs.declared.shelves.LoadError.TheVariants.{Failed, TooLong, Memory}
 use Rattle.scj_io.specs.declared.mem_shelves.Stored.{Stored}
 use Rattle.scj_io.specs.declared.mem_shelves.MemShelf.{MemShelf}
 
-abbrev pub told_by : Option Stored → Held
-told_by (Some stored) = Told stored.bytes.items
-told_by None = Absent
+abbrev pub reported_by : Option Stored → Held
+reported_by (Some stored) = Reported stored.bytes.items
+reported_by None = Absent
 
 -- a held name has a counter of its own, and all other names have one together
 abbrev pub counter_of : Option Stored → ℕ → ℕ
@@ -24,7 +24,7 @@ faulted stored = record stored { faults = one_more stored.faults }
 
 -- what is held under a name
 abbrev pub held_of : MemShelf → List ℕ → Held
-held_of shelf name = told_by (get_by_text shelf.stored name)
+held_of shelf name = reported_by (get_by_text shelf.stored name)
 
 -- the faults of a name
 abbrev pub faults_of : MemShelf → List ℕ → ℕ

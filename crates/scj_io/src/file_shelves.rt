@@ -4,7 +4,7 @@ ghost use Rattle.std.specs.Prelude.{◌≡◌, ◌≤◌, ◌+◌, ℕ, List, []
 ghost use Rattle.std.specs.Io.KnownBytes.{Consumes, IsAtEnd};
 ghost use Rattle.scj_io.specs.Counters.{one_more};
 ghost use Rattle.scj_io.specs.Loads.{ShelfGoes, shelf_run, LoadHolds, LoadRefuses};
-ghost use Rattle.scj_io.specs.FileShelves.{nothing_told, faults_of, most_of};
+ghost use Rattle.scj_io.specs.FileShelves.{nothing_reported, faults_of, most_of};
 ghost use Rattle.scj_io.specs.declared.file_shelves.ReadError.TheVariants.{Memory};
 
 use crate::counters::raised;
@@ -42,20 +42,20 @@ impl<'r, R: Files> FileShelf<'r, R> {
 }
 
 impl<'r, R: Files> Shelf for FileShelf<'r, R> {
-    ghost held = { λ _. nothing_told };
+    ghost held = { λ _. nothing_reported };
 
     ghost faults = { faults_of };
 
     ghost most = { most_of };
 
     fn load(&mut self, alloc: Global, name: &str, limit: usize) -> Result<Vec<u8>, LoadError>
-        ensures goes { ShelfGoes nothing_told nothing_told (faults_of self.old) (faults_of self.new)
+        ensures goes { ShelfGoes nothing_reported nothing_reported (faults_of self.old) (faults_of self.new)
             (most_of self.old) (most_of self.new) }
         ensures ok { IfOk result (λ bytes. LoadHolds
-            (shelf_run nothing_told (faults_of self.old) (faults_of self.new) (most_of self.new))
+            (shelf_run nothing_reported (faults_of self.old) (faults_of self.new) (most_of self.new))
             name.now limit bytes.items) }
         ensures refusal { IfErr result (λ answer. LoadRefuses
-            (shelf_run nothing_told (faults_of self.old) (faults_of self.new) (most_of self.new))
+            (shelf_run nothing_reported (faults_of self.old) (faults_of self.new) (most_of self.new))
             name.now limit answer) }
         ensures counted { (other : List ℕ) → IsErrOf result LoadError.Failed →
             faults_of self.new other ≡ one_more (faults_of self.old other) }

@@ -3,8 +3,8 @@
 ghost use Rattle.std.specs.Prelude.{◌≡◌, ◌≢◌, ◌↔◌, ◌≤◌, ℕ, List, [], ◌∷◌, ◌++◌, max, length, OnOk, OnErr, IfOk, IfErr, IsErrOf};
 ghost use Rattle.scj_io.specs.Counters.{one_more};
 ghost use Rattle.scj_io.specs.Loads.{ShelfGoes, shelf_run, LoadHolds, LoadRefuses};
-ghost use Rattle.scj_io.specs.Loads.Held.{Told, Absent};
-ghost use Rattle.scj_io.specs.MemShelves.{held_of, faults_of, most_of, loads_of, failing_loads, RefusesLoad, ShareCounter, counter_of, faulted, told_by, TakesWhole};
+ghost use Rattle.scj_io.specs.Loads.Held.{Reported, Absent};
+ghost use Rattle.scj_io.specs.MemShelves.{held_of, faults_of, most_of, loads_of, failing_loads, RefusesLoad, ShareCounter, counter_of, faulted, reported_by, TakesWhole};
 ghost use Rattle.std.specs.BTreeMap.{get_by_text};
 ghost use Rattle.std.specs.Option.{option_map};
 
@@ -55,7 +55,7 @@ impl MemShelf {
 
     /// Puts a file on the shelf, in the place of an earlier one of its name.
     pub fn add(&mut self, name: &str, bytes: &[u8]) -> Result<(), Memory>
-        ensures ok { OnOk result (held_of self.new name.now ≡ Told bytes.now) }
+        ensures ok { OnOk result (held_of self.new name.now ≡ Reported bytes.now) }
         ensures memory { OnErr result (held_of self.new name.now ≡ held_of self.old name.now) }
         ensures others { (other : List ℕ) → other ≢ name.now → held_of self.new other ≡ held_of self.old other }
         ensures faults { (other : List ℕ) → faults_of self.new other ≡ faults_of self.old other }
@@ -114,9 +114,9 @@ impl Shelf for MemShelf {
             faults_of self.new other ≡ faults_of self.old other }
         ensures calm { (other : List ℕ) → ¬ IsErrOf result LoadError.Failed →
             faults_of self.new other ≡ faults_of self.old other }
-        ensures told { (bytes : List ℕ) → held_of self.old name.now ≡ Told bytes →
+        ensures reported { (bytes : List ℕ) → held_of self.old name.now ≡ Reported bytes →
             IfErr result (λ answer. TakesWhole bytes answer) }
-        ensures most { (bytes : List ℕ) → held_of self.old name.now ≡ Told bytes → ¬ IsErrOf result LoadError.Failed →
+        ensures most { (bytes : List ℕ) → held_of self.old name.now ≡ Reported bytes → ¬ IsErrOf result LoadError.Failed →
             most_of self.new ≡ max (most_of self.old) (length bytes) }
         ensures unmeasured { IsErrOf result LoadError.Failed → most_of self.new ≡ most_of self.old }
         ensures loads { loads_of self.new ≡ one_more (loads_of self.old) }
@@ -147,7 +147,7 @@ impl Shelf for MemShelf {
 
 // Raises the counter of a held name.
 fn count_fault(stored: &mut BTreeMap<String, Stored>, name: &str)
-    ensures held { (other : List ℕ) → told_by (get_by_text stored.new other) ≡ told_by (get_by_text stored.old other) }
+    ensures held { (other : List ℕ) → reported_by (get_by_text stored.new other) ≡ reported_by (get_by_text stored.old other) }
     ensures faulted { get_by_text stored.new name.now ≡ option_map faulted (get_by_text stored.old name.now) }
     ensures spared { (other : List ℕ) → other ≢ name.now → get_by_text stored.new other ≡ get_by_text stored.old other }
     ensures rises { (other : List ℕ) (others : ℕ) → counter_of (get_by_text stored.old other) others ≤ counter_of

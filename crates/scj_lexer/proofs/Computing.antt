@@ -13,14 +13,14 @@ use Rattle.scj_base.specs.declared.lexemes.TokenKind.TheVariants.{Name, Word, Nu
 use Rattle.scj_base.specs.declared.findings.Rule.{Rule}
 use Rattle.scj_base.specs.declared.findings.Rule.TheVariants.{L1, L2, L3}
 use Rattle.scj_lexer.specs.declared.pieces.Front.{Front}
-use Rattle.scj_lexer.specs.declared.pieces.Front.TheVariants.{Piece as Told, Bad}
+use Rattle.scj_lexer.specs.declared.pieces.Front.TheVariants.{Piece as Reported, Bad}
 use Rattle.scj_lexer.specs.Tries.{word_of, sign_of, only_word_of, signs_from}
 use Rattle.scj_lexer.specs.First.{first_of, name_first, number_first, text_first, comment_first, sign_first, number_of, digits_of, close_of}
 use Rattle.scj_lexer.proofs.Decided.{Begins, piece_sound, break_sound}
 use Rattle.scj_lexer.proofs.Whole.{joined, step}
 
 abbrev after : (List ℕ → List ℕ → Option (List Token)) → ℕ → List ℕ → List ℕ → Front → Option (List Token)
-after go file before bytes (Told kind len) =
+after go file before bytes (Reported kind len) =
     option_map (joined file before (take len bytes) kind) (go (drop len bytes) (take len bytes))
 after go file before bytes (Bad rule) = None
 
@@ -30,9 +30,9 @@ tokens_from (suc n) file before [] = Some (token_at file before End 0 ∷ [])
 tokens_from (suc n) file before (b ∷ s) = after (λ rest piece. tokens_from n file (before ++ piece) rest) file before
     (b ∷ s) (first_of (b ∷ s))
 
-front_cases : (f : Front) → ((kind : Option TokenKind) × ((len : ℕ) × (f ≡ Told kind len))) ⊎
+front_cases : (f : Front) → ((kind : Option TokenKind) × ((len : ℕ) × (f ≡ Reported kind len))) ⊎
     ((rule : Rule) × (f ≡ Bad rule))
-front_cases (Told kind len) = inl (kind, (len, refl))
+front_cases (Reported kind len) = inl (kind, (len, refl))
 front_cases (Bad rule) = inr (rule, refl)
 
 map_is : {A : Type 0} (f : A → A) (o : Option A) (v : A) → option_map f o ≡ Some v → (u : A) × (o ≡ Some u) × (v ≡ f u)
@@ -60,10 +60,10 @@ sound (suc n) file before [] tokens e = let same : token_at file before End 0 �
 sound (suc n) file before (b ∷ s) tokens e =
     elim (front_cases (first_of (b ∷ s))) [
       | inl t ↦
-          let told =
+          let reported =
           sym (ap (after (λ rest piece. tokens_from n file (before ++ piece) rest) file before (b ∷ s)) t.1.1) ∙ e
           in
-          let m = map_is (joined file before (take t.1.0 (b ∷ s)) t.0) _ tokens told in
+          let m = map_is (joined file before (take t.1.0 (b ∷ s)) t.0) _ tokens reported in
           let found = piece_sound b s t.0 t.1.0 t.1.1 in
           rw m.2
           (one_piece file before (b ∷ s) found.0 t.0 t.1.0 m.0 found.1 found.2

@@ -13,7 +13,7 @@ use Rattle.scj_base.specs.declared.lexemes.TokenKind.{TokenKind}
 use Rattle.scj_base.specs.declared.lexemes.TokenKind.TheVariants.{Name, Word, Number, Text, Sign}
 use Rattle.scj_base.specs.declared.findings.Rule.{Rule}
 use Rattle.scj_base.specs.declared.findings.Rule.TheVariants.{L1, L2, L3, L4}
-use Rattle.scj_lexer.specs.declared.pieces.Front.TheVariants.{Piece as Told, Bad}
+use Rattle.scj_lexer.specs.declared.pieces.Front.TheVariants.{Piece as Reported, Bad}
 use Rattle.scj_lexer.specs.Tries.{word_of, sign_of}
 use Rattle.scj_lexer.specs.First.{first_of, number_first, text_first, comment_first, sign_first, number_of, close_of, number_or_bad, quote_or_bad, comment_or_bad, sign_or_bad}
 use Rattle.scj_lexer.proofs.Runs.{prefix_len_all, prefix_len_ends, digits_sound, AreDigits, close_sound, Closed, close_none_exact, close_none_sound, none≢some}
@@ -32,12 +32,12 @@ pub record Breaks (bytes : List ℕ) : Type 0 where
   pub found : first_of bytes ≡ Bad rule
   pub is : BreakAt bytes rule
 
-told≢bad : {X : Type 0} {kind : Option TokenKind} {n : ℕ} {rule : Rule} → Told kind n ≡ Bad rule → X
-told≢bad e = absurd (cc)
+reported≢bad : {X : Type 0} {kind : Option TokenKind} {n : ℕ} {rule : Rule} → Reported kind n ≡ Bad rule → X
+reported≢bad e = absurd (cc)
 
 pub no_lexeme : (bytes : List ℕ) (rule : Rule) → first_of bytes ≡ Bad rule → NoLexeme bytes
 no_lexeme bytes rule e =
-    λ w rest kind whole is. told≢bad (sym (exact_lexeme w rest kind is) ∙ ap first_of (sym whole) ∙ e)
+    λ w rest kind whole is. reported≢bad (sym (exact_lexeme w rest kind is) ∙ ap first_of (sym whole) ∙ e)
 
 abbrev name_run : List ℕ → List ℕ
 name_run s = take (prefix_len is_name_byte s) s
@@ -270,21 +270,21 @@ decide b s =
     ]
 
 -- what is found is so
-pub piece_sound : (b : ℕ) (s : List ℕ) (kind : Option TokenKind) (n : ℕ) → first_of (b ∷ s) ≡ Told kind n →
+pub piece_sound : (b : ℕ) (s : List ℕ) (kind : Option TokenKind) (n : ℕ) → first_of (b ∷ s) ≡ Reported kind n →
     (p : Begins (b ∷ s)) × (p.kind ≡ kind) × (length p.piece ≡ n)
 piece_sound b s kind n e =
     elim (decide b s) [
       | inl p ↦
-          let same : Told p.kind (length p.piece) ≡ Told kind n = sym (first_exact p.piece p.rest p.kind p.is)
+          let same : Reported p.kind (length p.piece) ≡ Reported kind n = sym (first_exact p.piece p.rest p.kind p.is)
           ∙ ap first_of (sym p.whole) ∙ e in
           (p, cc, cc)
-      | inr p ↦ told≢bad (sym e ∙ p.found)
+      | inr p ↦ reported≢bad (sym e ∙ p.found)
     ]
 
 pub break_sound : (b : ℕ) (s : List ℕ) (rule : Rule) → first_of (b ∷ s) ≡ Bad rule → BreakAt (b ∷ s) rule
 break_sound b s rule e =
     elim (decide b s) [
-      | inl p ↦ told≢bad (sym (first_exact p.piece p.rest p.kind p.is) ∙ ap first_of (sym p.whole) ∙ e)
+      | inl p ↦ reported≢bad (sym (first_exact p.piece p.rest p.kind p.is) ∙ ap first_of (sym p.whole) ∙ e)
       | inr p ↦ let same : Bad p.rule ≡ Bad rule = sym p.found ∙ e in let rules_same : p.rule ≡ rule =
           cc in subst (BreakAt (b ∷ s)) rules_same p.is
     ]
@@ -298,7 +298,7 @@ lexeme_in _ _ _ kind (block_comment inside rest e) q h = cc
 lexeme_in _ _ _ kind (lexeme w rest k is) q h = h k is
 
 not_a_lexeme : (b : ℕ) (s : List ℕ) (kind : TokenKind) (n : ℕ) → NoLexeme (b ∷ s) →
-    first_of (b ∷ s) ≡ Told (Some kind) n → ⊥
+    first_of (b ∷ s) ≡ Reported (Some kind) n → ⊥
 not_a_lexeme b s kind n none e =
     let p = piece_sound b s (Some kind) n e in
     lexeme_in (p.0).piece (p.0).rest (p.0).kind kind (p.0).is p.1 (λ k is. none (p.0).piece (p.0).rest k (p.0).whole is)

@@ -12,7 +12,7 @@ use Rattle.scj_base.specs.Lexeme.Piece.{blank, line_comment, block_comment, lexe
 use Rattle.scj_base.specs.declared.lexemes.TokenKind.{TokenKind}
 use Rattle.scj_base.specs.declared.lexemes.TokenKind.TheVariants.{Number, Text, Sign}
 use Rattle.scj_base.specs.declared.findings.Rule.TheVariants.{L4}
-use Rattle.scj_lexer.specs.declared.pieces.Front.TheVariants.{Piece as Told, Bad}
+use Rattle.scj_lexer.specs.declared.pieces.Front.TheVariants.{Piece as Reported, Bad}
 use Rattle.scj_lexer.specs.Tries.{word_of}
 use Rattle.scj_lexer.specs.First.{first_of, name_first, number_first, text_first, comment_first, sign_first, number_of, word_or_name, number_or_bad, comment_or_bad, sign_or_bad}
 use Rattle.scj_lexer.proofs.Runs.{prefix_len_exact, digits_exact, close_exact}
@@ -39,7 +39,7 @@ commented_len inside = omega (arith, length-append inside (42 ∷ 47 ∷ []))
 
 -- two signs that begin the same bytes and are as long as each other are one
 same_sign : (w rest : List ℕ) (n m : ℕ) → slice_get signs n ≡ Some w → (f : SignFound (w ++ rest) m) →
-    length w ≤ sign_len m → length f.sign ≤ length w → sign_or_bad (Some m) ≡ Told (Some (Sign n)) (length w)
+    length w ≤ sign_len m → length f.sign ≤ length w → sign_or_bad (Some m) ≡ Reported (Some (Sign n)) (length w)
 same_sign w rest n m e f longer shorter =
     let is : get_or signs m [] ≡ f.sign = get_or_from_slice_get signs m f.sign [] f.listed in
     let as_long : length w ≡ length f.sign = omega (arith, ap length is) in
@@ -76,18 +76,18 @@ word_like_in_name : (w : List ℕ) → IsWordLike w → AllOf is_name_byte w
 word_like_in_name [] h = absurd h
 word_like_in_name (b ∷ s) h = and_from _ _ (letter_in_name b h.0) h.1
 
-exact_blank : (b : ℕ) (rest : List ℕ) → is_blank b ≡ true → first_of (b ∷ rest) ≡ Told None 1
+exact_blank : (b : ℕ) (rest : List ℕ) → is_blank b ≡ true → first_of (b ∷ rest) ≡ Reported None 1
 unfolding first_of
 exact_blank b rest e = cond-true _ _ _ e
 
 exact_line : (inside rest : List ℕ) → AllOf is_line_byte inside → EndsHere is_line_byte rest →
-    first_of (47 ∷ 47 ∷ (inside ++ rest)) ≡ Told None (suc (suc (length inside)))
+    first_of (47 ∷ 47 ∷ (inside ++ rest)) ≡ Reported None (suc (suc (length inside)))
 unfolding first_of is_blank is_letter is_digit opens_comment
 exact_line inside rest a e = let n : prefix_len is_line_byte (inside ++ rest) + 2 ≡ suc (suc (length inside)) =
-    rw (prefix_len_exact is_line_byte inside rest a e) (omega arith) in ap (Told None) n
+    rw (prefix_len_exact is_line_byte inside rest a e) (omega arith) in ap (Reported None) n
 
 exact_block : (inside rest : List ℕ) → has_close inside ≡ false →
-    first_of (47 ∷ 42 ∷ ((inside ++ 42 ∷ 47 ∷ []) ++ rest)) ≡ Told None (length inside + 4)
+    first_of (47 ∷ 42 ∷ ((inside ++ 42 ∷ 47 ∷ []) ++ rest)) ≡ Reported None (length inside + 4)
 unfolding first_of is_blank is_letter is_digit opens_comment comment_first
 exact_block inside rest e = ap comment_or_bad (close_exact inside rest e)
 
@@ -110,13 +110,13 @@ other_first b s e1 e2 e3 e4 e5 = cond-false _ _ _ e1 ∙ cond-false _ _ _ e2 ∙
     ∙ cond-false _ _ _ e5
 
 exact_run : (w rest : List ℕ) → AllOf is_name_byte w → EndsHere is_name_byte rest → length w ≤ 64 →
-    name_first (w ++ rest) ≡ Told (Some (word_or_name (word_of w))) (length w)
+    name_first (w ++ rest) ≡ Reported (Some (word_or_name (word_of w))) (length w)
 unfolding name_first
 exact_run w rest a e h = rw (prefix_len_exact is_name_byte w rest a e, take_at w rest (length w) refl)
     (cond-false _ _ _ (le-ltb _ _ h))
 
 exact_like : (w rest : List ℕ) → IsWordLike w → EndsHere is_name_byte rest → length w ≤ 64 →
-    first_of (w ++ rest) ≡ Told (Some (word_or_name (word_of w))) (length w)
+    first_of (w ++ rest) ≡ Reported (Some (word_or_name (word_of w))) (length w)
 exact_like [] rest h e l = absurd h
 exact_like (b ∷ s) rest h e l = letter_first b (s ++ rest) h.0
     ∙ exact_run (b ∷ s) rest (word_like_in_name (b ∷ s) h) e l
@@ -137,7 +137,7 @@ numeral_value [] h l = absurd h
 numeral_value (b ∷ s) h l = cond-false _ _ _ (no_leading_zero b s h.2) ∙ digits_exact 0 (b ∷ s) (and_from _ _ h.0 h.1) l
 
 exact_number : (w rest : List ℕ) → IsNumeral w → value_of w ≤ 2147483648 → EndsHere is_name_byte rest →
-    first_of (w ++ rest) ≡ Told (Some (Number (value_of w))) (length w)
+    first_of (w ++ rest) ≡ Reported (Some (Number (value_of w))) (length w)
 unfolding number_first
 exact_number [] rest h l e = absurd h
 exact_number (b ∷ s) rest h l e =
@@ -148,7 +148,7 @@ exact_number (b ∷ s) rest h l e =
     )
     (ap (λ o. number_or_bad o (length (b ∷ s))) (numeral_value (b ∷ s) h l))
 
-exact_text : (inside rest : List ℕ) → AllOf is_text_byte inside → first_of (34 ∷ ((inside ++ 34 ∷ []) ++ rest)) ≡ Told
+exact_text : (inside rest : List ℕ) → AllOf is_text_byte inside → first_of (34 ∷ ((inside ++ 34 ∷ []) ++ rest)) ≡ Reported
     (Some Text) (length inside + 2)
 unfolding text_first is_text_byte
 exact_text inside rest a =
@@ -160,7 +160,7 @@ exact_text inside rest a =
     ) refl
 
 exact_sign : (w rest : List ℕ) (n : ℕ) → slice_get signs n ≡ Some w → IsLongestSign w (w ++ rest) →
-    opens_comment (w ++ rest) ≡ false → first_of (w ++ rest) ≡ Told (Some (Sign n)) (length w)
+    opens_comment (w ++ rest) ≡ false → first_of (w ++ rest) ≡ Reported (Some (Sign n)) (length w)
 unfolding sign_first
 exact_sign [] rest n e h o = absurd (sign_not_empty n e)
 exact_sign (b ∷ s) rest n e h o =
@@ -172,19 +172,19 @@ exact_sign (b ∷ s) rest n e h o =
     ∙ same_sign (b ∷ s) rest n m e as_found longer (h m as_found.sign as_found.rest as_found.listed as_found.whole)
 
 pub exact_lexeme : (w rest : List ℕ) (kind : TokenKind) → Lexeme w rest kind →
-    first_of (w ++ rest) ≡ Told (Some kind) (length w)
-exact_lexeme _ _ _ (name w rest h l r e) = exact_like w rest h e l ∙ ap (λ o. Told (Some (word_or_name o)) (length w))
+    first_of (w ++ rest) ≡ Reported (Some kind) (length w)
+exact_lexeme _ _ _ (name w rest h l r e) = exact_like w rest h e l ∙ ap (λ o. Reported (Some (word_or_name o)) (length w))
     (not_reserved w r)
 exact_lexeme _ _ _ (word w rest n h e) =
     let facts : WordFacts n w = word_facts n w h in
-    exact_like w rest facts.like e facts.short ∙ ap (λ o. Told (Some (word_or_name o)) (length w)) facts.found
+    exact_like w rest facts.like e facts.short ∙ ap (λ o. Reported (Some (word_or_name o)) (length w)) facts.found
 exact_lexeme _ _ _ (number w rest h l e) = exact_number w rest h l e
-exact_lexeme _ _ _ (text inside rest a) = exact_text inside rest a ∙ ap (Told (Some Text)) (quoted_len inside)
+exact_lexeme _ _ _ (text inside rest a) = exact_text inside rest a ∙ ap (Reported (Some Text)) (quoted_len inside)
 exact_lexeme _ _ _ (sign w rest n e h o) = exact_sign w rest n e h o
 
 pub first_exact : (w rest : List ℕ) (kind : Option TokenKind) → Piece w rest kind →
-    first_of (w ++ rest) ≡ Told kind (length w)
+    first_of (w ++ rest) ≡ Reported kind (length w)
 first_exact _ _ _ (blank b rest e) = exact_blank b rest e
 first_exact _ _ _ (line_comment inside rest a e) = exact_line inside rest a e
-first_exact _ _ _ (block_comment inside rest e) = exact_block inside rest e ∙ ap (Told None) (commented_len inside)
+first_exact _ _ _ (block_comment inside rest e) = exact_block inside rest e ∙ ap (Reported None) (commented_len inside)
 first_exact _ _ _ (lexeme w rest kind h) = exact_lexeme w rest kind h

@@ -13,7 +13,7 @@ use Rattle.scj_base.specs.declared.lexemes.TokenKind.TheVariants.{Name, Word, Nu
 use Rattle.scj_base.specs.declared.findings.Rule.{Rule}
 use Rattle.scj_base.specs.declared.findings.Rule.TheVariants.{L1, L2, L3}
 use Rattle.scj_lexer.specs.declared.pieces.Front.{Front}
-use Rattle.scj_lexer.specs.declared.pieces.Front.TheVariants.{Piece as Told, Bad}
+use Rattle.scj_lexer.specs.declared.pieces.Front.TheVariants.{Piece as Reported, Bad}
 use Rattle.scj_lexer.specs.Tries.{word_of, sign_of, only_word_of, signs_from}
 use Rattle.scj_lexer.specs.First.{first_of, name_first, number_first, text_first, comment_first, sign_first, number_of, digits_of, close_of}
 use Rattle.scj_lexer.proofs.Decided.{Begins, piece_sound, break_sound}

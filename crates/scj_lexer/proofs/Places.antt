@@ -12,7 +12,7 @@ use Rattle.scj_base.specs.Lexeme.Lexeme.{name, word, number, text, sign}
 use Rattle.scj_base.specs.Lexeme.Piece.{blank, line_comment, block_comment, lexeme}
 use Rattle.scj_base.specs.declared.positions.Position.{Position}
 use Rattle.scj_base.specs.declared.lexemes.TokenKind.{TokenKind}
-use Rattle.scj_lexer.specs.declared.pieces.Front.TheVariants.{Piece as Told}
+use Rattle.scj_lexer.specs.declared.pieces.Front.TheVariants.{Piece as Reported}
 use Rattle.scj_lexer.specs.First.{first_of}
 use Rattle.scj_lexer.specs.Places.{stays_in_line}
 use Rattle.scj_lexer.proofs.Decided.{Begins, piece_sound}
@@ -71,10 +71,10 @@ piece_in_line _ _ _ (line_comment inside rest a e) t = and_from _ _ refl (and_fr
 piece_in_line _ _ _ (block_comment inside rest e) t = absurd (false≢true t)
 piece_in_line _ _ _ (lexeme w rest kind is) t = lexeme_in_line w rest kind is
 
-pub told_in_line : (rest : List ℕ) (kind : Option TokenKind) (len : ℕ) → 0 < length rest →
-    first_of rest ≡ Told kind len → stays_in_line kind (take len rest) ≡ true → AllOf is_line_byte (take len rest)
-told_in_line [] kind len l e t = absurd (omega arith)
-told_in_line (b ∷ s) kind len l e t =
+pub reported_in_line : (rest : List ℕ) (kind : Option TokenKind) (len : ℕ) → 0 < length rest →
+    first_of rest ≡ Reported kind len → stays_in_line kind (take len rest) ≡ true → AllOf is_line_byte (take len rest)
+reported_in_line [] kind len l e t = absurd (omega arith)
+reported_in_line (b ∷ s) kind len l e t =
     let found = piece_sound b s kind len e in
     let p : Begins (b ∷ s) = found.0 in
     let same : take len (b ∷ s) ≡ p.piece = ap (take len) p.whole ∙ take_at p.piece p.rest len found.2 in

@@ -14,11 +14,11 @@ use Rattle.scj_base.specs.declared.lexemes.Token.{Token}
 use Rattle.scj_base.specs.declared.lexemes.TokenKind.{TokenKind}
 use Rattle.scj_base.specs.declared.lexemes.TokenKind.TheVariants.{End}
 use Rattle.scj_base.specs.declared.findings.Rule.{Rule}
-use Rattle.scj_lexer.specs.declared.pieces.Front.TheVariants.{Piece as Told, Bad}
+use Rattle.scj_lexer.specs.declared.pieces.Front.TheVariants.{Piece as Reported, Bad}
 use Rattle.std.specs.Prelude.{Result, Ok, Err, IsErrAnd, IfErr}
 use Rattle.scj_lexer.specs.declared.texts.LexError.{LexError}
 use Rattle.scj_lexer.specs.declared.texts.LexError.TheVariants.{Memory}
-use Rattle.scj_lexer.specs.Answer.{IsBreakOf, Tells, token_of}
+use Rattle.scj_lexer.specs.Answer.{IsBreakOf, Reports, token_of}
 use Rattle.scj_lexer.specs.First.{first_of}
 use Rattle.scj_lexer.proofs.Decided.{Begins, piece_sound, break_sound}
 use Rattle.scj_lexer.proofs.Whole.{step, joined, not_both, piece_len}
@@ -101,7 +101,7 @@ reached_as file bytes rest pos tokens p kind len k l r =
     (reached_found file bytes rest pos tokens p r))
 
 pub reached_step : (file : ℕ) (bytes rest : List ℕ) (kind : Option TokenKind) (len : ℕ) (pos : Position)
-    (tokens : List Token) → 0 < length rest → first_of rest ≡ Told kind len → Reached file bytes rest pos tokens →
+    (tokens : List Token) → 0 < length rest → first_of rest ≡ Reported kind len → Reached file bytes rest pos tokens →
     Reached file bytes (drop len rest) (fold position_behind_byte pos (take len rest))
     (tokens ++ token_of kind pos (length bytes - length rest) len)
 reached_step file bytes [] kind len pos tokens l e r = absurd (omega arith)
@@ -109,10 +109,10 @@ reached_step file bytes (b ∷ s) kind len pos tokens l e r =
     let found = piece_sound b s kind len e in
     reached_as file bytes (b ∷ s) pos tokens found.0 kind len found.1 found.2 r
 
-pub told_len : (rest : List ℕ) (kind : Option TokenKind) (len : ℕ) → 0 < length rest → first_of rest ≡ Told kind len →
+pub reported_len : (rest : List ℕ) (kind : Option TokenKind) (len : ℕ) → 0 < length rest → first_of rest ≡ Reported kind len →
     (0 < len) × (len ≤ length rest)
-told_len [] kind len l e = absurd (omega arith)
-told_len (b ∷ s) kind len l e =
+reported_len [] kind len l e = absurd (omega arith)
+reported_len (b ∷ s) kind len l e =
     let found = piece_sound b s kind len e in
     let p : Begins (b ∷ s) = found.0 in
     let positive : 0 < length p.piece = piece_len p.piece p.rest p.kind p.is in
@@ -149,7 +149,7 @@ reached_break file bytes (b ∷ s) pos tokens rule found l e q t r =
       no_tokens = λ more. not_both file [] bytes more found.rule (length r.before) broken_here;
     }
 
-blank_first : (rest : List ℕ) → 0 < length rest → is_blank (slice_index rest 0) ≡ true → first_of rest ≡ Told None 1
+blank_first : (rest : List ℕ) → 0 < length rest → is_blank (slice_index rest 0) ≡ true → first_of rest ≡ Reported None 1
 unfolding first_of
 blank_first [] l e = absurd (omega arith)
 blank_first (b ∷ s) l e = cond-true _ _ _ e
@@ -209,11 +209,11 @@ pub not_at_end : (rest : List ℕ) (b : Bool) → b ≡ (length rest == 0) → b
 not_at_end rest b e f = not_empty (length rest) (sym e ∙ f)
 
 pub piece_fits : (file : ℕ) (bytes rest : List ℕ) (kind : Option TokenKind) (len : ℕ) (pos : Position)
-    (tokens : List Token) → length bytes ≤ 1048576 → 0 < length rest → first_of rest ≡ Told kind len →
+    (tokens : List Token) → length bytes ≤ 1048576 → 0 < length rest → first_of rest ≡ Reported kind len →
     Reached file bytes rest pos tokens → PieceFits bytes rest pos len
 piece_fits file bytes rest kind len pos tokens l h e r =
     let small : Small pos bytes rest = reached_small file bytes rest pos tokens r in
-    let (positive, within) = told_len rest kind len h e in
+    let (positive, within) = reported_len rest kind len h e in
     let same : length (take len rest) ≡ len = length-take-le len rest within in
     record {
       positive = positive;
@@ -225,10 +225,10 @@ piece_fits file bytes rest kind len pos tokens l h e r =
       left = small.left;
     }
 
-pub told_memory : {A : Type 0} (file : ℕ) (bytes : List ℕ) (r : Result A LexError) → IsErrAnd r (λ e. e ≡ Memory) →
-    IfErr r (λ answer. Tells file bytes answer)
-told_memory file bytes (Ok a) h = tt
-told_memory file bytes (Err e) h = subst (Tells file bytes) (sym h) tt
+pub reported_memory : {A : Type 0} (file : ℕ) (bytes : List ℕ) (r : Result A LexError) → IsErrAnd r (λ e. e ≡ Memory) →
+    IfErr r (λ answer. Reports file bytes answer)
+reported_memory file bytes (Ok a) h = tt
+reported_memory file bytes (Err e) h = subst (Reports file bytes) (sym h) tt
 
 -- behind a space
 pub reached_space : (file : ℕ) (bytes rest : List ℕ) (pos : Position) (tokens : List Token) → 0 < length rest →

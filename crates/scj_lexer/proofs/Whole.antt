@@ -12,7 +12,7 @@ use Rattle.scj_base.specs.declared.lexemes.Token.{Token}
 use Rattle.scj_base.specs.declared.lexemes.TokenKind.{TokenKind}
 use Rattle.scj_base.specs.declared.lexemes.TokenKind.TheVariants.{End}
 use Rattle.scj_base.specs.declared.findings.Rule.{Rule}
-use Rattle.scj_lexer.specs.declared.pieces.Front.TheVariants.{Piece as Told, Bad}
+use Rattle.scj_lexer.specs.declared.pieces.Front.TheVariants.{Piece as Reported, Bad}
 use Rattle.scj_lexer.specs.First.{first_of}
 use Rattle.scj_lexer.proofs.TableChecks.{sign_not_empty, word_facts}
 use Rattle.scj_lexer.proofs.Exact.{first_exact}
@@ -56,7 +56,7 @@ pub record Same (w rest : List ℕ) (kind : Option TokenKind) (w' rest' : List �
 pub piece_unique : (w rest : List ℕ) (kind : Option TokenKind) (w' rest' : List ℕ) (kind' : Option TokenKind) →
     Piece w rest kind → Piece w' rest' kind' → w ++ rest ≡ w' ++ rest' → Same w rest kind w' rest' kind'
 piece_unique w rest kind w' rest' kind' p p' e =
-    let told : Told kind (length w) ≡ Told kind' (length w') = sym (first_exact w rest kind p) ∙ ap first_of e
+    let reported : Reported kind (length w) ≡ Reported kind' (length w') = sym (first_exact w rest kind p) ∙ ap first_of e
     ∙ first_exact w' rest' kind' p' in
     let as_long : length w ≡ length w' = cc in
     let pieces : w ≡ w' = sym (take_at w rest (length w) refl) ∙ ap (take (length w)) e
@@ -79,7 +79,7 @@ no_bytes_break _ _ (long_name w rest h l e) = like_not_empty rest w h
 pub piece_or_break : (w rest bytes : List ℕ) (kind : Option TokenKind) (rule : Rule) → Piece w rest kind →
     BreakAt bytes rule → bytes ≡ w ++ rest → ⊥
 piece_or_break w rest bytes kind rule p b e =
-    let told : Told kind (length w) ≡ Bad rule = sym (first_exact w rest kind p) ∙ ap first_of (sym e)
+    let reported : Reported kind (length w) ≡ Bad rule = sym (first_exact w rest kind p) ∙ ap first_of (sym e)
     ∙ break_exact bytes rule b in
     cc
 

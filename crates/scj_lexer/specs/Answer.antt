@@ -15,9 +15,9 @@ pub record IsBreakOf (file : ℕ) (bytes : List ℕ) (found : Found) : Type 0 wh
   pub place : found.pos ≡ position_of file bytes offset
   pub no_tokens : (tokens : List Token) → Lex file bytes tokens → ⊥
 
-abbrev pub Tells : ℕ → List ℕ → LexError → Type 0
-Tells file bytes (Bad found) = IsBreakOf file bytes found
-Tells file bytes Memory = ⊤
+abbrev pub Reports : ℕ → List ℕ → LexError → Type 0
+Reports file bytes (Bad found) = IsBreakOf file bytes found
+Reports file bytes Memory = ⊤
 
 -- the token of a piece, if it has a kind
 abbrev pub token_of : Option TokenKind → Position → ℕ → ℕ → List Token

@@ -4,7 +4,7 @@ ghost use Rattle.std.specs.Prelude.{◌≡◌, ◌<◌, ◌≤◌, ◌+◌, ◌+
 ghost use Rattle.scj_base.specs.Lex.{Lex, position_at, position_behind_byte};
 ghost use Rattle.scj_base.specs.Lexeme.{AllOf, is_line_byte as line_byte};
 ghost use Rattle.scj_lexer.specs.Places.{stays_in_line};
-ghost use Rattle.scj_lexer.specs.Answer.{Tells, token_of};
+ghost use Rattle.scj_lexer.specs.Answer.{Reports, token_of};
 
 use crate::classes::{is_blank, is_line_byte};
 use crate::pieces::{Front, first};
@@ -38,7 +38,7 @@ impl From<Memory> for LexError {
 pub fn lex(alloc: Global, file: u8, bytes: &[u8]) -> Result<Tokens, LexError>
     requires { length bytes.now ≤ 1048576 }
     ensures ok { IfOk result (λ tokens. Lex file bytes.now tokens) }
-    ensures bad { IfErr result (λ answer. Tells file bytes.now answer) }
+    ensures bad { IfErr result (λ answer. Reports file bytes.now answer) }
 {
     let mut tokens = Tokens::new(alloc);
     let mut pos = Position {

@@ -24,7 +24,7 @@ fn run<R: Files + Env + AllocGlobal, O: Write + Drop, E: Write + Drop>(
     let mut err = StdSink::new(err);
     let status = match words(rt) {
         Ok(words) => scj(rt.alloc(), &words, &mut shelf, &mut out, &mut err),
-        Err(_) => tell_no_memory(&mut err),
+        Err(_) => report_no_memory(&mut err),
     };
     ExitCode::from(status.code())
 }
@@ -39,7 +39,7 @@ fn words<R: Env + AllocGlobal>(rt: &R) -> Result<Vec<String>, AllocError> {
 }
 
 // There was no memory for the words.
-fn tell_no_memory<E: Sink>(err: &mut E) -> Status {
+fn report_no_memory<E: Sink>(err: &mut E) -> Status {
     match put_all(err, b"scj: memory\n") {
         Ok(()) => Status::NoMemory,
         Err(_) => Status::WriteFault,

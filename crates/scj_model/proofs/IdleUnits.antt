@@ -11,12 +11,12 @@ use Rattle.scj_model.specs.declared.plans.Fire.{Fire}
 use Rattle.scj_model.specs.Code.{Code}
 use Rattle.scj_model.specs.Plan.{Plan}
 use Rattle.scj_model.specs.State.{State, is_exec, is_over, Turn, IdleTurn, TurnOf}
-use Rattle.scj_model.specs.Steps.{Step, silently, telling, for_each, then_do, then_try}
+use Rattle.scj_model.specs.Steps.{Step, silently, reporting, for_each, then_do, then_try}
 use Rattle.scj_model.specs.Sequencer.{phase_after, after_execution, after_operation, has_started}
 use Rattle.scj_model.specs.Apply.{release_taken, takes_releases}
 use Rattle.scj_model.specs.Arrivals.{handlers_due, executes_since, fires_due, due_handlers, fired_at, arrivals}
 use Rattle.scj_model.specs.Choice.{Candidate, candidate, candidates_from, candidates, most_urgent, chosen, by_priority}
-use Rattle.scj_model.specs.Run.{is_same_turn, tell_turn, with_turn, turn_taken, turn_acts, sequencer_turn, acts, next_unit, one_unit, RunSoFar, continued, one_more_unit, run}
+use Rattle.scj_model.specs.Run.{is_same_turn, report_turn, with_turn, turn_taken, turn_acts, sequencer_turn, acts, next_unit, one_unit, RunSoFar, continued, one_more_unit, run}
 
 -- execution goes on, and nobody acts or acted last
 pub record IsIdle (s : State) : Type 0 where
@@ -62,7 +62,7 @@ unfolding acts by_priority chosen most_urgent turn_taken turn_acts is_same_turn
 idle_acts code rows s i =
     ap (λ (b : Bool). if b then (by_priority s >>= (λ turn. then_try (turn_taken s turn) (turn_acts code rows turn))) else sequencer_turn code rows s) i.executes
     ∙ (ap (λ (cs : List Candidate). Some (elim (option_map (λ (c : Candidate). c.index) (most_urgent cs)) as (λ x. Turn) [ None ↦ IdleTurn | Some index ↦ TurnOf index ]) >>= (λ turn. then_try (turn_taken s turn) (turn_acts code rows turn))) i.nobody
-    ∙ (ap (λ (c : Option Turn). Some (telling (with_turn s IdleTurn) ((if holds c (is_same_turn IdleTurn) then [] else tell_turn s IdleTurn) ++ []))) i.was_idle
+    ∙ (ap (λ (c : Option Turn). Some (reporting (with_turn s IdleTurn) ((if holds c (is_same_turn IdleTurn) then [] else report_turn s IdleTurn) ++ []))) i.was_idle
     ∙ ap (λ (c : Option Turn). Some (silently (record s { last_choice = c }))) (sym i.was_idle)))
 
 if_false : (b : Bool) (x y : Option Step) → b ≡ false → (if b then x else y) ≡ y
@@ -78,11 +78,11 @@ idle_phase code s i =
 idle_unit : (code : Code) (plan : Plan) (s : State) → IsIdle s → handlers_due s.origin s.unit s.registry ≡ [] → fires_due (executes_since s) s.unit plan.fires ≡ [] → one_unit code plan by_priority s ≡ Some (silently (next_unit s))
 unfolding one_unit
 idle_unit code plan s i h f =
-    ap (λ (a : Step). then_try a (acts code plan.readings by_priority) >>= (λ r. then_try r (phase_after code)) >>= (λ r. Some (telling (next_unit r.state) r.events)))
+    ap (λ (a : Step). then_try a (acts code plan.readings by_priority) >>= (λ r. then_try r (phase_after code)) >>= (λ r. Some (reporting (next_unit r.state) r.events)))
     (idle_arrivals code plan s h f)
-    ∙ (ap (λ (o : Option Step). option_map (λ (second : Step). telling second.state ([] ++ second.events)) o >>= (λ r. then_try r (phase_after code)) >>= (λ r. Some (telling (next_unit r.state) r.events)))
+    ∙ (ap (λ (o : Option Step). option_map (λ (second : Step). reporting second.state ([] ++ second.events)) o >>= (λ r. then_try r (phase_after code)) >>= (λ r. Some (reporting (next_unit r.state) r.events)))
     (idle_acts code plan.readings s i)
-    ∙ ap (λ (o : Option Step). option_map (λ (second : Step). telling second.state ([] ++ second.events)) o >>= (λ r. Some (telling (next_unit r.state) r.events)))
+    ∙ ap (λ (o : Option Step). option_map (λ (second : Step). reporting second.state ([] ++ second.events)) o >>= (λ r. Some (reporting (next_unit r.state) r.events)))
     (idle_phase code s i))
 
 -- ---- more units

@@ -15,15 +15,15 @@ use Rattle.scj_model.specs.Code.{Code}
 use Rattle.scj_model.specs.State.{MemoryArea, Object, Frame, Activity, ReleaseStatus, Waits, Started, Ended, Dropped, Release, ReleaseAt, State, with_activity, with_status, object_at, area_at, is_init, is_exec, Turn}
 use Rattle.scj_model.specs.Registry.{most_handlers, handler_number, handler_row}
 use Rattle.scj_model.specs.Memory.{closed, used, has_room, reserved, has_store_for, area_with_scope, with_area, with_object}
-use Rattle.scj_model.specs.Steps.{Step, silently, telling, then_do, of_release, closed_all, job_ended, fault_in, allocating, opening}
+use Rattle.scj_model.specs.Steps.{Step, silently, reporting, then_do, of_release, closed_all, job_ended, fault_in, allocating, opening}
 use Rattle.scj_model.specs.Effects.{Effect, Goes, Prints, Makes, Stores, StoresStatic, SetsHidden, SetsCeiling, Calls, Opens, Leaves, AsksRegistration, AsksRelease, AsksTermination, Faults, Stuck}
-use Rattle.scj_model.specs.Apply.{is_full, tell_priority, returned, without, ceiling_entered, called, opened_in, frame_left, waiting_of, most_waiting, takes_releases, release_taken, registered, released, asks_for_end, termination, termination_asked, with_frame, applied}
+use Rattle.scj_model.specs.Apply.{is_full, report_priority, returned, without, ceiling_entered, called, opened_in, frame_left, waiting_of, most_waiting, takes_releases, release_taken, registered, released, asks_for_end, termination, termination_asked, with_frame, applied}
 use Rattle.scj_model.specs.Sequencer.{innermost}
 use Rattle.scj_model.specs.Run.{frame_op, effect_at, position_of_op, start_op, started_with, no_activity, release_op_of, ref_op, with_turn}
 
 -- a step that leads to the same state but for the last choice
 abbrev pub as_chosen : Turn → Step → Step
-as_chosen turn r = telling (with_turn r.state turn) r.events
+as_chosen turn r = reporting (with_turn r.state turn) r.events
 
 record SameStep (turn : Turn) (after before : Step) : Type 0 where
   is : after ≡ as_chosen turn before
@@ -51,7 +51,7 @@ fault_same : (t : Turn) (s : State) (n : ℕ) (activity : Activity) (position : 
 unfolding fault_in
 fault_same t s n activity position fault =
     record {
-      is = ap (λ (x : State). telling (with_status x n Ended) (Fault s.unit fault position ∷ of_release s (ReleaseAt n) (λ (r : Release). End s.unit r.handler r.number ∷ [])))
+      is = ap (λ (x : State). reporting (with_status x n Ended) (Fault s.unit fault position ∷ of_release s (ReleaseAt n) (λ (r : Release). End s.unit r.handler r.number ∷ [])))
           (closed_all_same t s activity.frames);
     }
 
@@ -101,7 +101,7 @@ left_same : (t : Turn) (s : State) (n : ℕ) (activity : Activity) (f : Frame) (
 unfolding frame_left job_ended with_activity
 left_same t s n activity f below value =
     record {
-      is = ap (λ (x : State). then_do (telling x (tell_priority s (ReleaseAt n) activity.priority (unwrap_or f.saved activity.priority))) (λ y. elim below as (λ z. Step) [
+      is = ap (λ (x : State). then_do (reporting x (report_priority s (ReleaseAt n) activity.priority (unwrap_or f.saved activity.priority))) (λ y. elim below as (λ z. Step) [
         | [] ↦ job_ended y (ReleaseAt n) after value
         | g ∷ gs ↦ silently (with_activity y (ReleaseAt n) after)
       ])) (closed_same t s f.opened)
@@ -112,11 +112,11 @@ left_same t s n activity f below value =
     after = record activity { frames = returned value below; areas = without f.opened activity.areas; priority = unwrap_or f.saved activity.priority }
 
     go : (fs : List Frame) → SameStep t
-        (then_do (telling (with_turn (closed s f.opened) t) (tell_priority s (ReleaseAt n) activity.priority (unwrap_or f.saved activity.priority))) (λ y. elim fs as (λ z. Step) [
+        (then_do (reporting (with_turn (closed s f.opened) t) (report_priority s (ReleaseAt n) activity.priority (unwrap_or f.saved activity.priority))) (λ y. elim fs as (λ z. Step) [
           | [] ↦ job_ended y (ReleaseAt n) after value
           | g ∷ gs ↦ silently (with_activity y (ReleaseAt n) after)
         ]))
-        (then_do (telling (closed s f.opened) (tell_priority s (ReleaseAt n) activity.priority (unwrap_or f.saved activity.priority))) (λ y. elim fs as (λ z. Step) [
+        (then_do (reporting (closed s f.opened) (report_priority s (ReleaseAt n) activity.priority (unwrap_or f.saved activity.priority))) (λ y. elim fs as (λ z. Step) [
           | [] ↦ job_ended y (ReleaseAt n) after value
           | g ∷ gs ↦ silently (with_activity y (ReleaseAt n) after)
         ]))

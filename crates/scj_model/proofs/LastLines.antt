@@ -16,13 +16,13 @@ use Rattle.scj_model.specs.Plan.{Plan}
 use Rattle.scj_model.specs.State.{Frame, Activity, ReleaseStatus, Waits, Started, Ended, Dropped, Release, Job, TheSequencer, ReleaseAt, State, with_activity, is_waiting, object_at, is_init, is_exec, Turn, IdleTurn, TurnOf, is_over}
 use Rattle.scj_model.specs.Registry.{most_handlers, handler_number, handler_row}
 use Rattle.scj_model.specs.Memory.{closed, has_room, has_store_for, area_with_scope, new_slots, with_area, with_object}
-use Rattle.scj_model.specs.Steps.{Step, silently, telling, of_release, closed_all, job_ended, fault_in, for_each, then_try, allocating, opening}
+use Rattle.scj_model.specs.Steps.{Step, silently, reporting, of_release, closed_all, job_ended, fault_in, for_each, then_try, allocating, opening}
 use Rattle.scj_model.specs.Effects.{Effect, Goes, Prints, Makes, Stores, StoresStatic, SetsHidden, SetsCeiling, Calls, Opens, Leaves, AsksRegistration, AsksRelease, AsksTermination, Faults, Stuck}
-use Rattle.scj_model.specs.Apply.{tell_priority, called, opened_in, frame_left, release_taken, registered, released, termination, termination_asked, applied, is_full, waiting_of, most_waiting, takes_releases, is_sequencer, with_frame, asks_for_end, ceiling_entered}
+use Rattle.scj_model.specs.Apply.{report_priority, called, opened_in, frame_left, release_taken, registered, released, termination, termination_asked, applied, is_full, waiting_of, most_waiting, takes_releases, is_sequencer, with_frame, asks_for_end, ceiling_entered}
 use Rattle.scj_model.specs.Sequencer.{innermost, area_opened, safelet_made, body_called, method_called, sequencer_op, after_operation, has_started, after_execution, phase_after, ClosesMission, EndsExecution, Transition, goes_to, seq_applied, transition, transition_done, after_initialize}
 use Rattle.scj_model.specs.Arrivals.{executes_since, due_handlers, fired_handler, fired, arrivals, fired_at, fires_due}
 use Rattle.scj_model.specs.Choice.{Policy}
-use Rattle.scj_model.specs.Run.{tell_turn, turn_taken, turn_acts, acts, next_unit, one_unit, empty_state, RunSoFar, has_ended, continued, one_more_unit, run, told_by, frame_op, effect_at, position_of_op, start_op, started_with, no_activity, release_op_of, sequencer_turn, ref_op, is_same_turn}
+use Rattle.scj_model.specs.Run.{report_turn, turn_taken, turn_acts, acts, next_unit, one_unit, empty_state, RunSoFar, has_ended, continued, one_more_unit, run, reported_by, frame_op, effect_at, position_of_op, start_op, started_with, no_activity, release_op_of, sequencer_turn, ref_op, is_same_turn}
 use Rattle.scj_model.specs.LastLine.{is_last_line, HasNoLastLine, EndsInLastLine}
 use Rattle.scj_model.specs.declared.events.Event.TheVariants.{Miss, Run as RunEvent}
 use Rattle.scj_model.specs.declared.plans.Fire.{Fire}
@@ -96,11 +96,11 @@ still s after h k = ap is_over k ∙ h
 abbrev quiet : (s : State) → is_over s.phase ≡ false → (r : Step) → Keeps s r.state → HasNoLastLine r.events → IsFine r
 quiet s h r k n = inl (record { goes_on = ap is_over k ∙ h; no_last = n })
 
-no_last_of : (s : State) (job : Job) (tell : Release → List Event) → ((r : Release) → HasNoLastLine (tell r)) → HasNoLastLine (of_release s job tell)
-no_last_of s TheSequencer tell h = refl
-no_last_of s (ReleaseAt index) tell h = go (slice_get s.releases index)
+no_last_of : (s : State) (job : Job) (report : Release → List Event) → ((r : Release) → HasNoLastLine (report r)) → HasNoLastLine (of_release s job report)
+no_last_of s TheSequencer report h = refl
+no_last_of s (ReleaseAt index) report h = go (slice_get s.releases index)
   where
-    go : (o : Option Release) → HasNoLastLine (elim o [ None ↦ [] | Some r ↦ tell r ])
+    go : (o : Option Release) → HasNoLastLine (elim o [ None ↦ [] | Some r ↦ report r ])
     go None = refl
     go (Some r) = h r
 
@@ -116,9 +116,9 @@ fine_fault s (ReleaseAt n) activity position fault h =
 
 -- ---- effects
 
-tells_no_last : (s : State) (job : Job) (before after : ℕ) → HasNoLastLine (tell_priority s job before after)
+reports_no_last : (s : State) (job : Job) (before after : ℕ) → HasNoLastLine (report_priority s job before after)
 unfolding is_last_line
-tells_no_last s job before after = go (before == after)
+reports_no_last s job before after = go (before == after)
   where
     go : (b : Bool) → HasNoLastLine (if b then [] else of_release s job (λ (r : Release). Prio s.unit r.handler after ∷ []))
     go true = refl
@@ -134,14 +134,14 @@ fine_option : {A : Type 0} (o : Option A) (x : Step) (f : A → Step) → IsFine
 fine_option None x f h k = h
 fine_option (Some a) x f h k = k a
 
-end_behind : (first second : Step) → HasNoLastLine first.events → IsEnd second → IsEnd (telling second.state (first.events ++ second.events))
+end_behind : (first second : Step) → HasNoLastLine first.events → IsEnd second → IsEnd (reporting second.state (first.events ++ second.events))
 end_behind first second n e =
     record { over = e.over; nothing_left = e.nothing_left; ends = ends_append first.events second.events n e.ends }
 
-quiet_behind : (first second : Step) → HasNoLastLine first.events → IsQuiet second → IsQuiet (telling second.state (first.events ++ second.events))
+quiet_behind : (first second : Step) → HasNoLastLine first.events → IsQuiet second → IsQuiet (reporting second.state (first.events ++ second.events))
 quiet_behind first second n q = record { goes_on = q.goes_on; no_last = any_append first.events second.events n q.no_last }
 
-fine_behind : (first second : Step) → HasNoLastLine first.events → IsFine second → IsFine (telling second.state (first.events ++ second.events))
+fine_behind : (first second : Step) → HasNoLastLine first.events → IsFine second → IsFine (reporting second.state (first.events ++ second.events))
 fine_behind first second n h =
     ⊎_elim (λ (q : IsQuiet second). inl (quiet_behind first second n q)) (λ (e : IsEnd second). inr (end_behind first second n e)) h
 
@@ -154,7 +154,7 @@ fine_called code s job activity frames position g h =
     (fine_option (ceiling_entered code s g) _ _
     (quiet s h _ (keeps_activity s job _) refl)
     (λ ceiling. fine_if (nat_lt ceiling activity.priority) _ _ (fine_fault s job activity position _ h)
-    (quiet s h _ (keeps_activity s job _) (tells_no_last s job activity.priority ceiling))))
+    (quiet s h _ (keeps_activity s job _) (reports_no_last s job activity.priority ceiling))))
 
 fine_opening : (s : State) (job : Job) (activity : Activity) (position : Position) (scope : ℕ) (parent : Option ℕ) (bytes : ℕ) (next : State → ℕ → Step) → is_over s.phase ≡ false → ((t : State) (a : ℕ) → is_over t.phase ≡ false → IsFine (next t a)) → IsFine (opening s job activity position scope parent bytes next)
 unfolding opening
@@ -181,8 +181,8 @@ fine_ended s (ReleaseAt index) activity value h = quiet s h _ refl (no_last_of s
 fine_left : (s : State) (job : Job) (activity : Activity) (f : Frame) (below : List Frame) (value : Option Value) → is_over s.phase ≡ false → IsFine (frame_left s job activity f below value)
 unfolding frame_left
 fine_left s job activity f below value h =
-    fine_behind (telling (closed s f.opened) (tell_priority s job activity.priority (unwrap_or f.saved activity.priority))) _
-    (tells_no_last s job activity.priority (unwrap_or f.saved activity.priority))
+    fine_behind (reporting (closed s f.opened) (report_priority s job activity.priority (unwrap_or f.saved activity.priority))) _
+    (reports_no_last s job activity.priority (unwrap_or f.saved activity.priority))
     (go _ below)
   where
     k : is_over (closed s f.opened).phase ≡ false
@@ -453,7 +453,7 @@ quiet_fired : (code : Code) (s : State) (fire : Fire) → is_over s.phase ≡ fa
 unfolding fired is_last_line
 quiet_fired code s fire h = go (fired_handler code s fire.handler)
   where
-    go : (o : Option ℕ) → IsQuiet (elim o [ Some handler ↦ release_taken s handler | None ↦ telling s (Miss s.unit fire.handler ∷ []) ])
+    go : (o : Option ℕ) → IsQuiet (elim o [ Some handler ↦ release_taken s handler | None ↦ reporting s (Miss s.unit fire.handler ∷ []) ])
     go None = record { goes_on = h; no_last = refl }
     go (Some handler) = quiet_taken s handler h
 
@@ -471,10 +471,10 @@ quiet_arrivals code plan s h =
     quiet_behind (for_each release_taken (due_handlers s) s) _ first.no_last
     (quiet_each (fired_at code plan.fires) (quiet_fired_at code plan.fires) (fires_due (executes_since s) s.unit plan.fires) (for_each release_taken (due_handlers s) s).state first.goes_on)
 
-tells_turn : (s : State) (turn : Turn) → HasNoLastLine (tell_turn s turn)
-unfolding tell_turn is_last_line
-tells_turn s IdleTurn = refl
-tells_turn s (TurnOf index) = go (slice_get s.releases index)
+reports_turn : (s : State) (turn : Turn) → HasNoLastLine (report_turn s turn)
+unfolding report_turn is_last_line
+reports_turn s IdleTurn = refl
+reports_turn s (TurnOf index) = go (slice_get s.releases index)
   where
     go : (o : Option Release) → HasNoLastLine (elim o [ None ↦ [] | Some r ↦ RunEvent s.unit r.handler r.number ∷ [] ])
     go None = refl
@@ -484,15 +484,15 @@ quiet_turn : (s : State) (turn : Turn) → is_over s.phase ≡ false → IsQuiet
 unfolding turn_taken
 quiet_turn s turn h = record { goes_on = h; no_last = go (holds s.last_choice (is_same_turn turn)) }
   where
-    go : (b : Bool) → HasNoLastLine (if b then [] else tell_turn s turn)
+    go : (b : Bool) → HasNoLastLine (if b then [] else report_turn s turn)
     go true = refl
-    go false = tells_turn s turn
+    go false = reports_turn s turn
 
 -- ---- a unit
 
-fine_told : (first : Step) (o : Option Step) → HasNoLastLine first.events → IsFineIf o → IsFineIf (option_map (λ (second : Step). telling second.state (first.events ++ second.events)) o)
-fine_told first None n h = fine_none
-fine_told first (Some second) n h = fine_some _ (fine_behind first second n (h.is second refl))
+fine_reported : (first : Step) (o : Option Step) → HasNoLastLine first.events → IsFineIf o → IsFineIf (option_map (λ (second : Step). reporting second.state (first.events ++ second.events)) o)
+fine_reported first None n h = fine_none
+fine_reported first (Some second) n h = fine_some _ (fine_behind first second n (h.is second refl))
 
 fine_turn_acts : (code : Code) (rows : List ReadingRow) (turn : Turn) (s : State) → is_over s.phase ≡ false → IsFineIf (turn_acts code rows turn s)
 unfolding turn_acts
@@ -503,7 +503,7 @@ fine_acts : (code : Code) (rows : List ReadingRow) (policy : Policy) (s : State)
 unfolding acts
 fine_acts code rows policy s h =
     fine_either (is_exec s.phase) _ _
-    (fine_bind (policy s) _ (λ turn. fine_told (turn_taken s turn) _ (quiet_turn s turn h).no_last
+    (fine_bind (policy s) _ (λ turn. fine_reported (turn_taken s turn) _ (quiet_turn s turn h).no_last
     (fine_turn_acts code rows turn (turn_taken s turn).state (quiet_turn s turn h).goes_on)))
     (fine_turn code rows s h)
 
@@ -514,13 +514,13 @@ fine_on (Some r) f h k = k r (h.is r refl)
 fine_follows : (code : Code) (r : Step) → IsFine r → IsFineIf (then_try r (phase_after code))
 fine_follows code r h =
     ⊎_elim
-    (λ (q : IsQuiet r). fine_told r (phase_after code r.state) q.no_last (fine_phase code r.state q.goes_on))
-    (λ (e : IsEnd r). subst (λ (o : Option Step). IsFineIf (option_map (λ (second : Step). telling second.state (r.events ++ second.events)) o))
+    (λ (q : IsQuiet r). fine_reported r (phase_after code r.state) q.no_last (fine_phase code r.state q.goes_on))
+    (λ (e : IsEnd r). subst (λ (o : Option Step). IsFineIf (option_map (λ (second : Step). reporting second.state (r.events ++ second.events)) o))
     (sym (nothing_follows code r.state e.over e.nothing_left))
     (fine_some _ (inr (record { over = e.over; nothing_left = e.nothing_left; ends = subst EndsInLastLine (sym (append-nil r.events)) e.ends }))))
     h
 
-fine_next : (r : Step) → IsFine r → IsFine (telling (next_unit r.state) r.events)
+fine_next : (r : Step) → IsFine r → IsFine (reporting (next_unit r.state) r.events)
 fine_next r h =
     ⊎_elim
     (λ (q : IsQuiet r). inl (record { goes_on = q.goes_on; no_last = q.no_last }))
@@ -532,7 +532,7 @@ unfolding one_unit
 fine_unit code plan policy s h =
     fine_on _ _
     (fine_on _ _
-    (fine_told (arrivals code plan s) _ (quiet_arrivals code plan s h).no_last
+    (fine_reported (arrivals code plan s) _ (quiet_arrivals code plan s h).no_last
     (fine_acts code plan.readings policy (arrivals code plan s).state (quiet_arrivals code plan s h).goes_on))
     (λ r q. fine_follows code r q))
     (λ r q. fine_some _ (fine_next r q))
@@ -548,40 +548,40 @@ pub record IsClosed (r : RunSoFar) : Type 0 where
   pub not_stuck : r.is_stuck ≡ false
   pub ends : EndsInLastLine r.events
 
-abbrev pub IsTold : RunSoFar → Type 0
-IsTold r = IsOpen r ⊎ IsClosed r
+abbrev pub IsReported : RunSoFar → Type 0
+IsReported r = IsOpen r ⊎ IsClosed r
 
-told_continued : (r : RunSoFar) (o : Option Step) → IsOpen r → IsFineIf o → IsTold (continued r o)
+reported_continued : (r : RunSoFar) (o : Option Step) → IsOpen r → IsFineIf o → IsReported (continued r o)
 unfolding continued
-told_continued r None p h = inl (record { goes_on = p.goes_on; no_last = p.no_last })
-told_continued r (Some result) p h =
+reported_continued r None p h = inl (record { goes_on = p.goes_on; no_last = p.no_last })
+reported_continued r (Some result) p h =
     ⊎_elim
     (λ (q : IsQuiet result). inl (record { goes_on = q.goes_on; no_last = any_append r.events result.events p.no_last q.no_last }))
     (λ (e : IsEnd result). inr (record { over = e.over; not_stuck = refl; ends = ends_append r.events result.events p.no_last e.ends }))
     (h.is result refl)
 
-told_if : (b : Bool) (r next : RunSoFar) → IsTold r → IsTold next → IsTold (if b then r else next)
-told_if true r next h k = h
-told_if false r next h k = k
+reported_if : (b : Bool) (r next : RunSoFar) → IsReported r → IsReported next → IsReported (if b then r else next)
+reported_if true r next h k = h
+reported_if false r next h k = k
 
-told_more : (code : Code) (plan : Plan) (policy : Policy) (r : RunSoFar) → IsTold r → IsTold (one_more_unit code plan policy r)
+reported_more : (code : Code) (plan : Plan) (policy : Policy) (r : RunSoFar) → IsReported r → IsReported (one_more_unit code plan policy r)
 unfolding one_more_unit
-told_more code plan policy r h =
+reported_more code plan policy r h =
     ⊎_elim
-    (λ (p : IsOpen r). told_if (has_ended r) r _ (inl p) (told_continued r _ p (fine_unit code plan policy r.state p.goes_on)))
-    (λ (c : IsClosed r). subst (λ (b : Bool). IsTold (if b then r else continued r (one_unit code plan policy r.state)))
+    (λ (p : IsOpen r). reported_if (has_ended r) r _ (inl p) (reported_continued r _ p (fine_unit code plan policy r.state p.goes_on)))
+    (λ (c : IsClosed r). subst (λ (b : Bool). IsReported (if b then r else continued r (one_unit code plan policy r.state)))
     (sym (ap (λ (b : Bool). b || r.is_stuck) c.over)) (inr c))
     h
 
-pub told_run : (code : Code) (plan : Plan) (policy : Policy) (n : ℕ) → IsTold (run code plan policy n)
+pub reported_run : (code : Code) (plan : Plan) (policy : Policy) (n : ℕ) → IsReported (run code plan policy n)
 unfolding run empty_state is_over
-told_run code plan policy zero = inl (record { goes_on = refl; no_last = refl })
-told_run code plan policy (suc n) = told_more code plan policy (run code plan policy n) (told_run code plan policy n)
+reported_run code plan policy zero = inl (record { goes_on = refl; no_last = refl })
+reported_run code plan policy (suc n) = reported_more code plan policy (run code plan policy n) (reported_run code plan policy n)
 
 -- ---- the trace
 
 -- a run that isn't stuck ends in one last line; a stuck one has none, unless it is over
-pub trace_ends : (n : ℕ) (r : RunSoFar) → IsTold r → r.is_stuck ≡ false → EndsInLastLine (told_by n r)
+pub trace_ends : (n : ℕ) (r : RunSoFar) → IsReported r → r.is_stuck ≡ false → EndsInLastLine (reported_by n r)
 unfolding is_last_line
 trace_ends n r h k =
     ⊎_elim
@@ -593,7 +593,7 @@ trace_ends n r h k =
     (subst EndsInLastLine (sym (append-nil r.events)) c.ends))
     h
 
-pub stuck_trace : (n : ℕ) (r : RunSoFar) → IsTold r → r.is_stuck ≡ true → HasNoLastLine (told_by n r)
+pub stuck_trace : (n : ℕ) (r : RunSoFar) → IsReported r → r.is_stuck ≡ true → HasNoLastLine (reported_by n r)
 stuck_trace n r h k =
     ⊎_elim
     (λ (p : IsOpen r). subst (λ (b : Bool). HasNoLastLine (r.events ++ (if b then [] else Stopped n ∷ [])))

@@ -8,7 +8,7 @@ use Rattle.scj_model.specs.declared.plans.ReadingRow.{ReadingRow}
 use Rattle.scj_model.specs.Code.{Code}
 use Rattle.scj_model.specs.Plan.{Plan}
 use Rattle.scj_model.specs.State.{TheSequencer, ReleaseAt, State, is_exec, is_over, Turn, IdleTurn, TurnOf}
-use Rattle.scj_model.specs.Steps.{Step, telling, then_try}
+use Rattle.scj_model.specs.Steps.{Step, reporting, then_try}
 use Rattle.scj_model.specs.Sequencer.{phase_after}
 use Rattle.scj_model.specs.Arrivals.{arrivals}
 use Rattle.scj_model.specs.Choice.{Policy, by_priority, may_act, by_list}
@@ -18,7 +18,7 @@ use Rattle.scj_model.specs.Safety.{job_may_act, IsSafeInAnyOrder}
 use Rattle.scj_model.proofs.Units.{arrivals_keep_unit, acts_keep_unit, phase_keeps_unit, ref_op_keeps_unit}
 use Rattle.scj_model.proofs.LastChoices.{as_chosen, ref_op_same}
 use Rattle.scj_model.proofs.LastLines.{quiet_arrivals}
-use Rattle.scj_model.proofs.Reaching.{Gives, gives_some, gives_told, gives_on, left_false, reached_run}
+use Rattle.scj_model.proofs.Reaching.{Gives, gives_some, gives_reported, gives_on, left_false, reached_run}
 use Rattle.scj_model.proofs.Following.{Names, IsAllowed, priority_turn, priority_allows, priority_is_fair, priority_named, list_is_fair, turn_named, IsListed, operated, fair_listed}
 
 -- ---- each job that may act can be named
@@ -29,10 +29,10 @@ both_true true false h = absurd (cc (h))
 both_true false b h = absurd (cc (h))
 
 -- the operation of a release, as the unit in which it is chosen does it
-chosen_op : (code : Code) (rows : List ReadingRow) (s : State) (index : ℕ) (step : Step) → ref_op code rows s (ReleaseAt index) ≡ Some step → then_try (turn_taken s (TurnOf index)) (turn_acts code rows (TurnOf index)) ≡ Some (telling (with_turn step.state (TurnOf index)) ((turn_taken s (TurnOf index)).events ++ step.events))
+chosen_op : (code : Code) (rows : List ReadingRow) (s : State) (index : ℕ) (step : Step) → ref_op code rows s (ReleaseAt index) ≡ Some step → then_try (turn_taken s (TurnOf index)) (turn_acts code rows (TurnOf index)) ≡ Some (reporting (with_turn step.state (TurnOf index)) ((turn_taken s (TurnOf index)).events ++ step.events))
 unfolding turn_taken turn_acts
 chosen_op code rows s index step e =
-    ap (λ (o : Option Step). option_map (λ (second : Step). telling second.state ((turn_taken s (TurnOf index)).events ++ second.events)) o)
+    ap (λ (o : Option Step). option_map (λ (second : Step). reporting second.state ((turn_taken s (TurnOf index)).events ++ second.events)) o)
     (ref_op_same (TurnOf index) code rows s index ∙ ap (λ (o : Option Step). option_map (as_chosen (TurnOf index)) o) e)
 
 pub release_named : (code : Code) (plan : Plan) (choices : List ℕ) (s : State) (index : ℕ) (step : Step) → Reached code plan (by_list choices) Arrived s → job_may_act s (ReleaseAt index) ≡ true → ref_op code plan.readings s (ReleaseAt index) ≡ Some step → IsListed code plan Operated (with_turn step.state (TurnOf index))
@@ -40,7 +40,7 @@ unfolding job_may_act
 release_named code plan choices s index step h m e =
     let l : IsListed code plan Arrived s = fair_listed code plan (by_list choices) (list_is_fair choices) h in
     let b : (is_exec s.phase ≡ true) × (may_act s index ≡ true) = both_true (is_exec s.phase) (may_act s index) m in
-    operated code plan s l (telling (with_turn step.state (TurnOf index)) ((turn_taken s (TurnOf index)).events ++ step.events))
+    operated code plan s l (reporting (with_turn step.state (TurnOf index)) ((turn_taken s (TurnOf index)).events ++ step.events))
     ((ref_op_keeps_unit code plan.readings s (ReleaseAt index)).is step e)
     (subst (λ (o : Option Step). Names code plan.readings s l.choices o) (chosen_op code plan.readings s index step e)
     (turn_named code plan.readings s (TurnOf index) b.1 b.0 l.choices l.counted))
@@ -66,17 +66,17 @@ unfolding one_unit
 unit_follows code plan policy s =
     gives_on (λ t. t.unit ≡ s.unit) (λ t. t.unit ≡ s.unit + 1) _ _
     (gives_on (λ t. t.unit ≡ s.unit) (λ t. t.unit ≡ s.unit) _ _
-    (gives_told (λ t. t.unit ≡ s.unit) (arrivals code plan s) _
+    (gives_reported (λ t. t.unit ≡ s.unit) (arrivals code plan s) _
     (λ step k. (acts_keep_unit code plan.readings policy (arrivals code plan s).state).is step k ∙ arrivals_keep_unit code plan s))
-    (λ r q. gives_told (λ t. t.unit ≡ s.unit) r (phase_after code r.state) (λ step k. (phase_keeps_unit code r.state).is step k ∙ q)))
+    (λ r q. gives_reported (λ t. t.unit ≡ s.unit) r (phase_after code r.state) (λ step k. (phase_keeps_unit code r.state).is step k ∙ q)))
     (λ r q. gives_some (λ t. t.unit ≡ s.unit + 1) _ (ap (λ (k : ℕ). k + 1) q))
 
 unit_same : (code : Code) (plan : Plan) (p q : Policy) (s : State) → acts code plan.readings p (arrivals code plan s).state ≡ acts code plan.readings q (arrivals code plan s).state → one_unit code plan p s ≡ one_unit code plan q s
 unfolding one_unit
 unit_same code plan p q s e =
-    ap (λ (o : Option Step). option_map (λ (second : Step). telling second.state ((arrivals code plan s).events ++ second.events)) o
+    ap (λ (o : Option Step). option_map (λ (second : Step). reporting second.state ((arrivals code plan s).events ++ second.events)) o
     >>= (λ result. then_try result (phase_after code))
-    >>= (λ result. Some (telling (next_unit result.state) result.events))) e
+    >>= (λ result. Some (reporting (next_unit result.state) result.events))) e
 
 -- the list has a choice for each unit that the run has spent, and none for later ones, unless the run has ended
 pub record IsListedRun (code : Code) (plan : Plan) (n : ℕ) : Type 0 where
@@ -157,10 +157,10 @@ run_by_some_list code plan n =
 record IsThere (o : Option Step) : Type 0 where
   is : is_some o ≡ true
 
-there_told : (first : Step) (next : State → Option Step) → is_some (next first.state) ≡ true → is_some (then_try first next) ≡ true
-there_told first next h = go (next first.state) h
+there_reported : (first : Step) (next : State → Option Step) → is_some (next first.state) ≡ true → is_some (then_try first next) ≡ true
+there_reported first next h = go (next first.state) h
   where
-    go : (o : Option Step) → is_some o ≡ true → is_some (option_map (λ (second : Step). telling second.state (first.events ++ second.events)) o) ≡ true
+    go : (o : Option Step) → is_some o ≡ true → is_some (option_map (λ (second : Step). reporting second.state (first.events ++ second.events)) o) ≡ true
     go None x = x
     go (Some step) x = refl
 
@@ -177,7 +177,7 @@ turn_goes_on : (code : Code) (rows : List ReadingRow) (s : State) (turn : Turn) 
 unfolding turn_acts turn_taken
 turn_goes_on code rows s IdleTurn a h = refl
 turn_goes_on code rows s (TurnOf index) a h =
-    there_told (turn_taken s (TurnOf index)) (turn_acts code rows (TurnOf index))
+    there_reported (turn_taken s (TurnOf index)) (turn_acts code rows (TurnOf index))
     (ap is_some (ref_op_same (TurnOf index) code rows s index) ∙ there_chosen (TurnOf index) (ref_op code rows s (ReleaseAt index)) (h index a))
 
 acts_go_on : (code : Code) (plan : Plan) → IsSafeInAnyOrder code → (s : State) → Reached code plan by_priority Arrived s → is_over s.phase ≡ false → is_some (acts code plan.readings by_priority s) ≡ true
@@ -203,8 +203,8 @@ unfolding one_unit
 unit_goes_on code plan safe s h n =
     there_on _ _
     (there_on _ _
-    (there_told (arrivals code plan s) (acts code plan.readings by_priority) (acts_go_on code plan safe a ha (quiet_arrivals code plan s n).goes_on))
-    (λ r k. there_told r (phase_after code) (follows r k)))
+    (there_reported (arrivals code plan s) (acts code plan.readings by_priority) (acts_go_on code plan safe a ha (quiet_arrivals code plan s n).goes_on))
+    (λ r k. there_reported r (phase_after code) (follows r k)))
     (λ r k. refl)
   where
     a : State
@@ -214,7 +214,7 @@ unit_goes_on code plan safe s h n =
     ha = on_arrival s h n
 
     operated_state : Gives (Reached code plan by_priority Operated) (then_try (arrivals code plan s) (acts code plan.readings by_priority))
-    operated_state = gives_told (Reached code plan by_priority Operated) (arrivals code plan s) _ (λ step k. on_operation a step ha k)
+    operated_state = gives_reported (Reached code plan by_priority Operated) (arrivals code plan s) _ (λ step k. on_operation a step ha k)
 
     follows : (r : Step) → then_try (arrivals code plan s) (acts code plan.readings by_priority) ≡ Some r → is_some (phase_after code r.state) ≡ true
     follows r k =

@@ -19,9 +19,9 @@ use Rattle.scj_model.specs.Plan.{Plan}
 use Rattle.scj_model.specs.State.{Frame, Activity, ReleaseStatus, Waits, Started, Ended, Dropped, Release, TheSequencer, ReleaseAt, State, with_activity, is_started, object_at, is_init, is_exec, Turn, IdleTurn, TurnOf}
 use Rattle.scj_model.specs.Registry.{most_handlers, handler_number, handler_row}
 use Rattle.scj_model.specs.Memory.{closed, has_room, has_store_for, area_with_scope, new_slots, with_area, with_object}
-use Rattle.scj_model.specs.Steps.{Step, silently, telling, for_each, closed_all, job_ended, fault_in, then_try, allocating, opening}
+use Rattle.scj_model.specs.Steps.{Step, silently, reporting, for_each, closed_all, job_ended, fault_in, then_try, allocating, opening}
 use Rattle.scj_model.specs.Effects.{Effect, Goes, Prints, Makes, Stores, StoresStatic, SetsHidden, SetsCeiling, Calls, Opens, Leaves, AsksRegistration, AsksRelease, AsksTermination, Faults, Stuck}
-use Rattle.scj_model.specs.Apply.{is_full, called, opened_in, returned, frame_left, waiting_of, most_waiting, takes_releases, release_taken, registered, released, termination, termination_asked, with_frame, applied, dropped_release, tell_dropped, asks_for_end, ceiling_entered}
+use Rattle.scj_model.specs.Apply.{is_full, called, opened_in, returned, frame_left, waiting_of, most_waiting, takes_releases, release_taken, registered, released, termination, termination_asked, with_frame, applied, dropped_release, report_dropped, asks_for_end, ceiling_entered}
 use Rattle.scj_model.specs.Sequencer.{innermost, area_opened, safelet_made, body_called, method_called, sequencer_op, after_operation, has_started, after_execution, phase_after, BeginsExecution, BeginsMission, ClosesMission, Continues, EndsExecution, LacksMission, LacksSequencer, SeqEffect, SkipsExecution, TakesMission, TakesSafelet, TakesSequencer, Transition, goes_to, gone_to, seq_applied, transition_done}
 use Rattle.scj_model.specs.Arrivals.{executes_since, due_handlers, fired_handler, fired, arrivals, fired_at, fires_due}
 use Rattle.scj_model.specs.Choice.{Policy}
@@ -304,7 +304,7 @@ acted_asked : (s t : State) (r : ℕ) → IsActed s t → is_exec t.phase ≡ fa
 unfolding termination_asked termination
 acted_asked s t r a h =
     acted_if s (asks_for_end t.mission t.phase t.is_end_asked r) _ _
-    (subst (λ (b : Bool). Acted s (if b then telling (record t { is_end_asked = true; releases = map dropped_release t.releases }) (Terminate t.unit ∷ tell_dropped t) else silently (record t { is_end_asked = true }))) (sym h)
+    (subst (λ (b : Bool). Acted s (if b then reporting (record t { is_end_asked = true; releases = map dropped_release t.releases }) (Terminate t.unit ∷ report_dropped t) else silently (record t { is_end_asked = true }))) (sym h)
     (record { started_same = a.started_same; outside = a.outside; frameless = a.frameless }))
     a
 
@@ -522,7 +522,7 @@ orderly_fired : (code : Code) (s : State) (fire : Fire) → IsOrderly s → IsOr
 unfolding fired
 orderly_fired code s fire o = go (fired_handler code s fire.handler)
   where
-    go : (h : Option ℕ) → IsOrderly (elim h as (λ x. Step) [ Some handler ↦ release_taken s handler | None ↦ telling s (Miss s.unit fire.handler ∷ []) ]).state
+    go : (h : Option ℕ) → IsOrderly (elim h as (λ x. Step) [ Some handler ↦ release_taken s handler | None ↦ reporting s (Miss s.unit fire.handler ∷ []) ]).state
     go None = o
     go (Some handler) = orderly_taken s handler o
 
@@ -567,9 +567,9 @@ ready_acted : (s after : State) → has_started s ≡ false → IsActed s after 
 ready_acted s after k a =
     record { inside = λ x. absurd (cc (x, a.outside)); quiet = λ x. a.started_same ∙ k; done = λ x. a.frameless }
 
-ready_told : (first : Step) (o : Option Step) → ReadyIf o → ReadyIf (option_map (λ (second : Step). telling second.state (first.events ++ second.events)) o)
-ready_told first None h = ready_none
-ready_told first (Some second) h = ready_some _ (h.is second refl)
+ready_reported : (first : Step) (o : Option Step) → ReadyIf o → ReadyIf (option_map (λ (second : Step). reporting second.state (first.events ++ second.events)) o)
+ready_reported first None h = ready_none
+ready_reported first (Some second) h = ready_some _ (h.is second refl)
 
 ready_from_aside : (u : State) (o : Option Step) → is_exec u.phase ≡ true → u.activity.frames ≡ [] → u.outcome ≡ None → AsideIf u o → ReadyIf o
 ready_from_aside u o h f n a = record { is = λ r e. ready_aside u r.state h f n (a.is r e) }
@@ -589,7 +589,7 @@ aside_turn code rows (TurnOf index) u = aside_ref_op code rows u index
 ready_turn : (code : Code) (rows : List ReadingRow) (s : State) (turn : Turn) → IsOrderly s → is_exec s.phase ≡ true → ReadyIf (then_try (turn_taken s turn) (turn_acts code rows turn))
 unfolding turn_taken
 ready_turn code rows s turn o h =
-    ready_told (turn_taken s turn) (turn_acts code rows turn (turn_taken s turn).state)
+    ready_reported (turn_taken s turn) (turn_acts code rows turn (turn_taken s turn).state)
     (ready_from_aside (turn_taken s turn).state _ h (o.inside h) o.followed (aside_turn code rows turn (turn_taken s turn).state))
 
 ready_acts : (code : Code) (rows : List ReadingRow) (policy : Policy) (s : State) → IsOrderly s → ReadyIf (acts code rows policy s)
@@ -600,9 +600,9 @@ ready_acts code rows policy s o = go (is_exec s.phase) refl
     go true h = ready_bind (policy s) _ (λ turn. ready_turn code rows s turn o h)
     go false h = ready_from_acted s _ (o.outside h) (acted_turn code rows s h o.followed)
 
-orderly_told : (first : Step) (o : Option Step) → OrderlyIf o → OrderlyIf (option_map (λ (second : Step). telling second.state (first.events ++ second.events)) o)
-orderly_told first None h = orderly_none
-orderly_told first (Some second) h = orderly_some _ (h.is second refl)
+orderly_reported : (first : Step) (o : Option Step) → OrderlyIf o → OrderlyIf (option_map (λ (second : Step). reporting second.state (first.events ++ second.events)) o)
+orderly_reported first None h = orderly_none
+orderly_reported first (Some second) h = orderly_some _ (h.is second refl)
 
 ready_on : (o : Option Step) (f : Step → Option Step) → ReadyIf o → ((r : Step) → IsReady r.state → OrderlyIf (f r)) → OrderlyIf (o >>= f)
 ready_on None f h k = orderly_none
@@ -617,8 +617,8 @@ unfolding one_unit
 orderly_unit code plan policy s o =
     orderly_on _ _
     (ready_on _ _
-    (ready_told (arrivals code plan s) _ (ready_acts code plan.readings policy (arrivals code plan s).state (orderly_arrivals code plan s o)))
-    (λ r q. orderly_told r (phase_after code r.state) (orderly_phase code r.state q.inside q.quiet q.done)))
+    (ready_reported (arrivals code plan s) _ (ready_acts code plan.readings policy (arrivals code plan s).state (orderly_arrivals code plan s o)))
+    (λ r q. orderly_reported r (phase_after code r.state) (orderly_phase code r.state q.inside q.quiet q.done)))
     (λ r q. orderly_some _ (record { outside = q.outside; inside = q.inside; followed = q.followed }))
 
 orderly_continued : (r : RunSoFar) (o : Option Step) → IsOrderly r.state → OrderlyIf o → IsOrderly (continued r o).state

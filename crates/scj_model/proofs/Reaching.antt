@@ -5,7 +5,7 @@ use Rattle.scj_rules.specs.Words.{◌>>=◌}
 use Rattle.scj_model.specs.Code.{Code}
 use Rattle.scj_model.specs.Plan.{Plan}
 use Rattle.scj_model.specs.State.{State, is_over}
-use Rattle.scj_model.specs.Steps.{Step, telling}
+use Rattle.scj_model.specs.Steps.{Step, reporting}
 use Rattle.scj_model.specs.Sequencer.{phase_after}
 use Rattle.scj_model.specs.Arrivals.{arrivals}
 use Rattle.scj_model.specs.Choice.{Policy}
@@ -41,9 +41,9 @@ gives_none P = record { is = λ r e. absurd (cc (e)) }
 pub gives_some : (P : State → Type 0) (r : Step) → P r.state → Gives P (Some r)
 gives_some P r h = record { is = λ q e. subst (λ (x : Step). P x.state) (some_same r q e) h }
 
-pub gives_told : (P : State → Type 0) (first : Step) (o : Option Step) → ((second : Step) → o ≡ Some second → P second.state) → Gives P (option_map (λ (second : Step). telling second.state (first.events ++ second.events)) o)
-gives_told P first None h = gives_none P
-gives_told P first (Some second) h = gives_some P _ (h second refl)
+pub gives_reported : (P : State → Type 0) (first : Step) (o : Option Step) → ((second : Step) → o ≡ Some second → P second.state) → Gives P (option_map (λ (second : Step). reporting second.state (first.events ++ second.events)) o)
+gives_reported P first None h = gives_none P
+gives_reported P first (Some second) h = gives_some P _ (h second refl)
 
 pub gives_on : (P Q : State → Type 0) (o : Option Step) (f : Step → Option Step) → Gives P o → ((r : Step) → P r.state → Gives Q (f r)) → Gives Q (o >>= f)
 gives_on P Q None f h k = gives_none Q
@@ -54,9 +54,9 @@ unfolding one_unit
 reached_unit code plan policy s h e =
     gives_on (λ t. Reached code plan policy Between (next_unit t)) (Reached code plan policy Between) _ _
     (gives_on (Reached code plan policy Operated) (λ t. Reached code plan policy Between (next_unit t)) _ _
-    (gives_told (Reached code plan policy Operated) (arrivals code plan s) _
+    (gives_reported (Reached code plan policy Operated) (arrivals code plan s) _
     (λ step k. on_operation (arrivals code plan s).state step (on_arrival s h e) k))
-    (λ r q. gives_told (λ t. Reached code plan policy Between (next_unit t)) r (phase_after code r.state)
+    (λ r q. gives_reported (λ t. Reached code plan policy Between (next_unit t)) r (phase_after code r.state)
     (λ step k. on_phase r.state step q k)))
     (λ r q. gives_some (Reached code plan policy Between) _ q)
 

@@ -15,7 +15,7 @@ use Rattle.scj_model.specs.Code.{Code, code_of}
 use Rattle.scj_model.specs.Plan.{Plan}
 use Rattle.scj_model.specs.State.{MemoryArea, Object, Release, Ended, State, IdleTurn}
 use Rattle.scj_model.specs.Choice.{by_priority}
-use Rattle.scj_model.specs.Run.{RunSoFar, run, trace, told_by}
+use Rattle.scj_model.specs.Run.{RunSoFar, run, trace, reported_by}
 use Rattle.scj_model.specs.TraceText.{text}
 use Rattle.scj_model.proofs.Computing.{computing_machine}
 use Rattle.scj_model.proofs.IdleUnits.{IsIdle, nothing_due, more_units, run_more, idle_units}
@@ -295,9 +295,9 @@ whole_run =
     fourth_piece)
     (idle_for 871 4129 95 fourth_boxes fourth_areas fourth_releases fourth_events fourth_idle fourth_gap)
 
-told :
+reported :
     text ordinary_use.nodes (codes "B.java" ∷ codes "P.java" ∷ [])
-    (told_by 5000 (so_far (idle_at 5000 95 fourth_boxes fourth_areas fourth_releases) fourth_events))
+    (reported_by 5000 (so_far (idle_at 5000 95 fourth_boxes fourth_areas fourth_releases) fourth_events))
     ≡ codes "30 mission Main\n51 register 1 Alarm 18\n72 register 2 Sensor 12\n89 register 3 Pump 10\n90 exec\n"
     ++ codes "91 arrive 2 1\n91 run 2 1\n96 arrive 3 1\n105 prio 2 20\n109 prio 2 12\n115 end 2 1\n116 run 3 1\n"
     ++ codes "119 prio 3 20\n122 prio 3 10\n123 print pump 50\n124 end 3 1\n125 idle\n"
@@ -307,7 +307,7 @@ told :
     ++ codes "4118 run 1 1\n4121 prio 1 20\n4124 prio 1 18\n4125 print alarm 95\n4126 end 1 1\n4127 run 2 3\n"
     ++ codes "4127 end 2 3\n4128 idle\n5000 stopped\n"
 unfolding computing_machine
-told = refl
+reported = refl
 
 pub controller_runs :
     printed ordinary_use (codes "B.java" ∷ codes "P.java" ∷ []) rising_level
@@ -321,4 +321,4 @@ pub controller_runs :
     ++ codes "4127 end 2 3\n4128 idle\n5000 stopped\n"
 unfolding trace controller
 controller_runs =
-    ap (λ (r : RunSoFar). text ordinary_use.nodes (codes "B.java" ∷ codes "P.java" ∷ []) (told_by 5000 r)) whole_run ∙ told
+    ap (λ (r : RunSoFar). text ordinary_use.nodes (codes "B.java" ∷ codes "P.java" ∷ []) (reported_by 5000 r)) whole_run ∙ reported

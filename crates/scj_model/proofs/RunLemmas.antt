@@ -11,17 +11,17 @@ use Rattle.scj_model.specs.declared.handlers.HandlerRow.{HandlerRow}
 use Rattle.scj_model.specs.Code.{Code}
 use Rattle.scj_model.specs.Plan.{Plan}
 use Rattle.scj_model.specs.State.{State}
-use Rattle.scj_model.specs.Steps.{Step, telling}
+use Rattle.scj_model.specs.Steps.{Step, reporting}
 use Rattle.scj_model.specs.Arrivals.{is_due, is_due_after}
 use Rattle.scj_model.specs.Choice.{Policy}
 use Rattle.scj_model.specs.Run.{RunSoFar, has_ended, continued, one_more_unit, one_unit, run}
 
 -- ---- one result
 
-pub one_of : (o : Option Step) (a b : State) (es fs : List Event) → o ≡ Some (telling a es) → o ≡ Some (telling b fs) → (a ≡ b) × (es ≡ fs)
+pub one_of : (o : Option Step) (a b : State) (es fs : List Event) → o ≡ Some (reporting a es) → o ≡ Some (reporting b fs) → (a ≡ b) × (es ≡ fs)
 one_of o a b es fs h k =
-    let e : Some (telling a es) ≡ Some (telling b fs) = sym h ∙ k in
-    (ap (λ (r : Option Step). (unwrap_or r (telling a es)).state) e, ap (λ (r : Option Step). (unwrap_or r (telling a es)).events) e)
+    let e : Some (reporting a es) ≡ Some (reporting b fs) = sym h ∙ k in
+    (ap (λ (r : Option Step). (unwrap_or r (reporting a es)).state) e, ap (λ (r : Option Step). (unwrap_or r (reporting a es)).events) e)
 
 -- ---- more units tell more
 

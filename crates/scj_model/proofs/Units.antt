@@ -20,7 +20,7 @@ use Rattle.scj_model.specs.Plan.{Plan}
 use Rattle.scj_model.specs.State.{Frame, Activity, ReleaseStatus, Waits, Started, Ended, Dropped, Release, Job, TheSequencer, ReleaseAt, State, with_activity, object_at, is_init, is_exec, Turn, IdleTurn, TurnOf}
 use Rattle.scj_model.specs.Registry.{most_handlers, handler_number, handler_row}
 use Rattle.scj_model.specs.Memory.{closed, has_room, has_store_for, area_with_scope, new_slots, with_area, with_object}
-use Rattle.scj_model.specs.Steps.{Step, silently, telling, for_each, closed_all, job_ended, fault_in, then_try, allocating, opening}
+use Rattle.scj_model.specs.Steps.{Step, silently, reporting, for_each, closed_all, job_ended, fault_in, then_try, allocating, opening}
 use Rattle.scj_model.specs.Effects.{Effect, Goes, Prints, Makes, Stores, StoresStatic, SetsHidden, SetsCeiling, Calls, Opens, Leaves, AsksRegistration, AsksRelease, AsksTermination, Faults, Stuck}
 use Rattle.scj_model.specs.Apply.{is_full, called, opened_in, frame_left, waiting_of, most_waiting, takes_releases, release_taken, registered, released, termination, termination_asked, with_frame, applied, asks_for_end, ceiling_entered, is_sequencer}
 use Rattle.scj_model.specs.Sequencer.{innermost, area_opened, safelet_made, body_called, method_called, sequencer_op, after_operation, has_started, phase_after, BeginsExecution, BeginsMission, ClosesMission, Continues, EndsExecution, LacksMission, LacksSequencer, SeqEffect, SkipsExecution, TakesMission, TakesSafelet, TakesSequencer, Transition, goes_to, gone_to, seq_applied, transition_done}
@@ -250,9 +250,9 @@ ref_op_keeps_unit code rows s (ReleaseAt n) = keeps_bind s (slice_get s.releases
 
 -- ---- the three parts of a unit
 
-keeps_told : (s : State) (first : Step) (o : Option Step) → KeepsUnitIf s o → KeepsUnitIf s (option_map (λ (second : Step). telling second.state (first.events ++ second.events)) o)
-keeps_told s first None h = keeps_none s
-keeps_told s first (Some second) h = keeps_some s _ (h.is second refl)
+keeps_reported : (s : State) (first : Step) (o : Option Step) → KeepsUnitIf s o → KeepsUnitIf s (option_map (λ (second : Step). reporting second.state (first.events ++ second.events)) o)
+keeps_reported s first None h = keeps_none s
+keeps_reported s first (Some second) h = keeps_some s _ (h.is second refl)
 
 keeps_turn_acts : (code : Code) (rows : List ReadingRow) (turn : Turn) (s : State) → KeepsUnitIf s (turn_acts code rows turn s)
 unfolding turn_acts
@@ -262,7 +262,7 @@ keeps_turn_acts code rows (TurnOf index) s = ref_op_keeps_unit code rows s (Rele
 keeps_chosen : (code : Code) (rows : List ReadingRow) (s : State) (turn : Turn) → KeepsUnitIf s (then_try (turn_taken s turn) (turn_acts code rows turn))
 unfolding turn_taken
 keeps_chosen code rows s turn =
-    keeps_told s (turn_taken s turn) _ (record { is = λ r e. (keeps_turn_acts code rows turn (turn_taken s turn).state).is r e })
+    keeps_reported s (turn_taken s turn) _ (record { is = λ r e. (keeps_turn_acts code rows turn (turn_taken s turn).state).is r e })
 
 pub acts_keep_unit : (code : Code) (rows : List ReadingRow) (policy : Policy) (s : State) → KeepsUnitIf s (acts code rows policy s)
 unfolding acts
@@ -308,7 +308,7 @@ keeps_fired : (code : Code) (s : State) (fire : Fire) → KeepsUnit s (fired cod
 unfolding fired
 keeps_fired code s fire = go (fired_handler code s fire.handler)
   where
-    go : (h : Option ℕ) → KeepsUnit s (elim h as (λ x. Step) [ Some handler ↦ release_taken s handler | None ↦ telling s (Miss s.unit fire.handler ∷ []) ])
+    go : (h : Option ℕ) → KeepsUnit s (elim h as (λ x. Step) [ Some handler ↦ release_taken s handler | None ↦ reporting s (Miss s.unit fire.handler ∷ []) ])
     go None = refl
     go (Some handler) = keeps_taken s handler
 

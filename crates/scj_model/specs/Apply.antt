@@ -14,7 +14,7 @@ use Rattle.scj_model.specs.Code.{Code}
 use Rattle.scj_model.specs.State.{Object, Frame, Activity, Waits, Dropped, Release, Job, TheSequencer, ReleaseAt, State, changed, is_waiting, with_activity, object_at, is_exec, is_init}
 use Rattle.scj_model.specs.Registry.{handler_number, most_handlers, new_row}
 use Rattle.scj_model.specs.Memory.{with_slot, closed, area_with_scope}
-use Rattle.scj_model.specs.Steps.{Step, allocating, fault_in, job_ended, of_release, opening, silently, telling, then_do}
+use Rattle.scj_model.specs.Steps.{Step, allocating, fault_in, job_ended, of_release, opening, silently, reporting, then_do}
 use Rattle.scj_model.specs.Effects.{Effect, Goes, Prints, Makes, Stores, StoresStatic, SetsHidden, SetsCeiling, Calls, Opens, Leaves, AsksRegistration, AsksRelease, AsksTermination, Faults, Stuck, monitor_of}
 
 -- the name of a class, and that of an object's
@@ -27,8 +27,8 @@ class_name_at code s r = elim (object_at s r) [ None ↦ [] | Some o ↦ class_n
 -- ---- calls and leaving
 
 -- the active priority of a release is another one than before
-abbrev pub tell_priority : State → Job → ℕ → ℕ → List Event
-tell_priority s job before after =
+abbrev pub report_priority : State → Job → ℕ → ℕ → List Event
+report_priority s job before after =
     if before == after then [] else of_release s job (λ r. Prio s.unit r.handler after ∷ [])
 
 abbrev pub most_frames : ℕ
@@ -49,12 +49,12 @@ called code s job activity frames position g =
       | None ↦ silently (with_activity s job (record activity { frames = g ∷ frames }))
       | Some ceiling ↦
           if nat_lt ceiling activity.priority then fault_in s job activity position CeilingViolation
-          else telling
+          else reporting
           (with_activity s job (record activity {
             frames = record g { saved = Some activity.priority } ∷ frames;
             priority = ceiling;
           }))
-          (tell_priority s job activity.priority ceiling)
+          (report_priority s job activity.priority ceiling)
     ])
 
 -- a call in a new area inside the caller's
@@ -84,7 +84,7 @@ frame_left s job activity f below value =
     let priority = unwrap_or f.saved activity.priority in
     let areas = without f.opened activity.areas in
     let after = record activity { frames = returned value below; areas = areas; priority = priority } in
-    then_do (telling (closed s f.opened) (tell_priority s job activity.priority priority)) (λ s. elim below [
+    then_do (reporting (closed s f.opened) (report_priority s job activity.priority priority)) (λ s. elim below [
       | [] ↦ job_ended s job after value
       | g ∷ gs ↦ silently (with_activity s job after)
     ])
@@ -108,10 +108,10 @@ waiting_of s handler = filter (λ (r : Release). is_waiting r.status) (releases_
 -- one more release of a handler waits, unless as many wait as may
 unfoldable pub release_taken : State → ℕ → Step
 release_taken s handler =
-    if not (nat_lt (length (waiting_of s handler)) most_waiting) then telling s (Lost s.unit handler ∷ [])
+    if not (nat_lt (length (waiting_of s handler)) most_waiting) then reporting s (Lost s.unit handler ∷ [])
     else (let number = length (releases_of s handler) + 1 in
     let taken : Release = record { handler = handler; number = number; status = Waits } in
-    telling (record s { releases = s.releases ++ taken ∷ [] }) (Arrive s.unit handler number ∷ []))
+    reporting (record s { releases = s.releases ++ taken ∷ [] }) (Arrive s.unit handler number ∷ []))
 
 -- a handler is registered during the mission's initialisation, and once
 unfoldable pub registered : Code → State → Job → Activity → Position → ℕ → Object → State → Step
@@ -120,7 +120,7 @@ registered code s job activity position r o after =
     else (if is_some (handler_number s.registry r) then silently after
     else (if not (nat_lt (length s.registry) most_handlers) then fault_in s job activity position TooManyHandlers
     else (let row = new_row code.program r o in
-    telling (record after { registry = after.registry ++ row ∷ [] })
+    reporting (record after { registry = after.registry ++ row ∷ [] })
     (Register s.unit (length s.registry + 1) (class_name code o.class) row.priority ∷ []))))
 
 -- `release` has an effect on a registered handler alone
@@ -134,8 +134,8 @@ released s r =
 unfoldable pub dropped_release : Release → Release
 dropped_release r = if is_waiting r.status then record r { status = Dropped } else r
 
-abbrev pub tell_dropped : State → List Event
-tell_dropped s =
+abbrev pub report_dropped : State → List Event
+report_dropped s =
     map (λ (r : Release). Drop s.unit r.handler r.number) (filter (λ (r : Release). is_waiting r.status) s.releases)
 
 -- `requestTermination` has an effect on the current mission alone, in its initialisation and its execution, and once
@@ -147,8 +147,8 @@ asks_for_end mission phase is_end_asked r =
 unfoldable pub termination : State → Step
 termination s =
     if is_exec s.phase
-    then telling (record s { is_end_asked = true; releases = map dropped_release s.releases })
-    (Terminate s.unit ∷ tell_dropped s)
+    then reporting (record s { is_end_asked = true; releases = map dropped_release s.releases })
+    (Terminate s.unit ∷ report_dropped s)
     else silently (record s { is_end_asked = true })
 
 unfoldable pub termination_asked : State → ℕ → Step
@@ -173,7 +173,7 @@ with_frame s job activity f below = with_activity s job (record activity { frame
 unfoldable pub applied : Code → State → Job → Activity → List Frame → Position → Effect → Option Step
 applied code s job activity below position (Goes f) = Some (silently (with_frame s job activity f below))
 applied code s job activity below position (Prints f label value) =
-    Some (telling (with_frame s job activity f below) (Print s.unit label value ∷ []))
+    Some (reporting (with_frame s job activity f below) (Print s.unit label value ∷ []))
 applied code s job activity below position (Makes f class slots) =
     Some (allocating s job activity position class f.area slots (λ s r.
     silently (with_frame s job activity (record f { operands = At r ∷ f.operands }) below)))

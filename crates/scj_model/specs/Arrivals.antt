@@ -14,7 +14,7 @@ use Rattle.scj_model.specs.Code.{Code}
 use Rattle.scj_model.specs.Plan.{Plan}
 use Rattle.scj_model.specs.State.{State, is_exec}
 use Rattle.scj_model.specs.Registry.{aperiodic_of}
-use Rattle.scj_model.specs.Steps.{Step, telling, then_do, for_each, silently}
+use Rattle.scj_model.specs.Steps.{Step, reporting, then_do, for_each, silently}
 use Rattle.scj_model.specs.Apply.{takes_releases, release_taken}
 
 -- a handler of the kind, whose first unit this is, is due: a periodic one in that unit and after each period, a one-shot
@@ -66,7 +66,7 @@ unfoldable pub fired : Code → State → Fire → Step
 fired code s fire =
     elim (fired_handler code s fire.handler) [
       | Some handler ↦ release_taken s handler
-      | None ↦ telling s (Miss s.unit fire.handler ∷ [])
+      | None ↦ reporting s (Miss s.unit fire.handler ∷ [])
     ]
 
 -- the fire at this place of the plan

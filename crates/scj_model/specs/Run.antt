@@ -24,7 +24,7 @@ use Rattle.scj_model.specs.Plan.{Plan}
 use Rattle.scj_model.specs.State.{Frame, Activity, Waits, Started, Ended, Dropped, Release, Job, TheSequencer, ReleaseAt, State, with_activity, object_at, is_exec, Turn, IdleTurn, TurnOf, is_over}
 use Rattle.scj_model.specs.Registry.{handler_row}
 use Rattle.scj_model.specs.Memory.{literal_value, default_value}
-use Rattle.scj_model.specs.Steps.{Step, silently, telling, opening, then_try}
+use Rattle.scj_model.specs.Steps.{Step, silently, reporting, opening, then_try}
 use Rattle.scj_model.specs.Ops.{node_of}
 use Rattle.scj_model.specs.Effects.{Effect, new_frame}
 use Rattle.scj_model.specs.Operations.{Environment, effect_of}
@@ -104,7 +104,7 @@ ref_op code rows s (ReleaseAt index) = slice_get s.releases index >>= release_op
 
 -- as a relation: the operation of the job leads to this state, and the trace tells these events
 abbrev pub RefOp : Code → List ReadingRow → State → Job → State → List Event → Type 0
-RefOp code rows s job after events = ref_op code rows s job ≡ Some (telling after events)
+RefOp code rows s job after events = ref_op code rows s job ≡ Some (reporting after events)
 
 -- ---- one unit
 
@@ -113,9 +113,9 @@ is_same_turn IdleTurn IdleTurn = true
 is_same_turn (TurnOf n) (TurnOf index) = n == index
 is_same_turn _ _ = false
 
-unfoldable pub tell_turn : State → Turn → List Event
-tell_turn s IdleTurn = IdleEvent s.unit ∷ []
-tell_turn s (TurnOf index) =
+unfoldable pub report_turn : State → Turn → List Event
+report_turn s IdleTurn = IdleEvent s.unit ∷ []
+report_turn s (TurnOf index) =
     elim (slice_get s.releases index) [ None ↦ [] | Some r ↦ RunEvent s.unit r.handler r.number ∷ [] ]
 
 -- the state in which this turn was the last one
@@ -125,8 +125,8 @@ with_turn s turn = record s { last_choice = Some turn }
 -- a turn is told where the last one was another
 unfoldable pub turn_taken : State → Turn → Step
 turn_taken s turn =
-    telling (with_turn s turn)
-    (if holds s.last_choice (is_same_turn turn) then [] else tell_turn s turn)
+    reporting (with_turn s turn)
+    (if holds s.last_choice (is_same_turn turn) then [] else report_turn s turn)
 
 -- the chosen release acts, if one is chosen
 unfoldable pub turn_acts : Code → List ReadingRow → Turn → State → Option Step
@@ -147,14 +147,14 @@ unfoldable pub one_unit : Code → Plan → Policy → State → Option Step
 one_unit code plan policy s =
     then_try (arrivals code plan s) (acts code plan.readings policy)
     >>= (λ result. then_try result (phase_after code))
-    >>= (λ result. Some (telling (next_unit result.state) result.events))
+    >>= (λ result. Some (reporting (next_unit result.state) result.events))
 
 -- as relations: what follows in this state, and a unit from it, lead to another one, and the trace tells these events
 abbrev pub PhaseLeadsTo : Code → State → State → List Event → Type 0
-PhaseLeadsTo code s after events = phase_after code s ≡ Some (telling after events)
+PhaseLeadsTo code s after events = phase_after code s ≡ Some (reporting after events)
 
 abbrev pub UnitLeadsTo : Code → Plan → Policy → State → State → List Event → Type 0
-UnitLeadsTo code plan policy s after events = one_unit code plan policy s ≡ Some (telling after events)
+UnitLeadsTo code plan policy s after events = one_unit code plan policy s ≡ Some (reporting after events)
 
 -- ---- a run
 
@@ -217,8 +217,8 @@ run code plan policy (suc n) = one_more_unit code plan policy (run code plan pol
 abbrev pub last_line : ℕ → RunSoFar → List Event
 last_line n so_far = if has_ended so_far then [] else Stopped n ∷ []
 
-abbrev pub told_by : ℕ → RunSoFar → List Event
-told_by n so_far = so_far.events ++ last_line n so_far
+abbrev pub reported_by : ℕ → RunSoFar → List Event
+reported_by n so_far = so_far.events ++ last_line n so_far
 
 unfoldable pub trace : Code → Plan → ℕ → List Event
-trace code plan n = told_by n (run code plan by_priority n)
+trace code plan n = reported_by n (run code plan by_priority n)

@@ -20,7 +20,7 @@ use Rattle.scj_model.specs.declared.phases.Phase.TheVariants.{Boot, Next, Init, 
 use Rattle.scj_model.specs.Code.{Code}
 use Rattle.scj_model.specs.State.{Release, TheSequencer, State, is_started, object_at, is_exec}
 use Rattle.scj_model.specs.Memory.{new_slots, closed}
-use Rattle.scj_model.specs.Steps.{Step, silently, telling, fault_in, allocating, opening}
+use Rattle.scj_model.specs.Steps.{Step, silently, reporting, fault_in, allocating, opening}
 use Rattle.scj_model.specs.Effects.{new_frame}
 use Rattle.scj_model.specs.Apply.{class_name_at}
 
@@ -161,12 +161,12 @@ seq_applied code s (TakesMission r) =
     silently (record s { mission = Some r; is_end_asked = false; earlier_releases = length s.releases })
 seq_applied code s (LacksSequencer safelet) =
     fault_in s TheSequencer s.activity (position_of_object code s safelet) NullPointer
-seq_applied code s LacksMission = telling s (Done s.unit ∷ [])
-seq_applied code s (BeginsMission r) = telling s (Mission s.unit (class_name_at code s r) ∷ [])
+seq_applied code s LacksMission = reporting s (Done s.unit ∷ [])
+seq_applied code s (BeginsMission r) = reporting s (Mission s.unit (class_name_at code s r) ∷ [])
 seq_applied code s BeginsExecution =
-    telling (record s { origin = s.unit + 1; last_choice = None }) (ExecEvent s.unit ∷ [])
-seq_applied code s SkipsExecution = telling s (ExecEvent s.unit ∷ CleanupEvent s.unit ∷ [])
-seq_applied code s EndsExecution = telling s (CleanupEvent s.unit ∷ [])
+    reporting (record s { origin = s.unit + 1; last_choice = None }) (ExecEvent s.unit ∷ [])
+seq_applied code s SkipsExecution = reporting s (ExecEvent s.unit ∷ CleanupEvent s.unit ∷ [])
+seq_applied code s EndsExecution = reporting s (CleanupEvent s.unit ∷ [])
 seq_applied code s ClosesMission = silently (mission_closed s)
 
 abbrev pub transition_done : Code → State → Transition → Step

@@ -21,17 +21,17 @@ pub record Step : Type 0 where
 abbrev pub silently : State → Step
 silently s = record { state = s; events = [] }
 
-abbrev pub telling : State → List Event → Step
-telling s events = record { state = s; events = events }
+abbrev pub reporting : State → List Event → Step
+reporting s events = record { state = s; events = events }
 
 -- ---- one after the other
 
 abbrev pub then_do : Step → (State → Step) → Step
-then_do first next = let second = next first.state in telling second.state (first.events ++ second.events)
+then_do first next = let second = next first.state in reporting second.state (first.events ++ second.events)
 
 -- a second step that may have no result
 abbrev pub then_try : Step → (State → Option Step) → Option Step
-then_try first next = option_map (λ second. telling second.state (first.events ++ second.events)) (next first.state)
+then_try first next = option_map (λ second. reporting second.state (first.events ++ second.events)) (next first.state)
 
 -- a step for each element, in order
 unfoldable pub for_each : {A : Type 0} → (State → A → Step) → List A → State → Step
@@ -42,8 +42,8 @@ for_each step (x ∷ xs) s = then_do (step s x) (for_each step xs)
 
 -- what the trace tells of a job that is a release
 abbrev pub of_release : State → Job → (Release → List Event) → List Event
-of_release s TheSequencer tell = []
-of_release s (ReleaseAt index) tell = elim (slice_get s.releases index) [ None ↦ [] | Some r ↦ tell r ]
+of_release s TheSequencer report = []
+of_release s (ReleaseAt index) report = elim (slice_get s.releases index) [ None ↦ [] | Some r ↦ report r ]
 
 -- the areas that frames opened are closed
 unfoldable pub closed_all : State → List Frame → State
@@ -56,17 +56,17 @@ unfoldable pub job_ended : State → Job → Activity → Option Value → Step
 job_ended s TheSequencer activity value =
     silently (record s { activity = activity; outcome = Some (unwrap_or value Null) })
 job_ended s (ReleaseAt index) activity value =
-    telling (with_status s index Ended)
+    reporting (with_status s index Ended)
     (of_release s (ReleaseAt index) (λ r. End s.unit r.handler r.number ∷ []))
 
 -- a fault: it ends a release, whose frames are dropped and whose areas are closed, and it halts the run of the
 -- sequencer
 unfoldable pub fault_in : State → Job → Activity → Position → RunFault → Step
 fault_in s TheSequencer activity position fault =
-    telling (record s { phase = Over; operation = Finished; outcome = None })
+    reporting (record s { phase = Over; operation = Finished; outcome = None })
     (Fault s.unit fault position ∷ Halted s.unit ∷ [])
 fault_in s (ReleaseAt n) activity position fault =
-    telling (with_status (closed_all s activity.frames) n Ended)
+    reporting (with_status (closed_all s activity.frames) n Ended)
     (Fault s.unit fault position ∷ of_release s (ReleaseAt n) (λ r. End s.unit r.handler r.number ∷ []))
 
 -- ---- memory

@@ -15,24 +15,24 @@ nothing_found breaks [] e r =
     λ rule position broken. none_contained _ ((r.exact (record { pos = position; rule = rule })).1 broken)
 nothing_found breaks (first ∷ more) e r = absurd (omega (arith, e))
 
-pub told_of_classes : (forest : Forest) (found : List Found) → 0 < length found →
+pub reported_of_classes : (forest : Forest) (found : List Found) → 0 < length found →
     IsReport (BreaksClassRules forest) found → Reports forest None found
-told_of_classes forest [] some r = absurd (omega (arith, some))
-told_of_classes forest (first ∷ more) some r = in_classes r
+reported_of_classes forest [] some r = absurd (omega (arith, some))
+reported_of_classes forest (first ∷ more) some r = in_classes r
 
-pub told_of_types : (forest : Forest) (found : List Found) → 0 < length found →
+pub reported_of_types : (forest : Forest) (found : List Found) → 0 < length found →
     NothingBreaks (BreaksClassRules forest) → IsReport (BreaksTypeRules forest) found → Reports forest None found
-told_of_types forest [] some c r = absurd (omega (arith, some))
-told_of_types forest (first ∷ more) some c r = in_types c r
+reported_of_types forest [] some c r = absurd (omega (arith, some))
+reported_of_types forest (first ∷ more) some c r = in_types c r
 
-pub told_of_scopes : (forest : Forest) (found : List Found) → 0 < length found →
+pub reported_of_scopes : (forest : Forest) (found : List Found) → 0 < length found →
     NothingBreaks (BreaksClassRules forest) → NothingBreaks (BreaksTypeRules forest) →
     IsReport (BreaksScopeRules forest) found → Reports forest None found
-told_of_scopes forest [] some c t r = absurd (omega (arith, some))
-told_of_scopes forest (first ∷ more) some c t r = in_scopes c t r
+reported_of_scopes forest [] some c t r = absurd (omega (arith, some))
+reported_of_scopes forest (first ∷ more) some c t r = in_scopes c t r
 
-pub told_of_uses : (forest : Forest) (found : List Found) → 0 < length found → NothingBreaks (BreaksClassRules forest) →
+pub reported_of_uses : (forest : Forest) (found : List Found) → 0 < length found → NothingBreaks (BreaksClassRules forest) →
     NothingBreaks (BreaksTypeRules forest) → NothingBreaks (BreaksScopeRules forest) →
     IsReport (BreaksUseRules forest) found → Reports forest None found
-told_of_uses forest [] some c t s r = absurd (omega (arith, some))
-told_of_uses forest (first ∷ more) some c t s r = in_uses c t s r
+reported_of_uses forest [] some c t s r = absurd (omega (arith, some))
+reported_of_uses forest (first ∷ more) some c t s r = in_uses c t s r

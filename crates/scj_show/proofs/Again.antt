@@ -269,7 +269,7 @@ pub post_here : {minimum : Bool} {kind : PostKind} {at : Position} {M N : List N
 post_here {at = at} d = record { at = at; read = d }
 
 -- the same where nothing has to be known of the first lexemes
-pub record Told (R : List Node → List Lexeme → List Node → List Lexeme → ℕ → Type 0) (W M : List Node)
+pub record Reported (R : List Node → List Lexeme → List Node → List Lexeme → ℕ → Type 0) (W M : List Node)
     (i2 o2 : List Lexeme) (id : ℕ) : Type 0 where
   pub nodes : List Node
   pub place : ℕ
@@ -277,14 +277,14 @@ pub record Told (R : List Node → List Lexeme → List Node → List Lexeme →
   pub read : R M i2 nodes o2 place
   pub alike : (V : List Node) → Front nodes V → Alike W V id place
 
-pub told_of : {R : List Node → List Lexeme → List Node → List Lexeme → ℕ → Type 0} {W M : List Node}
+pub reported_of : {R : List Node → List Lexeme → List Node → List Lexeme → ℕ → Type 0} {W M : List Node}
     {i2 o2 : List Lexeme} {id : ℕ} (nodes : List Node) (index : ℕ) → Front M nodes → R M i2 nodes o2 index →
-    ((V : List Node) → Front nodes V → Alike W V id index) → Told R W M i2 o2 id
-told_of nodes index grown read same = record { nodes = nodes; place = index; grown = grown; read = read; alike = same }
+    ((V : List Node) → Front nodes V → Alike W V id index) → Reported R W M i2 o2 id
+reported_of nodes index grown read same = record { nodes = nodes; place = index; grown = grown; read = read; alike = same }
 
-pub told_moved : {R : List Node → List Lexeme → List Node → List Lexeme → ℕ → Type 0} {W M : List Node}
-    {i2 i3 o2 : List Lexeme} {id : ℕ} → i3 ≡ i2 → Told R W M i2 o2 id → Told R W M i3 o2 id
-told_moved {R} {W} {M} {i2} {i3} {o2} {id} e a = subst (λ (t : List Lexeme). Told R W M t o2 id) (sym e) a
+pub reported_moved : {R : List Node → List Lexeme → List Node → List Lexeme → ℕ → Type 0} {W M : List Node}
+    {i2 i3 o2 : List Lexeme} {id : ℕ} → i3 ≡ i2 → Reported R W M i2 o2 id → Reported R W M i3 o2 id
+reported_moved {R} {W} {M} {i2} {i3} {o2} {id} e a = subst (λ (t : List Lexeme). Reported R W M t o2 id) (sym e) a
 
 -- a part that may be missing
 pub data MaybeAlike (W V : List Node) : Option ℕ → Option ℕ → Type 0 where
@@ -305,7 +305,7 @@ pub optional-alike-last : {W V : List Node} {x y : Option ℕ} → MaybeAlike W 
 optional-alike-last both_missing = none_alike
 optional-alike-last (both_there b) = one_alike b none_alike
 
-pub record MaybeTold (R : List Node → List Lexeme → List Node → List Lexeme → Option ℕ → Type 0) (W M : List Node)
+pub record MaybeReported (R : List Node → List Lexeme → List Node → List Lexeme → Option ℕ → Type 0) (W M : List Node)
     (i2 o2 : List Lexeme) (id : Option ℕ) : Type 0 where
   pub nodes : List Node
   pub place : Option ℕ
@@ -313,12 +313,12 @@ pub record MaybeTold (R : List Node → List Lexeme → List Node → List Lexem
   pub read : R M i2 nodes o2 place
   pub alike : (V : List Node) → Front nodes V → MaybeAlike W V id place
 
-pub maybe_told_of : {R : List Node → List Lexeme → List Node → List Lexeme → Option ℕ → Type 0} {W M : List Node}
+pub maybe_reported_of : {R : List Node → List Lexeme → List Node → List Lexeme → Option ℕ → Type 0} {W M : List Node}
     {i2 o2 : List Lexeme} {id : Option ℕ} (nodes : List Node) (index : Option ℕ) → Front M nodes →
-    R M i2 nodes o2 index → ((V : List Node) → Front nodes V → MaybeAlike W V id index) → MaybeTold R W M i2 o2 id
-maybe_told_of nodes index grown read same =
+    R M i2 nodes o2 index → ((V : List Node) → Front nodes V → MaybeAlike W V id index) → MaybeReported R W M i2 o2 id
+maybe_reported_of nodes index grown read same =
     record { nodes = nodes; place = index; grown = grown; read = read; alike = same }
 
-pub maybe_told_moved : {R : List Node → List Lexeme → List Node → List Lexeme → Option ℕ → Type 0} {W M : List Node}
-    {i2 i3 o2 : List Lexeme} {id : Option ℕ} → i3 ≡ i2 → MaybeTold R W M i2 o2 id → MaybeTold R W M i3 o2 id
-maybe_told_moved {R} {W} {M} {i2} {i3} {o2} {id} e a = subst (λ (t : List Lexeme). MaybeTold R W M t o2 id) (sym e) a
+pub maybe_reported_moved : {R : List Node → List Lexeme → List Node → List Lexeme → Option ℕ → Type 0} {W M : List Node}
+    {i2 i3 o2 : List Lexeme} {id : Option ℕ} → i3 ≡ i2 → MaybeReported R W M i2 o2 id → MaybeReported R W M i3 o2 id
+maybe_reported_moved {R} {W} {M} {i2} {i3} {o2} {id} e a = subst (λ (t : List Lexeme). MaybeReported R W M t o2 id) (sym e) a

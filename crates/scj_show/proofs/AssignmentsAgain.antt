@@ -21,7 +21,7 @@ use Rattle.scj_show.specs.Symbols.{Symbol, a_name, a_sign, a_number, Written, ca
 use Rattle.scj_show.specs.Placed.{printed, lexeme_at}
 use Rattle.scj_show.specs.Alike.{Alike, shape, in_order, alike, none_alike, one_alike}
 use Rattle.scj_show.proofs.Unfolding.{written_at}
-use Rattle.scj_show.proofs.Again.{Front, front-one, front-then, front-put, front-at, whole, whole_at, laid, laid-append, Told, told_of, told_moved}
+use Rattle.scj_show.proofs.Again.{Front, front-one, front-then, front-put, front-at, whole, whole_at, laid, laid-append, Reported, reported_of, reported_moved}
 use Rattle.scj_show.proofs.ExpressionsAgain.{level_front, post_front, level_again, post_again}
 
 -- ---- an expression that begins with a name and a `)` is that name
@@ -249,17 +249,17 @@ number_alike n e h = alike e h refl none_alike
 closed_again : (W : List Node) → ChildrenFirst 0 W →
     (file : ℕ) (M : List Node) (b b1 : List ℕ) (o2 : List Lexeme) {N N1 : List Node} {i o : List Lexeme} {id : ℕ} →
     Level 1 N i N1 o id → Front N1 W →
-    Told (Level 1) W M (laid file b (whole W id) (sign_at sign_right_parenthesis (position_behind file b1) ∷ o2))
+    Reported (Level 1) W M (laid file b (whole W id) (sign_at sign_right_parenthesis (position_behind file b1) ∷ o2))
     (sign_at sign_right_parenthesis (position_behind file b1) ∷ o2) id
 unfolding begins_unary1 is_unary1_start
 closed_again W first file M b b1 o2 d f = let a =
     level_again W first file M b (sign_at sign_right_parenthesis (position_behind file b1) ∷ o2) d f (λ c. refl) in
-    told_of a.nodes a.place a.grown a.read a.alike
+    reported_of a.nodes a.place a.grown a.read a.alike
 
 pub assignment_again : (W : List Node) → ChildrenFirst 0 W →
     (file : ℕ) (M : List Node) (b : List ℕ) (o2 : List Lexeme) {N N1 : List Node} {i o : List Lexeme} {id : ℕ} →
     AssignmentRead N i N1 o id → Front N1 W → begins_unary1 o2 ≡ false →
-    Told AssignmentRead W M (laid file b (bare W id) o2) o2 id
+    Reported AssignmentRead W M (laid file b (bare W id) o2) o2 id
 unfolding symbols_of_parts symbols_of_part own_symbols parts_of bare_parts sign_if_set lexeme_at begins_unary1
     is_unary1_start laid
 assignment_again W first file M b o2 (assignment {N1 = N1} {N2 = N2} {x = x} {e = e} {p = p} d1 d2) f u =
@@ -273,7 +273,7 @@ assignment_again W first file M b o2 (assignment {N1 = N1} {N2 = N2} {x = x} {e 
     let a2 = level_again W first file a1.nodes b2 o2 d2 (front-put _ _ f) (λ c. u) in
     let same : laid file b (bare W (length N2)) o2 ≡ laid file b (whole W x) t1 =
     ap (λ (ss : List Symbol). laid file b ss o2) said ∙ simp laid-append in
-    told_moved same (told_of (put a2.nodes (Assign (position_behind file b1) a1.place a2.place)) (length a2.nodes)
+    reported_moved same (reported_of (put a2.nodes (Assign (position_behind file b1) a1.place a2.place)) (length a2.nodes)
     (front-then a1.grown (front-then a2.grown (front-one _))) (assignment a1.read.read a2.read)
     (λ V g. assign_alike at (front-at _ _ g) (a1.alike V (front-then a2.grown (front-put _ _ g)))
     (a2.alike V (front-put _ _ g))))
@@ -337,7 +337,7 @@ assignment_again W first file M b o2
     ap (λ (ss : List Symbol). laid file b ss o2) said in
     let same : laid file b (bare W (length (put P3 (Binary p op (length (put N (SimpleName q w))) (length N1))))) o2
     ≡ i2 = opened ∙ simp laid-append in
-    told_moved same (told_of (put (put M3 made) (Assign (position_behind file b1) (length M) (length M3)))
+    reported_moved same (reported_of (put (put M3 made) (Assign (position_behind file b1) (length M) (length M3)))
     (length (put M3 made))
     (front-then (front-one _)
     (front-then (front-one _)
@@ -385,8 +385,8 @@ assignment_again W first file M b o2 (step_assignment {N = N} {w = w} {n = n} {o
     let one : UnaryRead M2 (number_at 1 (position_behind file b4) ∷ o2) M3 o2 (length M2) =
     plain_unary (post_unary (number refl)) in
     let made : Node = Binary (position_behind file b3) op (length M1) (length M2) in
-    told_moved (ap (λ (ss : List Symbol). laid file b ss o2) said)
-    (told_of (put (put M3 made) (Assign (position_behind file b1) (length M) (length M3))) (length (put M3 made))
+    reported_moved (ap (λ (ss : List Symbol). laid file b ss o2) said)
+    (reported_of (put (put M3 made) (Assign (position_behind file b1) (length M) (length M3))) (length (put M3 made))
     (front-then (front-one _)
     (front-then (front-one _) (front-then (front-one _) (front-then (front-one _) (front-one _)))))
     (assignment simple_name (operation op (stepping_operator n op k) simple_read one)) (λ V g.

@@ -16,7 +16,7 @@ use Rattle.scj_show.specs.Symbols.{Symbol, a_name, a_word, a_sign, canonical, ow
 use Rattle.scj_show.specs.Placed.{printed, lexeme_at}
 use Rattle.scj_show.specs.Alike.{nowhere, shape, in_order, alike, none_alike, one_alike}
 use Rattle.scj_show.proofs.Printing.{symbols_of_parts-append}
-use Rattle.scj_show.proofs.Again.{Front, front-none, front-one, front-then, front-put, front-at, whole, whole_at, laid, laid-append, followed, followed-put, arguments_of, arguments_of-put, implemented-put, Told, told_of, told_moved, AllAgain, all_again_of, all_moved, alike-put, counted-same, both_missing, both_there, there-same, optional-alike, MaybeTold, maybe_told_of, maybe_told_moved}
+use Rattle.scj_show.proofs.Again.{Front, front-none, front-one, front-then, front-put, front-at, whole, whole_at, laid, laid-append, followed, followed-put, arguments_of, arguments_of-put, implemented-put, Reported, reported_of, reported_moved, AllAgain, all_again_of, all_moved, alike-put, counted-same, both_missing, both_there, there-same, optional-alike, MaybeReported, maybe_reported_of, maybe_reported_moved}
 use Rattle.scj_show.proofs.HeadersAgain.{type_front, type_again, super_front, super_again}
 use Rattle.scj_show.proofs.Sources.{AreOfSource, behind}
 use Rattle.scj_show.proofs.Rests.{parameters_begun_rest}
@@ -72,10 +72,10 @@ interfaces_again W first file M b o2 (interface_and_comma {ids = ids} {id = id} 
 pub header_again : (W : List Node) → ChildrenFirst 0 W →
     (file : ℕ) (M : List Node) (b : List ℕ) (o2 : List Lexeme) {N N1 : List Node} {i o : List Lexeme} {id : Option ℕ} →
     HeaderRead N i N1 o id → Front N1 W →
-    MaybeTold HeaderRead W M (laid file b (maybe_symbols W id ++ a_sign sign_left_brace ∷ []) o2) o2 id
+    MaybeReported HeaderRead W M (laid file b (maybe_symbols W id ++ a_sign sign_left_brace ∷ []) o2) o2 id
 unfolding maybe_symbols maybe symbols_of_parts symbols_of_part own_symbols parts_of extended implemented lexeme_at shape
     in_order children laid
-header_again W first file M b o2 no_header f = maybe_told_of M None front-none no_header (λ V g. both_missing)
+header_again W first file M b o2 no_header f = maybe_reported_of M None front-none no_header (λ V g. both_missing)
 header_again W first file M b o2 (extends_header {N1 = N1} {super = super} {p = p} d) f =
     let at : slice_get W (length N1) ≡ Some (Supers p (Some super) []) = front-at _ _ f in
     let said0 : whole W (length N1) ≡ symbols_of_parts (written W) (extended (Some super) ++ implemented []) =
@@ -93,8 +93,8 @@ header_again W first file M b o2 (extends_header {N1 = N1} {super = super} {p = 
     ∙ said) in
     let same : laid file b (maybe_symbols W (Some (length N1)) ++ a_sign sign_left_brace ∷ []) o2 ≡ word_at word_extends
     (position_behind file b) ∷ t1 = opened ∙ simp laid-append in
-    maybe_told_moved same
-    (maybe_told_of (put a1.nodes (Supers (position_behind file b) (Some a1.place) [])) (Some (length a1.nodes))
+    maybe_reported_moved same
+    (maybe_reported_of (put a1.nodes (Supers (position_behind file b) (Some a1.place) [])) (Some (length a1.nodes))
     (front-then a1.grown (front-one _)) (extends_header a1.read)
     (λ V g. both_there (alike at (front-at _ _ g) refl (one_alike (a1.alike V (front-put _ _ g)) none_alike))))
 header_again W first file M b o2 (implements_header {N2 = N2} {ids = ids} {id = id} {p = p} d1 d2) f =
@@ -117,7 +117,7 @@ header_again W first file M b o2 (implements_header {N2 = N2} {ids = ids} {id = 
     ap (λ (ss : List Symbol). laid file b (ss ++ a_sign sign_left_brace ∷ []) o2) (append-nil (whole W (length N2))
     ∙ said) ∙ ap (λ (ss : List Symbol). word_at word_implements (position_behind file b) ∷ laid file b1 ss o2)
     (append_assoc (followed W ids) (whole W id) (a_sign sign_left_brace ∷ [])) ∙ simp laid-append in
-    maybe_told_moved same (maybe_told_of (put a2.nodes (Supers (position_behind file b) None (a1.places ++ a2.place ∷ [])))
+    maybe_reported_moved same (maybe_reported_of (put a2.nodes (Supers (position_behind file b) None (a1.places ++ a2.place ∷ [])))
     (Some (length a2.nodes)) (front-then a1.grown (front-then a2.grown (front-one _)))
     (implements_header a1.read a2.read)
     (λ V g. let all = alike-put (a1.alike V (front-then a2.grown (front-put _ _ g))) (a2.alike V (front-put _ _ g))
@@ -156,8 +156,8 @@ header_again W first file M b o2
     (append-nil (whole W (length N3)) ∙ said)
     ∙ ap (λ (ss : List Symbol). word_at word_extends (position_behind file b) ∷ laid file b1 ss o2) flat
     ∙ simp laid-append in
-    maybe_told_moved same
-    (maybe_told_of (put a2.nodes (Supers (position_behind file b) (Some a0.place) (a1.places ++ a2.place ∷ [])))
+    maybe_reported_moved same
+    (maybe_reported_of (put a2.nodes (Supers (position_behind file b) (Some a0.place) (a1.places ++ a2.place ∷ [])))
     (Some (length a2.nodes)) (front-then a0.grown (front-then a1.grown (front-then a2.grown (front-one _))))
     (extends_implements_header a0.read a1.read a2.read)
     (λ V g. let all = alike-put (a1.alike V (front-then a2.grown (front-put _ _ g))) (a2.alike V (front-put _ _ g))
@@ -169,7 +169,7 @@ header_again W first file M b o2
 
 pub parameter_again : (W : List Node) → ChildrenFirst 0 W →
     (file : ℕ) (M : List Node) (b : List ℕ) (o2 : List Lexeme) {N N1 : List Node} {i o : List Lexeme} {id : ℕ} →
-    ParameterRead N i N1 o id → AreOfSource i → Front N1 W → Told ParameterRead W M (laid file b (whole W id) o2) o2 id
+    ParameterRead N i N1 o id → AreOfSource i → Front N1 W → Reported ParameterRead W M (laid file b (whole W id) o2) o2 id
 unfolding maybe_symbols symbols_of_parts symbols_of_part own_symbols parts_of lexeme_at shape in_order children laid
 parameter_again W first file M b o2 (parameter {N1 = N1} {N2 = N2} {flags = flags} {t = t} {w = w} {p = p} d1 d2) src
     f =
@@ -187,8 +187,8 @@ parameter_again W first file M b o2 (parameter {N1 = N1} {N2 = N2} {flags = flag
     let a2 = type_again W first file (with_flags a1.nodes a1.flags) b1 t2 d2 (front-put _ _ f) in
     let same : laid file b (whole W (length N2)) o2 ≡ laid file b (maybe_symbols W fl) t1 =
     ap (λ (ss : List Symbol). laid file b ss o2) said ∙ simp laid-append in
-    told_moved same
-    (told_of (put a2.nodes (Parameter (position_behind file b2) w (flags_number a1.nodes a1.flags) a2.place))
+    reported_moved same
+    (reported_of (put a2.nodes (Parameter (position_behind file b2) w (flags_number a1.nodes a1.flags) a2.place))
     (length a2.nodes)
     (front-then a1.grown (front-then (flags_front a1.nodes a1.flags) (front-then a2.grown (front-one _))))
     (parameter a1.read a2.read) (λ V g. let fs = a1.alike V (front-then a2.grown (front-put _ _ g)) in
@@ -222,11 +222,11 @@ parameter_symbols W id = symbols_of_parts (written W) (parameters_or_none id)
 pub parameters_again : (W : List Node) → ChildrenFirst 0 W →
     (file : ℕ) (M : List Node) (b : List ℕ) (o2 : List Lexeme) {N N1 : List Node} {i o : List Lexeme} {id : Option ℕ} →
     ParametersRead N i N1 o id → AreOfSource i → Front N1 W →
-    MaybeTold ParametersRead W M (laid file b (parameter_symbols W id) o2) o2 id
+    MaybeReported ParametersRead W M (laid file b (parameter_symbols W id) o2) o2 id
 unfolding parameter_symbols parameters_or_none symbols_of_parts symbols_of_part own_symbols parts_of in_parentheses
     arguments_of lexeme_at shape in_order children laid
 parameters_again W first file M b o2 no_parameters src f =
-    maybe_told_of M None front-none no_parameters (λ V g. both_missing)
+    maybe_reported_of M None front-none no_parameters (λ V g. both_missing)
 parameters_again W first file M b o2 (parameters {N2 = N2} {ids = ids} {id = id} {p = p} d1 d2) src f =
     let at : slice_get W (length N2) ≡ Some (Parameters p (ids ++ id ∷ [])) = front-at _ _ f in
     let said0 : whole W (length N2) ≡ a_sign sign_left_parenthesis ∷ arguments_of W (ids ++ id ∷ []) =
@@ -247,7 +247,7 @@ parameters_again W first file M b o2 (parameters {N2 = N2} {ids = ids} {id = id}
     let same : laid file b (parameter_symbols W (Some (length N2))) o2 ≡ sign_at sign_left_parenthesis
     (position_behind file b) ∷ t1 =
     ap (λ (ss : List Symbol). laid file b ss o2) (append-nil (whole W (length N2)) ∙ said) ∙ simp laid-append in
-    maybe_told_moved same (maybe_told_of (put a2.nodes (Parameters (position_behind file b) (a1.places ++ a2.place ∷ [])))
+    maybe_reported_moved same (maybe_reported_of (put a2.nodes (Parameters (position_behind file b) (a1.places ++ a2.place ∷ [])))
     (Some (length a2.nodes)) (front-then a1.grown (front-then a2.grown (front-one _))) (parameters a1.read a2.read)
     (λ V g. let all = alike-put (a1.alike V (front-then a2.grown (front-put _ _ g))) (a2.alike V (front-put _ _ g))
     in both_there (alike at (front-at _ _ g) (ap (λ (t : List ℕ). Parameters nowhere t) (counted-same all)) all)))

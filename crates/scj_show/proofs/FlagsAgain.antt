@@ -679,7 +679,7 @@ abbrev pub number_of : List Node → Option Node → Option ℕ
 number_of N node = elim node [ None ↦ None | Some made ↦ Some (length N) ]
 
 -- flags that are read again, as the node whose number they have
-pub record FlagsTold (is_local : Bool) (W M : List Node) (i2 o2 : List Lexeme) (number : Option ℕ) : Type 0 where
+pub record FlagsReported (is_local : Bool) (W M : List Node) (i2 o2 : List Lexeme) (number : Option ℕ) : Type 0 where
   pub nodes : List Node
   pub flags : FlagSet
   pub grown : Front M nodes
@@ -718,7 +718,7 @@ flags_are_alike W V x y p q f g at here d s r a b c =
 some_flags_again : (is_local : Bool) (W : List Node) → ChildrenFirst 0 W →
     (file : ℕ) (M : List Node) (b : List ℕ) (o2 : List Lexeme) (n : ℕ) (p : Position) (flags : FlagSet) →
     FitLocal is_local flags → Facts W flags → has_effect flags ≡ true → slice_get W n ≡ Some (flags_at p flags) →
-    FlagsTold is_local W M (laid file b (maybe_symbols W (Some n)) o2) o2 (Some n)
+    FlagsReported is_local W M (laid file b (maybe_symbols W (Some n)) o2) o2 (Some n)
 unfolding with_flags flags_number
 some_flags_again is_local W first file M b o2 n p flags fit known effect at =
     let i2 : List Lexeme = laid file b (maybe_symbols W (Some n)) o2 in
@@ -766,7 +766,7 @@ some_flags_again is_local W first file M b o2 n p flags fit known effect at =
 flags_at_node : (is_local : Bool) (W : List Node) → ChildrenFirst 0 W →
     (file : ℕ) (M : List Node) (b : List ℕ) (o2 : List Lexeme) (N1 : List Node) (flags : FlagSet) (node : Option Node) →
     FitLocal is_local flags → (Front N1 W → Facts W flags) → flags_node flags ≡ node → Front (with_node N1 node) W →
-    FlagsTold is_local W M (laid file b (maybe_symbols W (number_of N1 node)) o2) o2 (number_of N1 node)
+    FlagsReported is_local W M (laid file b (maybe_symbols W (number_of N1 node)) o2) o2 (number_of N1 node)
 unfolding maybe_symbols maybe symbols_of_parts laid with_flags flags_number flags_node has_effect
 flags_at_node is_local W first file M b o2 N1 flags None fit known is f =
     record { nodes = M; flags = no_flags; grown = front-none; read = no_flag; alike = λ V g. both_missing }
@@ -779,7 +779,7 @@ flags_at_node is_local W first file M b o2 N1 flags (Some node) fit known is f =
 pub flags_again : (is_local : Bool) (W : List Node) → ChildrenFirst 0 W →
     (file : ℕ) (M : List Node) (b : List ℕ) (o2 : List Lexeme) {N N1 : List Node} {i o : List Lexeme}
     {flags : FlagSet} → FlagRow is_local N i N1 o flags → AreOfSource i → Front (with_flags N1 flags) W →
-    FlagsTold is_local W M (laid file b (maybe_symbols W (flags_number N1 flags)) o2) o2 (flags_number N1 flags)
+    FlagsReported is_local W M (laid file b (maybe_symbols W (flags_number N1 flags)) o2) o2 (flags_number N1 flags)
 unfolding with_flags flags_number
 flags_again is_local W first file M b o2 {N1 = N1} {flags = flags} d src f =
     flags_at_node is_local W first file M b o2 N1 flags (flags_node flags) (fit_local is_local d)

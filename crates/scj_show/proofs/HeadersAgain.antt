@@ -13,7 +13,7 @@ use Rattle.scj_show.specs.Parts.{parts_of, argument_in_brackets, brackets, class
 use Rattle.scj_show.specs.Symbols.{Symbol, a_name, a_word, a_sign, own_symbols, symbols_of_part, symbols_of_parts}
 use Rattle.scj_show.specs.Placed.{printed, lexeme_at}
 use Rattle.scj_show.specs.Alike.{shape, in_order, alike, none_alike, one_alike}
-use Rattle.scj_show.proofs.Again.{Front, front-one, front-then, front-put, front-at, whole, whole_at, laid, Told, told_of, told_moved}
+use Rattle.scj_show.proofs.Again.{Front, front-one, front-then, front-put, front-at, whole, whole_at, laid, Reported, reported_of, reported_moved}
 
 -- ---- reading puts nodes behind the others
 
@@ -40,47 +40,47 @@ super_front (super_type_with_argument h) = front-then (front-one _) (front-one _
 
 pub type_again : (W : List Node) → ChildrenFirst 0 W →
     (file : ℕ) (M : List Node) (b : List ℕ) (o2 : List Lexeme) {N N1 : List Node} {i o : List Lexeme} {id : ℕ} →
-    TypeRead N i N1 o id → Front N1 W → Told TypeRead W M (laid file b (whole W id) o2) o2 id
+    TypeRead N i N1 o id → Front N1 W → Reported TypeRead W M (laid file b (whole W id) o2) o2 id
 unfolding symbols_of_parts symbols_of_part own_symbols parts_of class_type_parts argument_in_brackets brackets lexeme_at
     shape in_order children laid
 type_again W first file M b o2 (int_type {N = N} {p = p}) f =
     let at : slice_get W (length N) ≡ Some (IntType p false) = front-at _ _ f in
     let said : whole W (length N) ≡ a_word word_int ∷ [] = whole_at W _ _ first at in
-    told_moved (ap (λ (ss : List Symbol). laid file b ss o2) said)
-    (told_of (put M (IntType (position_behind file b) false)) (length M) (front-one _) (int_type)
+    reported_moved (ap (λ (ss : List Symbol). laid file b ss o2) said)
+    (reported_of (put M (IntType (position_behind file b) false)) (length M) (front-one _) (int_type)
     (λ V g. alike at (front-at _ _ g) refl none_alike))
 type_again W first file M b o2 (int_array {N = N} {p = p}) f =
     let at : slice_get W (length N) ≡ Some (IntType p true) = front-at _ _ f in
     let said : whole W (length N) ≡ a_word word_int ∷ a_sign sign_left_bracket ∷ a_sign sign_right_bracket ∷ [] =
     whole_at W _ _ first at in
-    told_moved (ap (λ (ss : List Symbol). laid file b ss o2) said)
-    (told_of (put M (IntType (position_behind file b) true)) (length M) (front-one _) (int_array)
+    reported_moved (ap (λ (ss : List Symbol). laid file b ss o2) said)
+    (reported_of (put M (IntType (position_behind file b) true)) (length M) (front-one _) (int_array)
     (λ V g. alike at (front-at _ _ g) refl none_alike))
 type_again W first file M b o2 (boolean_type {N = N} {p = p}) f =
     let at : slice_get W (length N) ≡ Some (BooleanType p false) = front-at _ _ f in
     let said : whole W (length N) ≡ a_word word_boolean ∷ [] = whole_at W _ _ first at in
-    told_moved (ap (λ (ss : List Symbol). laid file b ss o2) said)
-    (told_of (put M (BooleanType (position_behind file b) false)) (length M) (front-one _) (boolean_type)
+    reported_moved (ap (λ (ss : List Symbol). laid file b ss o2) said)
+    (reported_of (put M (BooleanType (position_behind file b) false)) (length M) (front-one _) (boolean_type)
     (λ V g. alike at (front-at _ _ g) refl none_alike))
 type_again W first file M b o2 (boolean_array {N = N} {p = p}) f =
     let at : slice_get W (length N) ≡ Some (BooleanType p true) = front-at _ _ f in
     let said : whole W (length N) ≡ a_word word_boolean ∷ a_sign sign_left_bracket ∷ a_sign sign_right_bracket ∷ [] =
     whole_at W _ _ first at in
-    told_moved (ap (λ (ss : List Symbol). laid file b ss o2) said)
-    (told_of (put M (BooleanType (position_behind file b) true)) (length M) (front-one _) (boolean_array)
+    reported_moved (ap (λ (ss : List Symbol). laid file b ss o2) said)
+    (reported_of (put M (BooleanType (position_behind file b) true)) (length M) (front-one _) (boolean_array)
     (λ V g. alike at (front-at _ _ g) refl none_alike))
 type_again W first file M b o2 (class_type {N = N} {w = w} {p = p}) f =
     let at : slice_get W (length N) ≡ Some (ClassType p w None false) = front-at _ _ f in
     let said : whole W (length N) ≡ a_name w ∷ [] = whole_at W _ _ first at in
-    told_moved (ap (λ (ss : List Symbol). laid file b ss o2) said)
-    (told_of (put M (ClassType (position_behind file b) w None false)) (length M) (front-one _) (class_type)
+    reported_moved (ap (λ (ss : List Symbol). laid file b ss o2) said)
+    (reported_of (put M (ClassType (position_behind file b) w None false)) (length M) (front-one _) (class_type)
     (λ V g. alike at (front-at _ _ g) refl none_alike))
 type_again W first file M b o2 (class_array {N = N} {w = w} {p = p}) f =
     let at : slice_get W (length N) ≡ Some (ClassType p w None true) = front-at _ _ f in
     let said : whole W (length N) ≡ a_name w ∷ a_sign sign_left_bracket ∷ a_sign sign_right_bracket ∷ [] =
     whole_at W _ _ first at in
-    told_moved (ap (λ (ss : List Symbol). laid file b ss o2) said)
-    (told_of (put M (ClassType (position_behind file b) w None true)) (length M) (front-one _) (class_array)
+    reported_moved (ap (λ (ss : List Symbol). laid file b ss o2) said)
+    (reported_of (put M (ClassType (position_behind file b) w None true)) (length M) (front-one _) (class_array)
     (λ V g. alike at (front-at _ _ g) refl none_alike))
 type_again W first file M b o2 (argument_type {N = N} {w = w} {v = v} {p = p} {r = r} h) f =
     let at : slice_get W (length (put N (TypeArgument r v))) ≡ Some (ClassType p w (Some (length N)) false) =
@@ -90,10 +90,10 @@ type_again W first file M b o2 (argument_type {N = N} {w = w} {v = v} {p = p} {r
     let said : whole W (length (put N (TypeArgument r v))) ≡ a_name w ∷ a_sign sign_less
     ∷ (whole W (length N) ++ (a_sign sign_greater ∷ [])) = whole_at W _ _ first at in
     let b2 : List ℕ = (b ++ printed (a_name w)) ++ printed (a_sign sign_less) in
-    told_moved
+    reported_moved
     (ap (λ (ss : List Symbol). laid file b ss o2)
     (said ∙ ap (λ (ss : List Symbol). a_name w ∷ a_sign sign_less ∷ (ss ++ (a_sign sign_greater ∷ []))) argument))
-    (told_of
+    (reported_of
     (put (put M (TypeArgument (position_behind file b2) v))
     (ClassType (position_behind file b) w (Some (length M)) false))
     (length (put M (TypeArgument (position_behind file b2) v))) (front-then (front-one _) (front-one _))
@@ -109,12 +109,12 @@ type_again W first file M b o2 (argument_array {N = N} {w = w} {v = v} {p = p} {
     ∷ (whole W (length N) ++ (a_sign sign_greater ∷ a_sign sign_left_bracket ∷ a_sign sign_right_bracket ∷ [])) =
     whole_at W _ _ first at in
     let b2 : List ℕ = (b ++ printed (a_name w)) ++ printed (a_sign sign_less) in
-    told_moved
+    reported_moved
     (ap (λ (ss : List Symbol). laid file b ss o2)
     (said
     ∙ ap (λ (ss : List Symbol). a_name w ∷ a_sign sign_less
     ∷ (ss ++ (a_sign sign_greater ∷ a_sign sign_left_bracket ∷ a_sign sign_right_bracket ∷ []))) argument))
-    (told_of
+    (reported_of
     (put (put M (TypeArgument (position_behind file b2) v)) (ClassType (position_behind file b) w (Some (length M)) true))
     (length (put M (TypeArgument (position_behind file b2) v))) (front-then (front-one _) (front-one _))
     (argument_array h)
@@ -123,35 +123,35 @@ type_again W first file M b o2 (argument_array {N = N} {w = w} {v = v} {p = p} {
 
 pub result_again : (W : List Node) → ChildrenFirst 0 W →
     (file : ℕ) (M : List Node) (b : List ℕ) (o2 : List Lexeme) {N N1 : List Node} {i o : List Lexeme} {id : ℕ} →
-    ResultRead N i N1 o id → Front N1 W → Told ResultRead W M (laid file b (whole W id) o2) o2 id
+    ResultRead N i N1 o id → Front N1 W → Reported ResultRead W M (laid file b (whole W id) o2) o2 id
 unfolding symbols_of_parts symbols_of_part own_symbols parts_of lexeme_at shape in_order children laid
 result_again W first file M b o2 (typed_result d) f = let a = type_again W first file M b o2 d f in
-    told_of a.nodes a.place a.grown (typed_result a.read) a.alike
+    reported_of a.nodes a.place a.grown (typed_result a.read) a.alike
 result_again W first file M b o2 (void_result {N = N} {p = p}) f =
     let at : slice_get W (length N) ≡ Some (VoidType p) = front-at _ _ f in
     let said : whole W (length N) ≡ a_word word_void ∷ [] = whole_at W _ _ first at in
-    told_moved (ap (λ (ss : List Symbol). laid file b ss o2) said)
-    (told_of (put M (VoidType (position_behind file b))) (length M) (front-one _) (void_result)
+    reported_moved (ap (λ (ss : List Symbol). laid file b ss o2) said)
+    (reported_of (put M (VoidType (position_behind file b))) (length M) (front-one _) (void_result)
     (λ V g. alike at (front-at _ _ g) refl none_alike))
 result_again W first file M b o2 (long_result {N = N} {p = p}) f =
     let at : slice_get W (length N) ≡ Some (LongType p) = front-at _ _ f in
     let said : whole W (length N) ≡ a_word word_long ∷ [] = whole_at W _ _ first at in
-    told_moved (ap (λ (ss : List Symbol). laid file b ss o2) said)
-    (told_of (put M (LongType (position_behind file b))) (length M) (front-one _) (long_result)
+    reported_moved (ap (λ (ss : List Symbol). laid file b ss o2) said)
+    (reported_of (put M (LongType (position_behind file b))) (length M) (front-one _) (long_result)
     (λ V g. alike at (front-at _ _ g) refl none_alike))
 
 -- ---- superclasses and interfaces
 
 pub super_again : (W : List Node) → ChildrenFirst 0 W →
     (file : ℕ) (M : List Node) (b : List ℕ) (o2 : List Lexeme) {N N1 : List Node} {i o : List Lexeme} {id : ℕ} →
-    SuperRead N i N1 o id → Front N1 W → Told SuperRead W M (laid file b (whole W id) o2) o2 id
+    SuperRead N i N1 o id → Front N1 W → Reported SuperRead W M (laid file b (whole W id) o2) o2 id
 unfolding symbols_of_parts symbols_of_part own_symbols parts_of argument_in_brackets lexeme_at shape in_order children
     laid
 super_again W first file M b o2 (super_type {N = N} {w = w} {p = p}) f =
     let at : slice_get W (length N) ≡ Some (SuperType p w None) = front-at _ _ f in
     let said : whole W (length N) ≡ a_name w ∷ [] = whole_at W _ _ first at in
-    told_moved (ap (λ (ss : List Symbol). laid file b ss o2) said)
-    (told_of (put M (SuperType (position_behind file b) w None)) (length M) (front-one _) (super_type)
+    reported_moved (ap (λ (ss : List Symbol). laid file b ss o2) said)
+    (reported_of (put M (SuperType (position_behind file b) w None)) (length M) (front-one _) (super_type)
     (λ V g. alike at (front-at _ _ g) refl none_alike))
 super_again W first file M b o2 (super_type_with_argument {N = N} {w = w} {v = v} {p = p} {r = r} h) f =
     let at : slice_get W (length (put N (TypeArgument r v))) ≡ Some (SuperType p w (Some (length N))) =
@@ -161,10 +161,10 @@ super_again W first file M b o2 (super_type_with_argument {N = N} {w = w} {v = v
     let said : whole W (length (put N (TypeArgument r v))) ≡ a_name w ∷ a_sign sign_less
     ∷ (whole W (length N) ++ (a_sign sign_greater ∷ [])) = whole_at W _ _ first at in
     let b2 : List ℕ = (b ++ printed (a_name w)) ++ printed (a_sign sign_less) in
-    told_moved
+    reported_moved
     (ap (λ (ss : List Symbol). laid file b ss o2)
     (said ∙ ap (λ (ss : List Symbol). a_name w ∷ a_sign sign_less ∷ (ss ++ (a_sign sign_greater ∷ []))) argument))
-    (told_of
+    (reported_of
     (put (put M (TypeArgument (position_behind file b2) v)) (SuperType (position_behind file b) w (Some (length M))))
     (length (put M (TypeArgument (position_behind file b2) v))) (front-then (front-one _) (front-one _))
     (super_type_with_argument h)

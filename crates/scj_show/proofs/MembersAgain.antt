@@ -16,7 +16,7 @@ use Rattle.scj_show.specs.Symbols.{Symbol, a_name, a_word, a_sign, a_number, can
 use Rattle.scj_show.specs.Placed.{printed, lexeme_at}
 use Rattle.scj_show.specs.Alike.{nowhere, there, counted, shape, in_order, alike, none_alike, one_alike}
 use Rattle.scj_show.proofs.Printing.{symbols_of_parts-append}
-use Rattle.scj_show.proofs.Again.{Front, front-none, front-one, front-then, front-put, front-at, whole, whole_at, laid, laid-append, arguments_of, each-put, Told, told_of, told_moved, AllAgain, all_again_of, all_moved, alike-put, counted-same, there-same, optional-alike}
+use Rattle.scj_show.proofs.Again.{Front, front-none, front-one, front-then, front-put, front-at, whole, whole_at, laid, laid-append, arguments_of, each-put, Reported, reported_of, reported_moved, AllAgain, all_again_of, all_moved, alike-put, counted-same, there-same, optional-alike}
 use Rattle.scj_show.proofs.ExpressionsAgain.{arguments_front, arguments_again}
 use Rattle.scj_show.proofs.HeadersAgain.{type_front, type_again, result_front, result_again}
 use Rattle.scj_show.proofs.Sources.{AreOfSource, behind, behind2, behind3}
@@ -73,42 +73,42 @@ class_front (class {N1 = N1} {flags = flags} d h m) =
 
 literal_again : (W : List Node) → ChildrenFirst 0 W →
     (file : ℕ) (M : List Node) (b : List ℕ) (o2 : List Lexeme) {N N1 : List Node} {i o : List Lexeme} {id : ℕ} →
-    LiteralRead N i N1 o id → Front N1 W → Told LiteralRead W M (laid file b (whole W id) o2) o2 id
+    LiteralRead N i N1 o id → Front N1 W → Reported LiteralRead W M (laid file b (whole W id) o2) o2 id
 unfolding symbols_of_parts symbols_of_part own_symbols parts_of sign_if_set lexeme_at shape in_order children laid
 literal_again W first file M b o2 (number_literal {N = N} {n = n} {p = p} h) f =
     let at : slice_get W (length N) ≡ Some (Number p n false) = front-at _ _ f in
     let said : whole W (length N) ≡ a_number n ∷ [] = whole_at W _ _ first at in
-    told_moved (ap (λ (ss : List Symbol). laid file b ss o2) said)
-    (told_of (put M (Number (position_behind file b) n false)) (length M) (front-one _) (number_literal h)
+    reported_moved (ap (λ (ss : List Symbol). laid file b ss o2) said)
+    (reported_of (put M (Number (position_behind file b) n false)) (length M) (front-one _) (number_literal h)
     (λ V g. alike at (front-at _ _ g) refl none_alike))
 literal_again W first file M b o2 (negative_literal {N = N} {n = n} {p = p}) f =
     let at : slice_get W (length N) ≡ Some (Number p n true) = front-at _ _ f in
     let said : whole W (length N) ≡ a_sign sign_minus ∷ a_number n ∷ [] = whole_at W _ _ first at in
-    told_moved (ap (λ (ss : List Symbol). laid file b ss o2) said)
-    (told_of (put M (Number (position_behind file b) n true)) (length M) (front-one _) (negative_literal)
+    reported_moved (ap (λ (ss : List Symbol). laid file b ss o2) said)
+    (reported_of (put M (Number (position_behind file b) n true)) (length M) (front-one _) (negative_literal)
     (λ V g. alike at (front-at _ _ g) refl none_alike))
 literal_again W first file M b o2 (true_literal {N = N} {p = p}) f =
     let at : slice_get W (length N) ≡ Some (True p) = front-at _ _ f in
     let said : whole W (length N) ≡ a_word word_true ∷ [] = whole_at W _ _ first at in
-    told_moved (ap (λ (ss : List Symbol). laid file b ss o2) said)
-    (told_of (put M (True (position_behind file b))) (length M) (front-one _) (true_literal)
+    reported_moved (ap (λ (ss : List Symbol). laid file b ss o2) said)
+    (reported_of (put M (True (position_behind file b))) (length M) (front-one _) (true_literal)
     (λ V g. alike at (front-at _ _ g) refl none_alike))
 literal_again W first file M b o2 (false_literal {N = N} {p = p}) f =
     let at : slice_get W (length N) ≡ Some (False p) = front-at _ _ f in
     let said : whole W (length N) ≡ a_word word_false ∷ [] = whole_at W _ _ first at in
-    told_moved (ap (λ (ss : List Symbol). laid file b ss o2) said)
-    (told_of (put M (False (position_behind file b))) (length M) (front-one _) (false_literal)
+    reported_moved (ap (λ (ss : List Symbol). laid file b ss o2) said)
+    (reported_of (put M (False (position_behind file b))) (length M) (front-one _) (false_literal)
     (λ V g. alike at (front-at _ _ g) refl none_alike))
 literal_again W first file M b o2 (null_literal {N = N} {p = p}) f =
     let at : slice_get W (length N) ≡ Some (Null p) = front-at _ _ f in
     let said : whole W (length N) ≡ a_word word_null ∷ [] = whole_at W _ _ first at in
-    told_moved (ap (λ (ss : List Symbol). laid file b ss o2) said)
-    (told_of (put M (Null (position_behind file b))) (length M) (front-one _) (null_literal)
+    reported_moved (ap (λ (ss : List Symbol). laid file b ss o2) said)
+    (reported_of (put M (Null (position_behind file b))) (length M) (front-one _) (null_literal)
     (λ V g. alike at (front-at _ _ g) refl none_alike))
 
 pub member_again : (W : List Node) → ChildrenFirst 0 W →
     (file : ℕ) (M : List Node) (b : List ℕ) (o2 : List Lexeme) {N N1 : List Node} {i o : List Lexeme} {id : ℕ} →
-    MemberRead N i N1 o id → AreOfSource i → Front N1 W → Told MemberRead W M (laid file b (whole W id) o2) o2 id
+    MemberRead N i N1 o id → AreOfSource i → Front N1 W → Reported MemberRead W M (laid file b (whole W id) o2) o2 id
 unfolding maybe_symbols parameter_symbols arguments_of in_parentheses symbols_of symbols_of_parts symbols_of_part
     own_symbols parts_of bare_parts field_parts method_parts constructor_parts super_call_parts block_end assigned
     body_or_semicolon body_with_call lexeme_at begins_unary1 is_unary1_start begins_with_word shape in_order children
@@ -132,8 +132,8 @@ member_again W first file M b o2 (field {N1 = N1} {N2 = N2} {flags = flags} {t =
     (Whole t ∷ Named w ∷ Sign sign_semicolon ∷ []) in
     let same : laid file b (whole W (length (N2))) o2 ≡ t0 = ap (λ (ss : List Symbol). laid file b ss o2) said
     ∙ simp laid-append in
-    told_moved same
-    (told_of (put a2.nodes (Field (position_behind file b2) w (flags_number a1.nodes a1.flags) a2.place None None))
+    reported_moved same
+    (reported_of (put a2.nodes (Field (position_behind file b2) w (flags_number a1.nodes a1.flags) a2.place None None))
     (length a2.nodes)
     (front-then a1.grown (front-then (flags_front a1.nodes a1.flags) (front-then a2.grown (front-one _))))
     (field a1.read a2.read) (λ V g. let fs = a1.alike V (front-then a2.grown (front-put _ _ g)) in
@@ -171,8 +171,8 @@ member_again W first file M b o2
     (Whole t ∷ Named w ∷ Sign sign_assign ∷ Whole v ∷ Sign sign_semicolon ∷ []) in
     let same : laid file b (whole W (length (N3))) o2 ≡ t0 = ap (λ (ss : List Symbol). laid file b ss o2) said
     ∙ simp laid-append in
-    told_moved same
-    (told_of
+    reported_moved same
+    (reported_of
     (put a3.nodes
     (Field (position_behind file b2) w (flags_number a1.nodes a1.flags) a2.place (Some (position_behind file b3))
     (Some a3.place))) (length a3.nodes)
@@ -215,8 +215,8 @@ member_again W first file M b o2
     (append_assoc (whole W t) (a_name w ∷ []) (parameter_symbols W ps ++ a_sign sign_semicolon ∷ [])) in
     let same : laid file b (whole W (length (N3))) o2 ≡ t0 = ap (λ (ss : List Symbol). laid file b ss o2) said
     ∙ simp laid-append in
-    told_moved same
-    (told_of
+    reported_moved same
+    (reported_of
     (put a3.nodes (Method (position_behind file b2) w (flags_number a1.nodes a1.flags) a2.place a3.place None))
     (length a3.nodes)
     (front-then a1.grown
@@ -279,8 +279,8 @@ member_again W first file M b o2
     ++ (whole W t ++ (a_name w ∷ (parameter_symbols W ps ++ ss)))) (append-nil (whole W (length N4)) ∙ block) in
     let same : laid file b (whole W (length (put N4 (Block q ids)))) o2 ≡ t0 =
     ap (λ (ss : List Symbol). laid file b ss o2) said ∙ simp laid-append in
-    told_moved same
-    (told_of
+    reported_moved same
+    (reported_of
     (put M4 (Method (position_behind file b2) w (flags_number a1.nodes a1.flags) a2.place a3.place
     (Some (length a4.nodes)))) (length M4)
     (front-then a1.grown
@@ -339,8 +339,8 @@ member_again W first file M b o2
     ++ (a_name w ∷ (parameter_symbols W ps ++ ss))) (append-nil (whole W (length N3)) ∙ block) in
     let same : laid file b (whole W (length (put N3 (Block q ids)))) o2 ≡ t0 =
     ap (λ (ss : List Symbol). laid file b ss o2) said ∙ simp laid-append in
-    told_moved same
-    (told_of
+    reported_moved same
+    (reported_of
     (put M4 (Constructor (position_behind file b1) w (flags_number a1.nodes a1.flags) a3.place None (length a4.nodes)))
     (length M4)
     (front-then a1.grown
@@ -432,8 +432,8 @@ member_again W first file M b o2
     (append-nil (bare W (length N4)) ∙ rest)) in
     let same : laid file b (whole W (length (put N4 (Block q ids)))) o2 ≡ t0 =
     ap (λ (ss : List Symbol). laid file b ss o2) said ∙ simp laid-append in
-    told_moved same
-    (told_of
+    reported_moved same
+    (reported_of
     (put M4 (Constructor (position_behind file b1) w (flags_number a1.nodes a1.flags) a3.place (Some (length a5.nodes))
     (length a4.nodes))) (length M4)
     (front-then a1.grown
@@ -476,7 +476,7 @@ members_again W first file M b o2 (one_member_more {ids = ids} {id = id} d1 d2) 
 
 pub class_again : (W : List Node) → ChildrenFirst 0 W →
     (file : ℕ) (M : List Node) (b : List ℕ) (o2 : List Lexeme) {N N1 : List Node} {i o : List Lexeme} {id : ℕ} →
-    ClassRead N i N1 o id → AreOfSource i → Front N1 W → Told ClassRead W M (laid file b (whole W id) o2) o2 id
+    ClassRead N i N1 o id → AreOfSource i → Front N1 W → Reported ClassRead W M (laid file b (whole W id) o2) o2 id
 unfolding maybe_symbols symbols_of symbols_of_parts symbols_of_part own_symbols parts_of class_parts lexeme_at shape
     in_order children laid
 class_again W first file M b o2
@@ -536,8 +536,8 @@ class_again W first file M b o2
     (symbols_of W ids ++ a_sign sign_right_brace ∷ []) o2
     ∙ ap (λ (x : List Lexeme). laid file b3 (maybe_symbols W header ++ a_sign sign_left_brace ∷ []) x)
     (laid-append file b4 (symbols_of W ids) (a_sign sign_right_brace ∷ []) o2)) in
-    told_moved same
-    (told_of (put a3.nodes (Class (position_behind file b2) w (flags_number a1.nodes a1.flags) a2.place a3.places))
+    reported_moved same
+    (reported_of (put a3.nodes (Class (position_behind file b2) w (flags_number a1.nodes a1.flags) a2.place a3.places))
     (length a3.nodes)
     (front-then a1.grown
     (front-then (flags_front a1.nodes a1.flags) (front-then a2.grown (front-then a3.grown (front-one _)))))

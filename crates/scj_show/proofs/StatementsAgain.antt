@@ -23,7 +23,7 @@ use Rattle.scj_show.specs.Symbols.{Symbol, a_name, a_word, a_sign, canonical, ow
 use Rattle.scj_show.specs.Placed.{printed, lexeme_at}
 use Rattle.scj_show.specs.Alike.{nowhere, Alike, shape, in_order, alike, none_alike, one_alike}
 use Rattle.scj_show.proofs.Printing.{symbols_of_parts-append}
-use Rattle.scj_show.proofs.Again.{Front, front-none, front-one, front-then, front-put, front-at, whole, whole_at, laid, laid-append, each-put, Told, told_of, told_moved, AllAgain, all_again_of, all_moved, alike-put, counted-same, MaybeAlike, both_missing, there-same, optional-alike}
+use Rattle.scj_show.proofs.Again.{Front, front-none, front-one, front-then, front-put, front-at, whole, whole_at, laid, laid-append, each-put, Reported, reported_of, reported_moved, AllAgain, all_again_of, all_moved, alike-put, counted-same, MaybeAlike, both_missing, there-same, optional-alike}
 use Rattle.scj_show.proofs.ExpressionsAgain.{level_front, post_front, level_again, post_again}
 use Rattle.scj_show.proofs.HeadersAgain.{type_front, type_again}
 use Rattle.scj_show.proofs.Sources.{AreOfSource, behind, behind2}
@@ -192,7 +192,7 @@ local_from M i2 N1 t1 flags N2 o2 t row d (inl k) =
     (subst (λ (N : List Node). TypeRead N t1 N2 o2 t) k.nodes e) in
     subst (λ (f : FlagSet). LocalTypeRead M i2 N2 o2 (flags_number N1 f) t) (sym k.none) (plain_local at)
 
-record LocalTold (W M : List Node) (i2 o2 : List Lexeme) (flags : Option ℕ) (t : ℕ) : Type 0 where
+record LocalReported (W M : List Node) (i2 o2 : List Lexeme) (flags : Option ℕ) (t : ℕ) : Type 0 where
   nodes : List Node
   number : Option ℕ
   place : ℕ
@@ -204,7 +204,7 @@ record LocalTold (W M : List Node) (i2 o2 : List Lexeme) (flags : Option ℕ) (t
 local_type_again : (W : List Node) → ChildrenFirst 0 W →
     (file : ℕ) (M : List Node) (b : List ℕ) (o2 : List Lexeme) {N N1 : List Node} {i o : List Lexeme} {flags : Option ℕ}
     {t : ℕ} → LocalTypeRead N i N1 o flags t → AreOfSource i → Front N1 W →
-    LocalTold W M
+    LocalReported W M
     (laid file b (maybe_symbols W flags) (laid file (b ++ canonical (maybe_symbols W flags)) (whole W t) o2)) o2 flags t
 unfolding maybe_symbols maybe symbols_of_parts laid canonical
 local_type_again W first file M b o2 (plain_local d) src f =
@@ -245,7 +245,7 @@ mutual
   pub statement_again : (W : List Node) → ChildrenFirst 0 W →
       (file : ℕ) (M : List Node) (b : List ℕ) (o2 : List Lexeme) {N N1 : List Node} {i o : List Lexeme} {id : ℕ} →
       StatementRead N i N1 o id → AreOfSource i → Front N1 W → (Starts o → Starts o2) →
-      Told StatementRead W M (laid file b (whole W id) o2) o2 id
+      Reported StatementRead W M (laid file b (whole W id) o2) o2 id
   statement_again W first file M b o2 (block {N1 = N1} {ids = ids} {p = p} d) src f h =
       let at : slice_get W (length N1) ≡ Some (Block p ids) = front-at _ _ f in
       let opened : whole W (length N1) ≡ a_sign sign_left_brace
@@ -262,7 +262,7 @@ mutual
       (symbols_of_parts-append (written W) (each ids) (Sign sign_right_brace ∷ [])) in
       let same : laid file b (whole W (length N1)) o2 ≡ t0 = ap (λ (ss : List Symbol). laid file b ss o2) said
       ∙ simp laid-append in
-      told_moved same (told_of (put a1.nodes made) (length a1.nodes) (front-then a1.grown (front-one _)) (block a1.read)
+      reported_moved same (reported_of (put a1.nodes made) (length a1.nodes) (front-then a1.grown (front-one _)) (block a1.read)
       (λ V g. let all = a1.alike V (front-put _ _ g) in
       alike at (front-at _ _ g) (ap (λ (t : List ℕ). Block nowhere t) (counted-same all)) all))
   statement_again W first file M b o2 (empty {N = N} {p = p}) src f h =
@@ -271,8 +271,8 @@ mutual
       let made : Node = Empty (position_behind file b) in
       let said : whole W (length N) ≡ a_sign sign_semicolon ∷ ([]) = whole_at W _ _ first at in
       let same : laid file b (whole W (length N)) o2 ≡ t0 = ap (λ (ss : List Symbol). laid file b ss o2) said in
-      told_moved same
-      (told_of (put M made) (length M) (front-one _) (empty) (λ V g. alike at (front-at _ _ g) refl none_alike))
+      reported_moved same
+      (reported_of (put M made) (length M) (front-one _) (empty) (λ V g. alike at (front-at _ _ g) refl none_alike))
   statement_again W first file M b o2 (local {N1 = N1} {flags = flags} {t = t} {w = w} {p = p} d) src f h =
       let at : slice_get W (length N1) ≡ Some (Local p w flags t) = front-at _ _ f in
       let opened : whole W (length N1) ≡ symbols_of_parts (written W)
@@ -291,7 +291,7 @@ mutual
       opened ∙ symbols_of_parts-append (written W) (maybe flags) (Whole t ∷ Named w ∷ Sign sign_semicolon ∷ []) in
       let same : laid file b (whole W (length N1)) o2 ≡ t0 = ap (λ (ss : List Symbol). laid file b ss o2) said
       ∙ simp laid-append in
-      told_moved same (told_of (put a1.nodes made) (length a1.nodes) (front-then a1.grown (front-one _)) (local a1.read)
+      reported_moved same (reported_of (put a1.nodes made) (length a1.nodes) (front-then a1.grown (front-one _)) (local a1.read)
       (λ V g. let fs = a1.same_flags V (front-put _ _ g) in
       alike at (front-at _ _ g) (ap (λ (x : Option ℕ). Local nowhere w x 0) (there-same fs))
       (optional-alike fs (one_alike (a1.same_type V (front-put _ _ g)) none_alike))))
@@ -321,8 +321,8 @@ mutual
       ∷ Sign sign_semicolon ∷ []) in
       let same : laid file b (whole W (length N2)) o2 ≡ t0 = ap (λ (ss : List Symbol). laid file b ss o2) said
       ∙ simp laid-append in
-      told_moved same
-      (told_of (put a2.nodes made) (length a2.nodes) (front-then a1.grown (front-then a2.grown (front-one _)))
+      reported_moved same
+      (reported_of (put a2.nodes made) (length a2.nodes) (front-then a1.grown (front-then a2.grown (front-one _)))
       (local_with_value a1.read a2.read) (λ V g. let fs = a1.same_flags V (front-then a2.grown (front-put _ _ g)) in
       alike at (front-at _ _ g) (ap (λ (x : Option ℕ). LocalWithValue nowhere nowhere w x 0 0) (there-same fs))
       (optional-alike fs
@@ -334,7 +334,7 @@ mutual
       let a = assignment_again W first file M b t1 d f refl in
       let same : laid file b (whole W id) o2 ≡ laid file b (bare W id) t1 =
       ap (λ (ss : List Symbol). laid file b ss o2) (assignment_statement first d f) ∙ simp laid-append in
-      told_moved same (told_of a.nodes a.place a.grown (assign_statement a.read) a.alike)
+      reported_moved same (reported_of a.nodes a.place a.grown (assign_statement a.read) a.alike)
   statement_again W first file M b o2 (call_statement {N1 = N1} {e = e} {p = p} d) src f h =
       let at : slice_get W (length N1) ≡ Some (ExpressionStatement p e) = front-at _ _ f in
       let b1 : List ℕ = b ++ canonical (whole W e) in
@@ -345,8 +345,8 @@ mutual
       let said : whole W (length N1) ≡ whole W e ++ (a_sign sign_semicolon ∷ ([])) = whole_at W _ _ first at in
       let same : laid file b (whole W (length N1)) o2 ≡ t0 = ap (λ (ss : List Symbol). laid file b ss o2) said
       ∙ simp laid-append in
-      told_moved same
-      (told_of (put a1.nodes made) (length a1.nodes) (front-then a1.grown (front-one _))
+      reported_moved same
+      (reported_of (put a1.nodes made) (length a1.nodes) (front-then a1.grown (front-one _))
       (call_statement a1.read.read)
       (λ V g. alike at (front-at _ _ g) refl (one_alike (a1.alike V (front-put _ _ g)) none_alike)))
   statement_again W first file M b o2 (if_alone {N1 = N1} {N2 = N2} {c = c} {s = s} {p = p} d1 d2 e) src f h =
@@ -369,8 +369,8 @@ mutual
       whole_at W _ _ first at in
       let same : laid file b (whole W (length N2)) o2 ≡ t0 = ap (λ (ss : List Symbol). laid file b ss o2) said
       ∙ simp laid-append in
-      told_moved same
-      (told_of (put a2.nodes made) (length a2.nodes) (front-then a1.grown (front-then a2.grown (front-one _)))
+      reported_moved same
+      (reported_of (put a2.nodes made) (length a2.nodes) (front-then a1.grown (front-then a2.grown (front-one _)))
       (if_alone a1.read a2.read (h e))
       (λ V g. alike at (front-at _ _ g) refl
       (one_alike (a1.alike V (front-then a2.grown (front-put _ _ g)))
@@ -406,8 +406,8 @@ mutual
       whole_at W _ _ first at in
       let same : laid file b (whole W (length N3)) o2 ≡ t0 = ap (λ (ss : List Symbol). laid file b ss o2) said
       ∙ simp laid-append in
-      told_moved same
-      (told_of (put a3.nodes made) (length a3.nodes)
+      reported_moved same
+      (reported_of (put a3.nodes made) (length a3.nodes)
       (front-then a1.grown (front-then a2.grown (front-then a3.grown (front-one _))))
       (if_else a1.read a2.read a3.read)
       (λ V g. alike at (front-at _ _ g) refl
@@ -434,8 +434,8 @@ mutual
       whole_at W _ _ first at in
       let same : laid file b (whole W (length N2)) o2 ≡ t0 = ap (λ (ss : List Symbol). laid file b ss o2) said
       ∙ simp laid-append in
-      told_moved same
-      (told_of (put a2.nodes made) (length a2.nodes) (front-then a1.grown (front-then a2.grown (front-one _)))
+      reported_moved same
+      (reported_of (put a2.nodes made) (length a2.nodes) (front-then a1.grown (front-then a2.grown (front-one _)))
       (while_statement a1.read a2.read)
       (λ V g. alike at (front-at _ _ g) refl
       (one_alike (a1.alike V (front-then a2.grown (front-put _ _ g)))
@@ -519,8 +519,8 @@ mutual
       ∙ ap (λ (ss : List Symbol). a_word word_for ∷ a_sign sign_left_parenthesis ∷ ss) flat in
       let same : laid file b (whole W (length N5)) o2 ≡ t0 = ap (λ (ss : List Symbol). laid file b ss o2) said
       ∙ simp laid-append in
-      told_moved same
-      (told_of (put a5.nodes made) (length a5.nodes)
+      reported_moved same
+      (reported_of (put a5.nodes made) (length a5.nodes)
       (front-then a1.grown
       (front-then a2.grown
       (front-then (front-one _) (front-then a3.grown (front-then a4.grown (front-then a5.grown (front-one _)))))))
@@ -594,8 +594,8 @@ mutual
       (append_assoc (bare W z) (a_sign sign_semicolon ∷ []) _) in
       let same : laid file b (whole W (length N4)) o2 ≡ t0 = ap (λ (ss : List Symbol). laid file b ss o2) said
       ∙ simp laid-append in
-      told_moved same
-      (told_of (put a4.nodes made) (length a4.nodes)
+      reported_moved same
+      (reported_of (put a4.nodes made) (length a4.nodes)
       (front-then a1.grown (front-then a2.grown (front-then a3.grown (front-then a4.grown (front-one _)))))
       (for_assignment a1.read a2.read a3.read a4.read)
       (λ V g. alike at (front-at _ _ g) refl
@@ -611,8 +611,8 @@ mutual
       let made : Node = Return (position_behind file b) None in
       let said : whole W (length N) ≡ a_word word_return ∷ (a_sign sign_semicolon ∷ ([])) = whole_at W _ _ first at in
       let same : laid file b (whole W (length N)) o2 ≡ t0 = ap (λ (ss : List Symbol). laid file b ss o2) said in
-      told_moved same
-      (told_of (put M made) (length M) (front-one _) (return_alone)
+      reported_moved same
+      (reported_of (put M made) (length M) (front-one _) (return_alone)
       (λ V g. alike at (front-at _ _ g) refl none_alike))
   statement_again W first file M b o2 (return_value {N1 = N1} {e = e} {p = p} d) src f h =
       let at : slice_get W (length N1) ≡ Some (Return p (Some e)) = front-at _ _ f in
@@ -627,8 +627,8 @@ mutual
       whole_at W _ _ first at in
       let same : laid file b (whole W (length N1)) o2 ≡ t0 = ap (λ (ss : List Symbol). laid file b ss o2) said
       ∙ simp laid-append in
-      told_moved same
-      (told_of (put a1.nodes made) (length a1.nodes) (front-then a1.grown (front-one _)) (return_value a1.read)
+      reported_moved same
+      (reported_of (put a1.nodes made) (length a1.nodes) (front-then a1.grown (front-one _)) (return_value a1.read)
       (λ V g. alike at (front-at _ _ g) refl (one_alike (a1.alike V (front-put _ _ g)) none_alike)))
 
   pub statements_again : (W : List Node) → ChildrenFirst 0 W →

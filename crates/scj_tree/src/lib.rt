@@ -19,4 +19,4 @@ pub use nodes::Node;
 pub use parts::{Parts, parts_of};
 pub use programs::Program;
 pub use readings::{FlagSet, PostKind};
-pub use rows::told;
+pub use rows::row_or;

@@ -31,7 +31,7 @@ use Rattle.scope_flow.proofs.FlowTools.{Behind, FlowsBelow, statement, join2}
 pub returns_at : (p : Declarations) (id : ℕ) (n : Node) → slice_get p.nodes id ≡ Some n →
     always_returns p id ≡ returns_of p.nodes (below false id (always_returns p)) n
 returns_at p id n there =
-    by_smaller-is false (λ (x : ℕ) (told : ℕ → Bool). holds (slice_get p.nodes x) (returns_of p.nodes told)) id
+    by_smaller-is false (λ (x : ℕ) (reported : ℕ → Bool). holds (slice_get p.nodes x) (returns_of p.nodes reported)) id
     ∙ ap (λ o. holds o (returns_of p.nodes (below false id (always_returns p)))) there
 
 -- a node that declares no variable

@@ -7,7 +7,7 @@ use Rattle.scj_model.specs.declared.plans.Fire.{Fire}
 use Rattle.scj_model.specs.Code.{Code}
 use Rattle.scj_model.specs.Plan.{Plan}
 use Rattle.scj_model.specs.State.{Release, Waits, State, is_over}
-use Rattle.scj_model.specs.Steps.{Step, silently, telling, for_each}
+use Rattle.scj_model.specs.Steps.{Step, silently, reporting, for_each}
 use Rattle.scj_model.specs.Apply.{release_taken, releases_of, waiting_of, most_waiting}
 use Rattle.scj_model.specs.Arrivals.{executes_since, arrivals, due_handlers, fired, fired_at, fired_handler, fires_due}
 use Rattle.scj_model.specs.Run.{empty_state}
@@ -41,7 +41,7 @@ taken_still s handler =
     taken = record { handler = handler; number = length (releases_of s handler) + 1; status = Waits }
 
     go : (b : Bool) (es fs : List Event) → StandsStill s
-        (if b then telling s es else telling (record s { releases = s.releases ++ taken ∷ [] }) fs).state
+        (if b then reporting s es else reporting (record s { releases = s.releases ++ taken ∷ [] }) fs).state
     go true es fs = record { activity = refl; phase = refl }
     go false es fs = record { activity = refl; phase = refl }
 
@@ -63,7 +63,7 @@ module _ (code : Code) where
     where
       go : (o : Option ℕ) (events : List Event) → StandsStill s (elim o as (λ z. Step) [
         | Some handler ↦ release_taken s handler
-        | None ↦ telling s events
+        | None ↦ reporting s events
       ]).state
       go None events = record { activity = refl; phase = refl }
       go (Some handler) events = taken_still s handler

@@ -7,7 +7,7 @@ use Rattle.scj_model.specs.declared.plans.ReadingRow.{ReadingRow}
 use Rattle.scj_model.specs.Code.{Code}
 use Rattle.scj_model.specs.Plan.{Plan}
 use Rattle.scj_model.specs.State.{Job, TheSequencer, ReleaseAt, State, is_exec, is_over, Turn, IdleTurn, TurnOf}
-use Rattle.scj_model.specs.Steps.{Step, silently, telling, then_try}
+use Rattle.scj_model.specs.Steps.{Step, silently, reporting, then_try}
 use Rattle.scj_model.specs.Choice.{Candidate, candidate, candidates, may_act, by_list}
 use Rattle.scj_model.specs.Run.{acts, ref_op, sequencer_turn, turn_acts, turn_taken, with_turn}
 use Rattle.scj_model.specs.Reached.{Moment, Between, Arrived, Operated, Reached}
@@ -69,14 +69,14 @@ module _ (code : Code) (facts : HasFacts code) (operates : AllOperate code) wher
             x.after;
       }
 
-  told_leads : (first : Step) (o : Option Step) → Lead o →
-      Lead (option_map (λ (second : Step). telling second.state (first.events ++ second.events)) o)
-  told_leads first None x = record { is = λ step e. absurd (cc (e)) }
-  told_leads first (Some second) x =
+  reported_leads : (first : Step) (o : Option Step) → Lead o →
+      Lead (option_map (λ (second : Step). reporting second.state (first.events ++ second.events)) o)
+  reported_leads first None x = record { is = λ step e. absurd (cc (e)) }
+  reported_leads first (Some second) x =
       record {
         is = λ step e.
             subst (λ (y : Step). SoundAfter code y.state)
-            (some_step (telling second.state (first.events ++ second.events)) step e) (x.is second refl);
+            (some_step (reporting second.state (first.events ++ second.events)) step e) (x.is second refl);
       }
 
   named_may_act : (s : State) (index : ℕ) → is_exec s.phase ≡ true → may_act s index ≡ true →
@@ -90,14 +90,14 @@ module _ (code : Code) (facts : HasFacts code) (operates : AllOperate code) wher
         Lead (then_try (turn_taken s turn) (turn_acts code rows turn))
     unfolding turn_taken turn_acts
     turn_leads IdleTurn exec may =
-        told_leads (turn_taken s IdleTurn) (Some (silently (with_turn s IdleTurn)))
+        reported_leads (turn_taken s IdleTurn) (Some (silently (with_turn s IdleTurn)))
         (record {
           is = λ step e.
               subst (λ (y : Step). SoundAfter code y.state) (some_step (silently (with_turn s IdleTurn)) step e)
               (rested (with_turn s IdleTurn) (turned s IdleTurn sound));
         })
     turn_leads (TurnOf index) exec may =
-        told_leads (turn_taken s (TurnOf index)) (ref_op code rows (with_turn s (TurnOf index)) (ReleaseAt index))
+        reported_leads (turn_taken s (TurnOf index)) (ref_op code rows (with_turn s (TurnOf index)) (ReleaseAt index))
         (leads _ (operates rows (with_turn s (TurnOf index)) (ReleaseAt index) (turned s (TurnOf index) sound)
         (named_may_act s index exec (may index refl))))
 

@@ -16,10 +16,10 @@ passed_here next a scope left l h = grind (arith, nat_tests, chain_here next lef
 
 -- rows that are made number after number, and no rows at all
 pub rows_listed : {A : Type 0} (f : ℕ → A) (rows : List A) (n : ℕ) → rows ≡ listed f n → AreRowsOf f rows
-rows_listed {A} f rows n e = record { told = told }
+rows_listed {A} f rows n e = record { reported = reported }
   where
-    told : (k : ℕ) (row : A) → slice_get rows k ≡ Some row → row ≡ f k
-    told k row h =
+    reported : (k : ℕ) (row : A) → slice_get rows k ≡ Some row → row ≡ f k
+    reported k row h =
         let inside = slice_get_within rows k row h in
         let here = get_or_from_slice_get rows k row row h in
         let same = ap (λ (xs : List A). lookup row xs k) e in

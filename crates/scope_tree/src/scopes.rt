@@ -61,7 +61,7 @@ pub(crate) fn find_parent(facts: &Facts, class: ClassId) -> Option<ScopeId>
 pub fn defined_by_chain(facts: &Facts, class: ClassId) -> Option<ScopeId>
     ensures { result ≡ defined_by_chain (declarations_of facts.now) class }
 {
-    match facts.class_told(class.number()) {
+    match facts.class_reported(class.number()) {
         Some(row) => row.chained,
         None => find_chained(facts, class),
     }
@@ -72,7 +72,7 @@ pub fn defined_by_chain(facts: &Facts, class: ClassId) -> Option<ScopeId>
 pub fn parent_scope(facts: &Facts, scope: ScopeId) -> Option<ScopeId>
     ensures { result ≡ parent_scope (declarations_of facts.now) scope }
 {
-    match facts.class_told(scope.number()) {
+    match facts.class_reported(scope.number()) {
         Some(row) => row.parent,
         None => find_parent(facts, ClassId::at(scope.number())),
     }
@@ -83,7 +83,7 @@ pub fn parent_scope(facts: &Facts, scope: ScopeId) -> Option<ScopeId>
 pub fn class_scope(facts: &Facts, class: ClassId) -> ClassScope
     ensures { result ≡ class_scope (declarations_of facts.now) class }
 {
-    match facts.class_told(class.number()) {
+    match facts.class_reported(class.number()) {
         Some(row) => row.scope,
         None => find_class_scope(facts, class),
     }
@@ -94,7 +94,7 @@ pub fn class_scope(facts: &Facts, class: ClassId) -> ClassScope
 pub fn is_implied_immortal(facts: &Facts, class: ClassId) -> bool
     ensures { result ≡ is_implied_immortal (declarations_of facts.now) class }
 {
-    if let Some(mark) = facts.implied_told(class) {
+    if let Some(mark) = facts.implied_reported(class) {
         return mark;
     }
     let classes = facts.classes();

@@ -77,6 +77,6 @@ abbrev pub IsOutside : ℕ → Type 0
 IsOutside n = (n < 1) ⊎ (250 < n)
 
 -- the size that is refused is the one that was asked for
-abbrev pub TellsOwnSize : ℕ → GenError → Type 0
-TellsOwnSize n (Size m) = m ≡ n
-TellsOwnSize n Memory = Unit {0}
+abbrev pub ReportsOwnSize : ℕ → GenError → Type 0
+ReportsOwnSize n (Size m) = m ≡ n
+ReportsOwnSize n Memory = Unit {0}

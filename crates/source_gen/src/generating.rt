@@ -1,7 +1,7 @@
 //! The generated program, part by part.
 
 ghost use Rattle.std.specs.Prelude.{◌≡◌, ◌+◌, ◌*◌, ◌≤◌, ◌<◌, ◌↔◌, ◌++◌, IfOk, IfErr, OnOk, Err, length};
-ghost use Rattle.source_gen.specs.Generated.{safelet_lines, mission_lines, handler_head, handler_lines, print_line, class_line, up_to, source_of, plan_of, IsOutside, TellsOwnSize};
+ghost use Rattle.source_gen.specs.Generated.{safelet_lines, mission_lines, handler_head, handler_lines, print_line, class_line, up_to, source_of, plan_of, IsOutside, ReportsOwnSize};
 
 use crate::sizes::GenError;
 use scj_base::Memory;
@@ -145,7 +145,7 @@ pub fn generate(alloc: Global, n: u32) -> Result<(Vec<u8>, Vec<u8>), GenError>
     ensures short { IfOk result (λ texts. length texts.0.items ≤ 1048576) }
     ensures plan { IfOk result (λ texts. texts.1.items ≡ plan_of n) }
     ensures size { (result ≡ Err (GenError.Size n)) ↔ IsOutside n }
-    ensures own_size { IfErr result (TellsOwnSize n) }
+    ensures own_size { IfErr result (ReportsOwnSize n) }
 {
     if n < 1 {
         return Err(GenError::Size { n });

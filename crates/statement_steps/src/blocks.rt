@@ -5,7 +5,7 @@ ghost use Rattle.parser_machine.specs.Blocks.{block_ended, first_start, local_en
 ghost use Rattle.parser_machine.specs.Operands.{operand_start};
 ghost use Rattle.parser_machine.specs.declared.entries.Entry.TheVariants.{ForHead, IfTest, IndexOpen, Target, WhileTest};
 ghost use Rattle.parser_machine.specs.declared.modes.Mode.TheVariants.{ForFirst, Operand};
-ghost use Rattle.parser_nodes.specs.Told.{gives, seen};
+ghost use Rattle.parser_nodes.specs.Reported.{gives, seen};
 ghost use Rattle.scj_tree.specs.Lexemes.{a_sign};
 ghost use Rattle.scj_tree.specs.Nodes.{put};
 ghost use Rattle.scj_tree.specs.declared.nodes.Node.TheVariants.{SimpleName};

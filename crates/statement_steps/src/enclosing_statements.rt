@@ -2,7 +2,7 @@
 
 ghost use Rattle.std.specs.Prelude.{◌≡◌};
 ghost use Rattle.parser_machine.specs.Members.{is_else as begins_else};
-ghost use Rattle.parser_nodes.specs.Told.{seen};
+ghost use Rattle.parser_nodes.specs.Reported.{seen};
 ghost use Rattle.statement_steps.specs.Enclosing.{enclosing as enclosing_node};
 
 use parser_machine::Entry;

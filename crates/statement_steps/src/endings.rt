@@ -3,7 +3,7 @@
 ghost use Rattle.std.specs.Prelude.{◌≡◌, ◌∷◌};
 ghost use Rattle.parser_machine.specs.Members.{class_ended, member_ended, members_step, statement_ended};
 ghost use Rattle.parser_machine.specs.declared.entries.Entry.TheVariants.{BlockOpen, ClassBody, ConstructorBody, MethodBody};
-ghost use Rattle.parser_nodes.specs.Told.{gives, seen};
+ghost use Rattle.parser_nodes.specs.Reported.{gives, seen};
 ghost use Rattle.std.specs.Prelude.{None};
 ghost use Rattle.statement_steps.specs.Enclosing.{enclosing as enclosing_node};
 

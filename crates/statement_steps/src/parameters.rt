@@ -5,7 +5,7 @@ ghost use Rattle.parser_machine.specs.Blocks.{statements_step};
 ghost use Rattle.parser_machine.specs.Declarations.{flags_step};
 ghost use Rattle.parser_machine.specs.Members.{body_step, constructor_start_step, parameter_end_step, parameter_ended, parameters_end_step, parameters_first_step, super_end_step, super_open_step};
 ghost use Rattle.parser_machine.specs.declared.entries.Entry.TheVariants.{BlockOpen, MethodOpen, ParametersOpen};
-ghost use Rattle.parser_nodes.specs.Told.{gives, seen};
+ghost use Rattle.parser_nodes.specs.Reported.{gives, seen};
 ghost use Rattle.scj_tree.specs.Terminals.{no_flags};
 ghost use Rattle.std.specs.Prelude.{[], false};
 

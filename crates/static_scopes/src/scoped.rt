@@ -32,7 +32,7 @@ pub fn runs_in(facts: &Facts, method: &MethodRef) -> Option<Scope>
 {
     if let MethodSource::Declared(node) = &method.source {
         if is_method(facts.program(), *node) {
-            if let Some(row) = facts.member_told(method.on, *node) {
+            if let Some(row) = facts.member_reported(method.on, *node) {
                 return row;
             }
         }
@@ -120,7 +120,7 @@ pub fn field_scope(facts: &Facts, field: &FieldRef) -> Option<Scope>
         result ≡ field_scope (declarations_of facts.now) f.on f.field }
 {
     if !is_method(facts.program(), field.node) && is_field(facts.program(), field.node) {
-        if let Some(row) = facts.member_told(field.on, field.node) {
+        if let Some(row) = facts.member_reported(field.on, field.node) {
             return row;
         }
     }
@@ -164,7 +164,7 @@ fn find_variable_scope(facts: &Facts, id: NodeId) -> Option<Scope>
 pub fn variable_scope(facts: &Facts, id: NodeId) -> Option<Scope>
     ensures { result ≡ variable_scope_at (declarations_of facts.now) id }
 {
-    match facts.variable_told(id) {
+    match facts.variable_reported(id) {
         Some(scope) => Some(scope),
         None => find_variable_scope(facts, id),
     }

@@ -1,4 +1,4 @@
 pub mod LevelLemmas
 pub mod LookLemmas
 pub mod OpenLemmas
-pub mod ToldLemmas
+pub mod ReportedLemmas

@@ -211,7 +211,7 @@ module _ (forest : Forest) (scope : Scope) (s : IsScope forest scope) where
       let theirs = first_passes nodes left name above m.0 in
       let value = value_any (passes nodes left) (is_at (slice_cmp nat_cmp name)) scope.above.methods.abstracts.entries
       m.0 in
-      let abstracts = s.above.methods.told.abstracts name in
+      let abstracts = s.above.methods.reported.abstracts name in
       grind (arith, common_steps, m.1, m.2, h, parts, mine, theirs, value, abstracts, s.above.methods.nearest name)
 
   abbrev own_nodes_left : Bool

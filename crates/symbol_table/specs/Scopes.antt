@@ -1,5 +1,5 @@
 -- What a table keeps: a class, those above it, and the members of those.
-pub use Rattle.class_rows.specs.Members.{rows_of, is_abstract, is_told, AreNamed, IsSplit}
+pub use Rattle.class_rows.specs.Members.{rows_of, is_abstract, is_reported, AreNamed, IsSplit}
 use Rattle.std.specs.Prelude.{◌≡◌, ℕ, ◌<◌, Bool, true, false, not, ◌&&◌, List, [], ◌∷◌, length, map, filter, All, Option, None, Some, if◌then◌else◌}
 use Rattle.scj_builtins.specs.Framework.{object}
 use Rattle.scj_tree.specs.declared.nodes.Node.{Node}
@@ -49,16 +49,16 @@ abbrev pub with_class : Bool → ℕ → List ℕ → List ℕ
 with_class is_entered class classes = if is_entered then class ∷ classes else classes
 
 -- of each of these classes it is told what stands above it
-abbrev pub AreTold : NearestMembers → List ℕ → Type 0
-AreTold ns classes = All (λ class. is_told ns class ≡ true) classes
+abbrev pub AreReported : NearestMembers → List ℕ → Type 0
+AreReported ns classes = All (λ class. is_reported ns class ≡ true) classes
 
 -- the members of these classes are entered, and it is told which fields and which methods stand above each
 pub record IsEntered (forest : Forest) (entered : Entered) : Type 0 where
   pub path : IsPath (rows_of forest) entered.path
   pub fields : AreNamed Field forest entered.fields (classes_of entered.path)
   pub methods : AreNamed Method forest entered.methods (classes_of entered.path)
-  pub fields_told : AreTold entered.fields (classes_of entered.path)
-  pub methods_told : AreTold entered.methods (classes_of entered.path)
+  pub fields_reported : AreReported entered.fields (classes_of entered.path)
+  pub methods_reported : AreReported entered.methods (classes_of entered.path)
 
 -- those of the classes above are entered
 pub record IsScope (forest : Forest) (scope : Scope) : Type 0 where

@@ -4,7 +4,7 @@ ghost use Rattle.std.specs.Prelude.{◌≡◌, ◌<◌, ◌∷◌, true, not, �
 ghost use Rattle.scj_builtins.specs.Framework.{object};
 ghost use Rattle.scj_tree.specs.Forest.{Forest};
 ghost use Rattle.scj_rules.specs.Classes.{classes_above};
-ghost use Rattle.class_rows.specs.Members.{is_told, nearest_in, AreNearest};
+ghost use Rattle.class_rows.specs.Members.{is_reported, nearest_in, AreNearest};
 ghost use Rattle.symbol_table.specs.Scopes.{classes_of, rows_of, with_class, AreNamed, IsEntered, IsScope, IsUnder};
 
 use crate::levels::{Level, Path, object_level};
@@ -34,7 +34,7 @@ fn standing(
     name: &Name,
     is_entered: bool,
 ) -> Option<FieldRef>
-    requires { is_told nearest.now class ≡ true }
+    requires { is_reported nearest.now class ≡ true }
     ensures { AreNearest kind classes.now nearest.now → result ≡ nearest_in kind classes.now name.now
         (with_class is_entered class (classes_above (rows_of classes.now) class)) }
 {
@@ -59,11 +59,11 @@ fn renew(
     level: &Level,
     is_entered: bool,
 ) -> Result<(), Memory>
-    requires { is_told nearest.old level.now.class ≡ true }
+    requires { is_reported nearest.old level.now.class ≡ true }
     ensures named { OnOk result ((path : List ℕ) → IsUnder (rows_of classes.now) level.now path →
         AreNamed kind classes.now nearest.old (with_class (not is_entered) level.now.class path) →
         AreNamed kind classes.now nearest.new (with_class is_entered level.now.class path)) }
-    ensures kept { (class : ℕ) → is_told nearest.new class ≡ is_told nearest.old class }
+    ensures kept { (class : ℕ) → is_reported nearest.new class ≡ is_reported nearest.old class }
 {
     let program = classes.program();
     let mut others = classes.members(level.class);
@@ -85,8 +85,8 @@ impl Entered {
         ensures entered { OnOk result (IsEntered classes.now self.new) }
         ensures path { OnOk result (self.new.path ≡ level ∷ self.old.path) }
     {
-        self.fields.tell(level.class)?;
-        self.methods.tell(level.class)?;
+        self.fields.report(level.class)?;
+        self.methods.report(level.class)?;
         renew(&mut self.fields, classes, MemberKind::Field, &level, true)?;
         renew(&mut self.methods, classes, MemberKind::Method, &level, true)?;
         self.path.push(level)?;

@@ -15,7 +15,7 @@ fn is_nearest(path: &Path, class: &Option<ClassId>) -> bool {
 }
 
 /// Leaves classes until this one is the nearest, or none is left.
-#[tactic(auto, using(crate::proofs::ToldLemmas::some_nearest))]
+#[tactic(auto, using(crate::proofs::ReportedLemmas::some_nearest))]
 fn climb(entered: &mut Entered, classes: &ClassTable, class: &Option<ClassId>) -> Result<(), Memory>
     requires { IsEntered classes.now entered.old }
     ensures { OnOk result (IsEntered classes.now entered.new) }
@@ -94,8 +94,8 @@ pub fn go(
     let from = scope.level;
     arrive(alloc, &mut scope.above, classes, from, class)?;
     let level = level_under(classes, &scope.above.path, class)?;
-    scope.above.fields.tell(level.class)?;
-    scope.above.methods.tell(level.class)?;
+    scope.above.fields.report(level.class)?;
+    scope.above.methods.report(level.class)?;
     scope.level = level;
     Ok(())
 }

@@ -14,7 +14,7 @@ use Rattle.trace_audit.specs.declared.lines.Entry.TheVariants.{Mission, Register
 use Rattle.trace_audit.specs.declared.lines.Line.{Line}
 use Rattle.trace_audit.specs.Parts.{blank, colon, is_other}
 use Rattle.trace_audit.specs.Lines.{fault_of, line_of, long_entry_of, lost_of, miss_of, mission_of, print_of, prio_of, register_of, release_entry_of, release_of, short_entry_of, where_true}
-use Rattle.trace_audit.specs.Printed.{HasForm, IsHandlerNumber, entry_told, line_told}
+use Rattle.trace_audit.specs.Printed.{HasForm, IsHandlerNumber, entry_reported, line_reported}
 use Rattle.trace_audit.proofs.ArgumentLaws.{fault_read, handler_read, line_with, print_read, prio_read, register_read, release_read, words_alone, words_with}
 
 -- ---- words with their arguments
@@ -102,8 +102,8 @@ lost_read handler h = ap (λ (o : Option ℕ). o >>= (λ k. Some Lost)) (handler
 
 -- the line of an event tells the event
 pub event_read : (nodes : List Node) (files : List (List ℕ)) (e : Event) → HasForm nodes files e →
-    line_of (decimal (unit_of e) ++ words_of nodes files e) ≡ Some (line_told e)
-unfolding words_of unit_of entry_told short_entry_of
+    line_of (decimal (unit_of e) ++ words_of nodes files e) ≡ Some (line_reported e)
+unfolding words_of unit_of entry_reported short_entry_of
 event_read nodes files (event.Mission unit class) form =
     reads_with unit (codes "mission") class Mission form.unit refl
     (long_mission class ∙ ap (λ (b : Bool). where_true b Mission) form.parts)

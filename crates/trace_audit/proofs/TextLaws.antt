@@ -19,10 +19,10 @@ use Rattle.trace_audit.specs.declared.answers.Audit.{Audit}
 use Rattle.trace_audit.specs.declared.answers.Audit.TheVariants.{Yes, No}
 use Rattle.trace_audit.specs.declared.lines.Line.{Line}
 use Rattle.trace_audit.specs.Parts.{blank, is_file_byte, is_file_name, is_other, line_feed, parted}
-use Rattle.trace_audit.specs.Replay.{Replay, nothing_told}
+use Rattle.trace_audit.specs.Replay.{Replay, nothing_reported}
 use Rattle.trace_audit.specs.Passing.{replayed}
 use Rattle.trace_audit.specs.Audits.{audit_from, audit_of, lines_of, read_and_replayed}
-use Rattle.trace_audit.specs.Printed.{HasForm, HaveForms, audit_told, line_told}
+use Rattle.trace_audit.specs.Printed.{HasForm, HaveForms, audit_reported, line_reported}
 use Rattle.trace_audit.proofs.Decimals.{both_true, no_byte_in_decimal, no_feed_in_value}
 use Rattle.trace_audit.proofs.LineLaws.{audit_last, audit_next, audit_stops}
 use Rattle.trace_audit.proofs.Partings.{parted_is}
@@ -177,55 +177,55 @@ no_more : (nodes : List Node) (files : List (List ℕ)) → parted line_feed (te
 unfolding parted
 no_more nodes files = ap (parted line_feed) (text_none nodes files)
 
-told_more : (plan : Plan) (replay : Replay) (number : ℕ) (e : Event) (events : List Event) (o : Option Replay) →
-    replayed plan replay (line_told e) ≡ o → audit_told plan replay number (e ∷ events)
-    ≡ elim o as (λ _. Audit) [ None ↦ No number | Some after ↦ audit_told plan after (number + 1) events ]
-unfolding audit_told
-told_more plan replay number e events o f =
+reported_more : (plan : Plan) (replay : Replay) (number : ℕ) (e : Event) (events : List Event) (o : Option Replay) →
+    replayed plan replay (line_reported e) ≡ o → audit_reported plan replay number (e ∷ events)
+    ≡ elim o as (λ _. Audit) [ None ↦ No number | Some after ↦ audit_reported plan after (number + 1) events ]
+unfolding audit_reported
+reported_more plan replay number e events o f =
     ap (λ (x : Option Replay). elim x as (λ _. Audit) [
       | None ↦ No number
-      | Some after ↦ audit_told plan after (number + 1) events
+      | Some after ↦ audit_reported plan after (number + 1) events
     ]) f
 
-told_none : (plan : Plan) (replay : Replay) (number : ℕ) →
-    audit_told plan replay number [] ≡ (if replay.is_over then Yes else No number)
-unfolding audit_told
-told_none plan replay number = refl
+reported_none : (plan : Plan) (replay : Replay) (number : ℕ) →
+    audit_reported plan replay number [] ≡ (if replay.is_over then Yes else No number)
+unfolding audit_reported
+reported_none plan replay number = refl
 
 read_is : (nodes : List Node) (files : List (List ℕ)) (plan : Plan) (replay : Replay) (e : Event) →
     HasForm nodes files e →
-    read_and_replayed plan replay (bare nodes files e) ≡ replayed plan replay (line_told e)
+    read_and_replayed plan replay (bare nodes files e) ≡ replayed plan replay (line_reported e)
 read_is nodes files plan replay e form =
     ap (λ (o : Option Line). o >>= replayed plan replay) (event_read nodes files e form)
 
 one_event : (nodes : List Node) (files : List (List ℕ)) (plan : Plan) (replay : Replay) (number : ℕ) (e : Event)
     (events : List Event) → HasForm nodes files e → ((after : Replay) →
     audit_from plan after (number + 1) (lines_of (text nodes files events))
-    ≡ audit_told plan after (number + 1) events) → (o : Option Replay) →
-    replayed plan replay (line_told e) ≡ o → audit_from plan replay number (lines_of (text nodes files (e ∷ events)))
-    ≡ audit_told plan replay number (e ∷ events)
+    ≡ audit_reported plan after (number + 1) events) → (o : Option Replay) →
+    replayed plan replay (line_reported e) ≡ o → audit_from plan replay number (lines_of (text nodes files (e ∷ events)))
+    ≡ audit_reported plan replay number (e ∷ events)
 one_event nodes files plan replay number e events form more None f =
     audit_stops plan replay number (text nodes files (e ∷ events)) (bare nodes files e) (text nodes files events)
     (first_is nodes files e events form) (read_is nodes files plan replay e form ∙ f)
-    ∙ sym (told_more plan replay number e events None f)
+    ∙ sym (reported_more plan replay number e events None f)
 one_event nodes files plan replay number e events form more (Some after) f =
     audit_next plan replay after number (text nodes files (e ∷ events)) (bare nodes files e) (text nodes files events)
     (first_is nodes files e events form) (read_is nodes files plan replay e form ∙ f)
-    ∙ (more after ∙ sym (told_more plan replay number e events (Some after) f))
+    ∙ (more after ∙ sym (reported_more plan replay number e events (Some after) f))
 
 audit_events : (nodes : List Node) (files : List (List ℕ)) (plan : Plan) (replay : Replay) (number : ℕ)
     (events : List Event) → All (HasForm nodes files) events →
-    audit_from plan replay number (lines_of (text nodes files events)) ≡ audit_told plan replay number events
+    audit_from plan replay number (lines_of (text nodes files events)) ≡ audit_reported plan replay number events
 audit_events nodes files plan replay number [] forms =
     audit_last plan replay number (text nodes files []) (no_more nodes files)
     ∙ (ap (λ (l : List ℕ). if (length l == 0) && replay.is_over then Yes else No number) (text_none nodes files)
-    ∙ sym (told_none plan replay number))
+    ∙ sym (reported_none plan replay number))
 audit_events nodes files plan replay number (e ∷ events) forms =
     one_event nodes files plan replay number e events (All-head (HasForm nodes files) e events forms)
     (λ after. audit_events nodes files plan after (number + 1) events
-    (All-tail (HasForm nodes files) e events forms)) (replayed plan replay (line_told e)) refl
+    (All-tail (HasForm nodes files) e events forms)) (replayed plan replay (line_reported e)) refl
 
 pub audit_of_text : (nodes : List Node) (files : List (List ℕ)) (plan : Plan) (events : List Event) →
-    HaveForms nodes files events → audit_of plan (text nodes files events) ≡ audit_told plan nothing_told 1 events
+    HaveForms nodes files events → audit_of plan (text nodes files events) ≡ audit_reported plan nothing_reported 1 events
 unfolding audit_of
-audit_of_text nodes files plan events forms = audit_events nodes files plan nothing_told 1 events forms.is
+audit_of_text nodes files plan events forms = audit_events nodes files plan nothing_reported 1 events forms.is

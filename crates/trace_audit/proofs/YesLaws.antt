@@ -13,7 +13,7 @@ use Rattle.trace_audit.specs.declared.lines.Entry.TheVariants.{Mission, Register
 use Rattle.trace_audit.specs.declared.lines.Line.{Line}
 use Rattle.trace_audit.specs.Parts.{parted}
 use Rattle.trace_audit.specs.Lines.{line_of}
-use Rattle.trace_audit.specs.Replay.{Replay, differs, is_same_choice, nothing_told, picked}
+use Rattle.trace_audit.specs.Replay.{Replay, differs, is_same_choice, nothing_reported, picked}
 use Rattle.trace_audit.specs.Passing.{entry_passes, is_right_choice, passes, replayed}
 use Rattle.trace_audit.specs.Audits.{audit_from, audit_of, read_and_replayed}
 use Rattle.trace_audit.specs.PickedNames.{AllNamePick, choice_named, replay_behind}
@@ -153,5 +153,5 @@ pub yes_names_pick : (plan : Plan) (trace : List ℕ) → audit_of plan trace �
 unfolding audit_of
 yes_names_pick plan trace answered before after bytes line e f =
     let here =
-    reaches plan before nothing_told 1 bytes after line (sym (ap (audit_from plan nothing_told 1) e) ∙ answered) f in
+    reaches plan before nothing_reported 1 bytes after line (sym (ap (audit_from plan nothing_reported 1) e) ∙ answered) f in
     record { replay = here.last; is_behind = here.is_behind; names = here.names }

@@ -6,7 +6,7 @@ use Rattle.trace_audit.specs.declared.answers.Audit.{Audit}
 use Rattle.trace_audit.specs.declared.answers.Audit.TheVariants.{Yes, No}
 use Rattle.trace_audit.specs.Lines.{line_of}
 use Rattle.trace_audit.specs.Parts.{line_feed}
-use Rattle.trace_audit.specs.Replay.{Replay, nothing_told}
+use Rattle.trace_audit.specs.Replay.{Replay, nothing_reported}
 use Rattle.trace_audit.specs.Passing.{replayed}
 
 -- a byte in front of the first of some lines
@@ -36,4 +36,4 @@ audit_from plan replay number (line ∷ next ∷ lines) =
 -- Yes where each line passes and the last one ends the trace; else No with the first that doesn't pass, or with the
 -- number of lines and one more where no line ends the trace
 unfoldable pub audit_of : Plan → List ℕ → Audit
-audit_of plan trace = audit_from plan nothing_told 1 (lines_of trace)
+audit_of plan trace = audit_from plan nothing_reported 1 (lines_of trace)

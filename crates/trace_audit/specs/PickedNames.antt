@@ -8,7 +8,7 @@ use Rattle.trace_audit.specs.declared.lines.Entry.{Entry}
 use Rattle.trace_audit.specs.declared.lines.Entry.TheVariants.{Run, Idle}
 use Rattle.trace_audit.specs.declared.lines.Line.{Line}
 use Rattle.trace_audit.specs.Lines.{line_of}
-use Rattle.trace_audit.specs.Replay.{Replay, nothing_told, picked}
+use Rattle.trace_audit.specs.Replay.{Replay, nothing_reported, picked}
 use Rattle.trace_audit.specs.Audits.{lines_of, read_and_replayed}
 
 -- the replay behind some lines; none where one of them doesn't pass
@@ -26,7 +26,7 @@ choice_named _ = None
 -- the lines before a line pass, and the line names Pick behind them, if it names a choice
 pub record NamesPick (plan : Plan) (before : List (List ℕ)) (line : Line) : Type 0 where
   pub replay : Replay
-  pub is_behind : replay_behind plan nothing_told before ≡ Some replay
+  pub is_behind : replay_behind plan nothing_reported before ≡ Some replay
   pub names : (choice : Choice) → choice_named line.entry ≡ Some choice → picked replay.all ≡ choice
 
 -- each line of a text names Pick, if it names a choice

@@ -18,28 +18,28 @@ use Rattle.trace_audit.specs.Passing.{replayed}
 use Rattle.trace_audit.specs.Replay.{Replay}
 
 -- what an event tells
-unfoldable pub entry_told : Event → Entry
-entry_told (event.Mission unit class) = Mission
-entry_told (event.Register unit handler class priority) = Register handler priority
-entry_told (event.Exec unit) = Exec
-entry_told (event.Arrive unit handler number) = Arrive handler number
-entry_told (event.Lost unit handler) = Lost
-entry_told (event.Miss unit name) = Miss name
-entry_told (event.Run unit handler number) = Run handler number
-entry_told (event.Idle unit) = Idle
-entry_told (event.Prio unit handler priority) = Prio handler priority
-entry_told (event.Print unit text value) = Print
-entry_told (event.Fault unit fault position) = Fault
-entry_told (event.End unit handler number) = End handler number
-entry_told (event.Terminate unit) = Terminate
-entry_told (event.Drop unit handler number) = Drop handler number
-entry_told (event.Cleanup unit) = Cleanup
-entry_told (event.Done unit) = Done
-entry_told (event.Halted unit) = Halted
-entry_told (event.Stopped unit) = Stopped
+unfoldable pub entry_reported : Event → Entry
+entry_reported (event.Mission unit class) = Mission
+entry_reported (event.Register unit handler class priority) = Register handler priority
+entry_reported (event.Exec unit) = Exec
+entry_reported (event.Arrive unit handler number) = Arrive handler number
+entry_reported (event.Lost unit handler) = Lost
+entry_reported (event.Miss unit name) = Miss name
+entry_reported (event.Run unit handler number) = Run handler number
+entry_reported (event.Idle unit) = Idle
+entry_reported (event.Prio unit handler priority) = Prio handler priority
+entry_reported (event.Print unit text value) = Print
+entry_reported (event.Fault unit fault position) = Fault
+entry_reported (event.End unit handler number) = End handler number
+entry_reported (event.Terminate unit) = Terminate
+entry_reported (event.Drop unit handler number) = Drop handler number
+entry_reported (event.Cleanup unit) = Cleanup
+entry_reported (event.Done unit) = Done
+entry_reported (event.Halted unit) = Halted
+entry_reported (event.Stopped unit) = Stopped
 
-abbrev pub line_told : Event → Line
-line_told e = record { unit = unit_of e; entry = entry_told e }
+abbrev pub line_reported : Event → Line
+line_reported e = record { unit = unit_of e; entry = entry_reported e }
 
 -- ---- forms
 
@@ -81,12 +81,12 @@ pub record HasForm (nodes : List Node) (files : List (List ℕ)) (e : Event) : T
 -- ---- whole traces
 
 -- the events of a trace audited behind those of a replay; the first has this number
-unfoldable pub audit_told : Plan → Replay → ℕ → List Event → Audit
-audit_told plan replay number [] = if replay.is_over then Yes else No number
-audit_told plan replay number (e ∷ events) =
-    elim (replayed plan replay (line_told e)) [
+unfoldable pub audit_reported : Plan → Replay → ℕ → List Event → Audit
+audit_reported plan replay number [] = if replay.is_over then Yes else No number
+audit_reported plan replay number (e ∷ events) =
+    elim (replayed plan replay (line_reported e)) [
       | None ↦ No number
-      | Some after ↦ audit_told plan after (number + 1) events
+      | Some after ↦ audit_reported plan after (number + 1) events
     ]
 
 -- each event can be read back

@@ -143,8 +143,8 @@ pub record Replay : Type 0 where
   pub is_over : Bool
 
 -- before the first line
-abbrev pub nothing_told : Replay
-nothing_told =
+abbrev pub nothing_reported : Replay
+nothing_reported =
     record {
       all = no_releases;
       last_choice = None;

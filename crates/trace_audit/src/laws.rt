@@ -9,8 +9,8 @@ ghost use Rattle.scj_model.specs.declared.events.Event.{Event};
 ghost use Rattle.scj_model.specs.TraceText.{text};
 ghost use Rattle.trace_audit.specs.Audits.{audit_of};
 ghost use Rattle.trace_audit.specs.PickedNames.{AllNamePick};
-ghost use Rattle.trace_audit.specs.Printed.{HaveForms, audit_told};
-ghost use Rattle.trace_audit.specs.Replay.{Releases, nothing_told, picked_index};
+ghost use Rattle.trace_audit.specs.Printed.{HaveForms, audit_reported};
+ghost use Rattle.trace_audit.specs.Replay.{Releases, nothing_reported, picked_index};
 ghost use Rattle.trace_audit.specs.StandsFor.{StandsFor};
 ghost use Rattle.trace_audit.specs.declared.answers.Audit.TheVariants.{Yes};
 
@@ -23,7 +23,7 @@ pub fn yes_names_the_chosen()
 /// The text of a trace whose events have the forms of lines is audited as its events are, one by one: each line is read
 /// as what its event tells.
 pub fn printed_traces_are_read()
-    ensures { (nodes : List Node) (files : List (List ℕ)) (plan : Plan) (events : List Event) → HaveForms nodes files events → audit_of plan (text nodes files events) ≡ audit_told plan nothing_told 1 events }
+    ensures { (nodes : List Node) (files : List (List ℕ)) (plan : Plan) (events : List Event) → HaveForms nodes files events → audit_of plan (text nodes files events) ≡ audit_reported plan nothing_reported 1 events }
 {}
 
 /// Where the releases of a replay stand for those of a state of a run, Pick is the release that the machine chooses: its

@@ -6,7 +6,7 @@ ghost use Rattle.run_plan.specs.Limits.{most_units};
 ghost use Rattle.scj_rules.specs.Words.{holds};
 ghost use Rattle.trace_audit.specs.Index.{IsKept};
 ghost use Rattle.trace_audit.specs.Passing.{begun, entry_done, entry_passes, fits_entry, is_first, is_in_order, is_of, is_right_choice, last_number, misses_no_choice, passes, rest_done, table_done};
-ghost use Rattle.trace_audit.specs.Replay.{differs, is_executing, is_same_choice, nothing_told};
+ghost use Rattle.trace_audit.specs.Replay.{differs, is_executing, is_same_choice, nothing_reported};
 ghost use Rattle.trace_audit.specs.Seen.{replay_seen};
 
 use crate::choices::{Choice, is_same_choice, number_in};
@@ -35,7 +35,7 @@ pub struct Replay {
 impl Replay {
     /// Before the first line.
     pub fn new(alloc: Global) -> Replay
-        ensures seen { replay_seen result ≡ nothing_told }
+        ensures seen { replay_seen result ≡ nothing_reported }
         ensures kept { IsKept result.table }
     {
         Replay {

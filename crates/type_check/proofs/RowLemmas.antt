@@ -13,15 +13,15 @@ use Rattle.program_facts.specs.declared.meanings.NodeMeaning.{NodeMeaning}
 use Rattle.program_facts.specs.declared.meanings.NodeMeaning.TheVariants.{Name as of_name, Nothing as of_other}
 use Rattle.program_facts.specs.Meanings.{meant, simply_named, IsMeaningAt, AreMeanings}
 
-pub none_told : (forest : Forest) (count : ℕ) (rows : List NodeMeaning) → rows ≡ replicate count of_other →
+pub none_reported : (forest : Forest) (count : ℕ) (rows : List NodeMeaning) → rows ≡ replicate count of_other →
     AreMeanings forest rows
 unfolding IsMeaningAt
-none_told forest count rows e id = rw e (rw (lookup-replicate of_other count id) tt)
+none_reported forest count rows e id = rw e (rw (lookup-replicate of_other count id) tt)
 
 -- one more is told
-pub one_told : (forest : Forest) (rows : List NodeMeaning) (id : ℕ) (row : NodeMeaning) → AreMeanings forest rows →
+pub one_reported : (forest : Forest) (rows : List NodeMeaning) (id : ℕ) (row : NodeMeaning) → AreMeanings forest rows →
     IsMeaningAt forest id row → AreMeanings forest (set rows id row)
-one_told forest rows id row are is n =
+one_reported forest rows id row are is n =
     ⊎_elim
     (λ (same : n ≡ id). rw same (⊎_elim (λ (l : id < length rows). rw (get_or-set_same rows id row of_other l) is)
     (λ (m : length rows ≤ id). rw (set_past rows id row m) (are id)) (cases_lt id (length rows))))
@@ -29,9 +29,9 @@ one_told forest rows id row are is n =
     (cases_eq n id)
 
 -- what the name of a node stands for is told by a row of it
-pub name_told : (forest : Forest) (id : ℕ) (name : List ℕ) (row : NameMeaning)
+pub name_reported : (forest : Forest) (id : ℕ) (name : List ℕ) (row : NameMeaning)
     → meant forest.nodes row ≡ meaning (declarations_of forest) id name → read forest.nodes simply_named id ≡ Some name
     → IsMeaningAt forest id (of_name row)
 unfolding IsMeaningAt
-name_told forest id name row e there other h =
+name_reported forest id name row e there other h =
     e ∙ ap (meaning (declarations_of forest) id) (same_Some name other (sym there ∙ h))

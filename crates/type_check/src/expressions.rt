@@ -7,7 +7,7 @@ ghost use Rattle.scj_rules.specs.Words.{broken};
 ghost use Rattle.scj_rules.specs.Types.{binary_type, element_type, meaning, unary_type};
 ghost use Rattle.scj_rules.specs.TypeRules.{misfits_operands, misfits_operand, misfits_index, t1, t3, t4, t13, type_of, type_of_meaning};
 ghost use Rattle.program_facts.specs.Meanings.{IsMeaningAt, AreMeanings};
-ghost use Rattle.program_facts.specs.Told.{declared, types};
+ghost use Rattle.program_facts.specs.Reported.{declared, types};
 
 use crate::rows::keep;
 use program_facts::meanings::{denotes_no_declaration, is_instance_field};
@@ -84,7 +84,7 @@ pub fn judge_element(
 
 /// Notes a simple name that stands for nothing, or for a field of no object, and tells its type. What it stands for is
 /// kept.
-#[tactic(auto, using(crate::proofs::RowLemmas::one_told, crate::proofs::RowLemmas::name_told), unfolding(program_facts::specs::Meanings::simply_named, scj_rules::specs::TypeRules::t1, scj_rules::specs::TypeRules::t13))]
+#[tactic(auto, using(crate::proofs::RowLemmas::one_reported, crate::proofs::RowLemmas::name_reported), unfolding(program_facts::specs::Meanings::simply_named, scj_rules::specs::TypeRules::t1, scj_rules::specs::TypeRules::t13))]
 pub fn judge_name(
     found: &mut Vec<Found>,
     at: &At<'_>,

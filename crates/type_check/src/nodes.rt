@@ -5,7 +5,7 @@ ghost use Rattle.scj_rules.specs.TypeRules.{type_breaks, type_of};
 ghost use Rattle.type_check.specs.Kinds.{is_declaration, is_seldom};
 ghost use Rattle.type_words.specs.Returns.{all_returns};
 ghost use Rattle.program_facts.specs.Meanings.{member_named, IsMeaningAt, AreMeanings};
-ghost use Rattle.program_facts.specs.Told.{declared, types};
+ghost use Rattle.program_facts.specs.Reported.{declared, types};
 
 use crate::expressions::{judge_access, judge_binary, judge_element, judge_name, judge_unary};
 use crate::rows::keep;
@@ -290,7 +290,7 @@ fn judge_there(
 }
 
 /// The same, which keeps the row.
-#[tactic(auto, using(crate::proofs::RowLemmas::one_told))]
+#[tactic(auto, using(crate::proofs::RowLemmas::one_reported))]
 fn judge_member(
     found: &mut Vec<Found>,
     at: &At<'_>,

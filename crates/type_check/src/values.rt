@@ -4,7 +4,7 @@ ghost use Rattle.std.specs.Prelude.{◌≡◌, None, option_and_then, if◌then�
 ghost use Rattle.scj_rules.specs.Contexts.{declarations_of};
 ghost use Rattle.scj_rules.specs.Types.{all_types, array_of, is_form_part};
 ghost use Rattle.scj_rules.specs.TypeRules.{class_type_named, written_type};
-ghost use Rattle.program_facts.specs.Told.{declared, types};
+ghost use Rattle.program_facts.specs.Reported.{declared, types};
 
 use program_facts::{At, Facts};
 use scj_base::{Name, NodeId};

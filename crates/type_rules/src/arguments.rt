@@ -6,7 +6,7 @@ ghost use Rattle.scj_rules.specs.Contexts.{declarations_of};
 ghost use Rattle.scj_rules.specs.Types.{all_types, constructor_parameters};
 ghost use Rattle.scj_rules.specs.TypeRules.{misfit, takes_arguments};
 ghost use Rattle.type_rules.specs.Parameters.{taken, parameter_type, takes_value, fits, all_fit};
-ghost use Rattle.program_facts.specs.Told.{declared, types};
+ghost use Rattle.program_facts.specs.Reported.{declared, types};
 
 use crate::names::{assigns, type_written};
 use method_rows::MethodRef;

@@ -10,7 +10,7 @@ ghost use Rattle.scj_rules.specs.TypeRules.{type_breaks, type_of, cannot_be_call
 ghost use Rattle.method_rows.specs.Methods.{found_method};
 ghost use Rattle.type_rules.specs.Parameters.{breaks_on};
 ghost use Rattle.program_facts.specs.Meanings.{IsMeaningAt};
-ghost use Rattle.program_facts.specs.Told.{declared, types};
+ghost use Rattle.program_facts.specs.Reported.{declared, types};
 
 use crate::arguments::{
     Takes, are_typed, constructor_parameters, misfit, misfit_typed, takes_arguments,

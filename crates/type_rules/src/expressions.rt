@@ -8,7 +8,7 @@ ghost use Rattle.scj_rules.specs.Contexts.{declarations_of};
 ghost use Rattle.scj_rules.specs.Types.{kind_is, is_form, accessed_field};
 ghost use Rattle.scj_rules.specs.TypeRules.{misfits_index, misfits_length, misfits_cast, element_class, lacks_field, lacks_object, lacks_object_of_field};
 ghost use Rattle.class_rows.specs.Fields.{found_field};
-ghost use Rattle.program_facts.specs.Told.{declared, types};
+ghost use Rattle.program_facts.specs.Reported.{declared, types};
 
 use crate::names::assigns;
 use class_rows::FieldRef;

@@ -6,7 +6,7 @@ ghost use Rattle.scj_rules.specs.Types.{accessed_field, called_method};
 ghost use Rattle.method_rows.specs.Methods.{found_method};
 ghost use Rattle.class_rows.specs.Fields.{found_field};
 ghost use Rattle.program_facts.specs.Meanings.{member_named, IsMeaningAt};
-ghost use Rattle.program_facts.specs.Told.{declared};
+ghost use Rattle.program_facts.specs.Reported.{declared};
 ghost use Rattle.type_rules.specs.Members.{field_in, method_in};
 
 use class_rows::FieldRef;

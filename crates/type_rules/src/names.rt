@@ -8,7 +8,7 @@ ghost use Rattle.scj_rules.specs.TypeRules.{written_type};
 ghost use Rattle.method_rows.specs.Methods.{found_method};
 ghost use Rattle.class_rows.specs.Fields.{found_field};
 ghost use Rattle.program_facts.specs.Meanings.{meant, simply_named, IsMember};
-ghost use Rattle.program_facts.specs.Told.{declared, types};
+ghost use Rattle.program_facts.specs.Reported.{declared, types};
 
 use class_rows::FieldRef;
 use method_rows::MethodRef;
@@ -143,8 +143,8 @@ pub fn meaning_there(facts: &Facts<'_>, id: NodeId, name: &Name) -> NameMeaning
     requires { read facts.now.nodes simply_named id ≡ Some name.now }
     ensures { meant facts.now.nodes result ≡ meaning (declarations_of facts.now) id name.now }
 {
-    match facts.meaning_told(id) {
-        NodeMeaning::Name(told) => told,
+    match facts.meaning_reported(id) {
+        NodeMeaning::Name(reported) => reported,
         _ => meaning(facts, id, name),
     }
 }
@@ -181,7 +181,7 @@ fn row_of(at: &At<'_>, name: &Name) -> NodeMeaning
     match at.facts.program().get(at.id) {
         Some(Node::FieldAccess { name: written, .. } | Node::Call { name: written, .. }) => {
             if *written.get() == *name {
-                at.facts.meaning_told(at.id)
+                at.facts.meaning_reported(at.id)
             } else {
                 NodeMeaning::Nothing
             }

@@ -8,7 +8,7 @@ ghost use Rattle.scj_rules.specs.declared.views.WrittenType.TheVariants.{Long as
 ghost use Rattle.scj_rules.specs.Words.{holds};
 ghost use Rattle.scj_rules.specs.Contexts.{declarations_of, context};
 ghost use Rattle.scj_rules.specs.TypeRules.{result_of_member, misfits_value, misfits_initial_value, misfits_assignment, is_length_target, misfits_condition, lacks_value, misfits_result, ends_without_return, has_framework_size, misfits_long, misfits_super_call};
-ghost use Rattle.program_facts.specs.Told.{declared, types};
+ghost use Rattle.program_facts.specs.Reported.{declared, types};
 ghost use Rattle.type_words.specs.Returns.{all_returns};
 
 use crate::arguments::{constructor_parameters, misfit};
@@ -19,7 +19,7 @@ use node_views::position_at;
 use program_facts::{At, Facts};
 use scj_base::{ClassId, Found, Memory, Name, NodeId, Rule};
 use scj_rules::{Ty, report_if};
-use scj_tree::{Node, Program, told};
+use scj_tree::{Node, Program, row_or};
 use type_words::{are_same, is_array_value, is_length, is_long, is_size_body};
 
 /// Whether a value can't be assigned to the target, where both have types.
@@ -164,7 +164,7 @@ pub fn ends_without_return(
     requires { returns.now ≡ all_returns facts.now.nodes }
     ensures { result ≡ ends_without_return (declarations_of facts.now) result_type body }
 {
-    !writes_void(facts.program(), result_type) && !told(returns, false, body)
+    !writes_void(facts.program(), result_type) && !row_or(returns, false, body)
 }
 
 /// Whether the framework has a method of the name for the class, whose result is `long`.

@@ -3,7 +3,7 @@
 ghost use Rattle.std.specs.Prelude.{◌≡◌, ◌∷◌};
 ghost use Rattle.parser_machine.specs.Declarations.{class_start, declaration_start, flags_ended, flags_step, member_start, member_word, type_start};
 ghost use Rattle.parser_machine.specs.declared.entries.Entry.TheVariants.{MemberOpen};
-ghost use Rattle.parser_nodes.specs.Told.{gives, seen};
+ghost use Rattle.parser_nodes.specs.Reported.{gives, seen};
 ghost use Rattle.scj_tree.specs.Lexemes.{a_word};
 
 use crate::flags::{add_modifier, flags_node, placed};

@@ -13,7 +13,7 @@ ghost use Rattle.type_words.specs.Returns.{all_returns, returns_next, is_returni
 
 use scj_base::{Memory, NodeId};
 use scj_rules::WrittenType;
-use scj_tree::{Node, NodeKind, Program, told};
+use scj_tree::{Node, NodeKind, Program, row_or};
 use std::alloc::Global;
 
 /// Whether the type is `void`.
@@ -83,7 +83,7 @@ pub fn is_size_body(program: &Program, body: NodeId) -> bool
 fn any_returns(returns: &[bool], ids: &[NodeId]) -> bool
     ensures { result ≡ list_any (lookup false returns.now) ids.now }
 {
-    ids.iter().any(|id| told(returns, false, *id))
+    ids.iter().any(|id| row_or(returns, false, *id))
 }
 
 /// Whether the node is the literal `true`.
@@ -106,7 +106,7 @@ fn returns_of(program: &Program, returns: &[bool], node: &Node) -> bool
             then_part,
             else_part: Some(other),
             ..
-        } => told(returns, false, *then_part) && told(returns, false, *other),
+        } => row_or(returns, false, *then_part) && row_or(returns, false, *other),
         Node::While { condition, .. } => is_true(program, *condition),
         _ => false,
     }

@@ -138,9 +138,9 @@ pub record AreArriving (code : Listing) (was st : RunState) (n : ℕ) (before af
   pub same : HasSameDue (state_of code was) (state_of code st)
 
 module _ (code : Listing) (was : RunState) where
-  pub none_arrived : (told : List Event) → AreArriving code was was 0 told told
-  none_arrived told = record {
-    goes = not_begun code (taken_from (state_of code was) 0) was told;
+  pub none_arrived : (reported : List Event) → AreArriving code was was 0 reported reported
+  none_arrived reported = record {
+    goes = not_begun code (taken_from (state_of code was) 0) was reported;
     same = same_due (state_of code was);
   }
 
@@ -166,15 +166,15 @@ module _ (code : Listing) (was : RunState) where
       (all_done code (taken_from (state_of code was) 0 (state_of code was)) (taken_from (state_of code was) n) st
       before after (none_behind (state_of code was) (state_of code st) n behind) h.goes)
 
-  pub nobody_arrives : (told : List Event) → takes_releases (state_of code was) ≡ false →
-      IsStep code (for_each release_taken (due_handlers (state_of code was)) (state_of code was)) was told told
+  pub nobody_arrives : (reported : List Event) → takes_releases (state_of code was) ≡ false →
+      IsStep code (for_each release_taken (due_handlers (state_of code was)) (state_of code was)) was reported reported
   unfolding due_handlers for_each
-  nobody_arrives told takes =
-      same_step code was told told (silently (state_of code was)) _
+  nobody_arrives reported takes =
+      same_step code was reported reported (silently (state_of code was)) _
       (ap (λ (b : Bool). for_each release_taken
       (if b then handlers_due (state_of code was).origin (state_of code was).unit (state_of code was).registry else [])
       (state_of code was)) takes)
-      (still code was told)
+      (still code was reported)
 
 -- the registry is the one that the code keeps
 pub registry_seen : (code : Listing) (st : RunState) → (state_of code st).registry ≡ st.registry.items

@@ -7,7 +7,7 @@ use Rattle.scj_model.specs.declared.phases.Phase.TheVariants.{Boot, Next, Init, 
 use Rattle.scj_model.specs.Code.{code_of}
 use Rattle.op_list.specs.Listed.{Listing}
 use Rattle.scj_model.specs.State.{State, is_exec, is_over}
-use Rattle.scj_model.specs.Steps.{Step, silently, telling, then_try}
+use Rattle.scj_model.specs.Steps.{Step, silently, reporting, then_try}
 use Rattle.scj_model.specs.Sequencer.{after_execution, after_operation, phase_after}
 use Rattle.run_state.specs.declared.states.RunState.{RunState}
 use Rattle.run_state.specs.Seen.{state_of}
@@ -60,18 +60,18 @@ module _ (code : Listing) where
 module _ (code : Listing) (answer : Bool) (st : RunState) (before middle after : List Event) where
   joined : (first : Step) (o : Option Step) → middle ≡ before ++ first.events →
       IsLedTry code o answer st middle after →
-      IsLedTry code (option_map (λ (second : Step). telling second.state (first.events ++ second.events)) o) answer st
+      IsLedTry code (option_map (λ (second : Step). reporting second.state (first.events ++ second.events)) o) answer st
       before after
   joined first None e k = record { went = k.went; leads = λ done h. absurd (cc (h)) }
   joined first (Some second) e k =
       let led = k.leads second refl in
-      let whole : Step = telling second.state (first.events ++ second.events) in
+      let whole : Step = reporting second.state (first.events ++ second.events) in
       record {
         went = k.went;
         leads = λ done h. subst (λ d. IsLed code d st before after) (let same_one : whole ≡ done = cc (h) in same_one)
             (record {
               alike = led.alike;
-              told = led.told ∙ (ap (λ events. events ++ second.events) e
+              reported = led.reported ∙ (ap (λ events. events ++ second.events) e
                   ∙ append_again before first.events second.events);
             });
       }
@@ -81,7 +81,7 @@ module _ (code : Listing) (answer : Bool) (st : RunState) (before middle after :
       IsStep code first was before middle → IsLedTry code (next (state_of code was)) answer st middle after →
       IsLedTry code (then_try first next) answer st before after
   then_led first next was h k =
-      joined first (next first.state) h.told
+      joined first (next first.state) h.reported
       (subst (λ (t : State). IsLedTry code (next t) answer st middle after) h.state k)
 
   -- what follows in the sequencer, from a state like the one that was led to
@@ -89,5 +89,5 @@ module _ (code : Listing) (answer : Bool) (st : RunState) (before middle after :
       IsTry code (phase_after (code_of code.program) (state_of code was)) answer st middle after →
       IsLedTry code (then_try first (phase_after (code_of code.program))) answer st before after
   phase_led first was h k =
-      joined first (phase_after (code_of code.program) first.state) h.told
+      joined first (phase_after (code_of code.program) first.state) h.reported
       (led_by_alike code answer st middle after _ _ (phase_alike code first.state (state_of code was) h.alike) k)

@@ -4,7 +4,7 @@ use Rattle.std.proofs.Common.{◌≡◌, ℕ, suc, ◌+◌, Bool, true, false, L
 use Rattle.scj_model.specs.declared.plans.Fire.{Fire}
 use Rattle.scj_model.specs.Code.{Code}
 use Rattle.scj_model.specs.State.{State}
-use Rattle.scj_model.specs.Steps.{Step, silently, telling, then_do, for_each}
+use Rattle.scj_model.specs.Steps.{Step, silently, reporting, then_do, for_each}
 use Rattle.scj_model.specs.Arrivals.{comes_in, fired, fired_at, fires_due, numbers_where}
 use Rattle.unit_steps.specs.Arriving.{fired_in}
 
@@ -25,7 +25,7 @@ module _ (code : Code) (origin : Option ℕ) (unit : ℕ) where
           ≡ for_each (fired code) (if b then x ∷ filter test xs else filter test xs) s
       go false tail = tail s
       go true tail =
-          ap (λ (second : Step). telling second.state ((fired code s x).events ++ second.events))
+          ap (λ (second : Step). reporting second.state ((fired code s x).events ++ second.events))
           (tail (fired code s x).state)
 
   module _ (all : List Fire) where
@@ -59,7 +59,7 @@ module _ (code : Code) (origin : Option ℕ) (unit : ℕ) where
         go false tail = tail s
         go true tail =
             ap (λ (first : Step). then_do first (for_each (fired_at code all) (numbers_where test (k + 1) xs))) one
-            ∙ ap (λ (second : Step). telling second.state ((fired code s x).events ++ second.events))
+            ∙ ap (λ (second : Step). reporting second.state ((fired code s x).events ++ second.events))
             (tail (fired code s x).state)
 
     pub fires_of_the_unit : (s : State) →

@@ -14,7 +14,7 @@ use Rattle.op_list.specs.Listed.{Listing}
 use Rattle.scj_model.specs.Plan.{Plan}
 use Rattle.scj_model.specs.State.{State}
 use Rattle.scj_model.specs.Registry.{aperiodic_of}
-use Rattle.scj_model.specs.Steps.{Step, silently, telling, then_do, for_each}
+use Rattle.scj_model.specs.Steps.{Step, silently, reporting, then_do, for_each}
 use Rattle.scj_model.specs.Apply.{release_taken, takes_releases}
 use Rattle.scj_model.specs.Arrivals.{arrivals, comes_in, due_handlers, executes_since, fired, fired_at, fired_handler, fires_due}
 use Rattle.run_plan.specs.Index.{coming}
@@ -61,7 +61,7 @@ module _ (code : Listing) (s : State) (fire : Fire) where
   fired_by handler =
       elim handler as (λ _. Step) [
         | Some handler ↦ release_taken s handler
-        | None ↦ telling s (Miss s.unit fire.handler ∷ [])
+        | None ↦ reporting s (Miss s.unit fire.handler ∷ [])
       ]
 
   pub releases : (handler : ℕ) → Some handler ≡ fired_handler (code_of code.program) s fire.handler →
@@ -70,19 +70,19 @@ module _ (code : Listing) (s : State) (fire : Fire) where
   releases handler e = ap fired_by (sym e)
 
   pub misses : None ≡ fired_handler (code_of code.program) s fire.handler →
-      fired (code_of code.program) s fire ≡ telling s (Miss s.unit fire.handler ∷ [])
+      fired (code_of code.program) s fire ≡ reporting s (Miss s.unit fire.handler ∷ [])
   unfolding fired
   misses e = ap fired_by (sym e)
 
-pub miss_told : (code : Listing) (st : RunState) (fire : Fire) (before after : List Event) →
+pub miss_reported : (code : Listing) (st : RunState) (fire : Fire) (before after : List Event) →
     None ≡ fired_handler (code_of code.program) (state_of code st) fire.handler →
     after ≡ before ++ Miss st.unit fire.handler ∷ [] →
     IsStep code (fired (code_of code.program) (state_of code st) fire) st before after
 unfolding state_of
-miss_told code st fire before after e told =
-    same_step code st before after (telling (state_of code st) (Miss st.unit fire.handler ∷ [])) _
+miss_reported code st fire before after e reported =
+    same_step code st before after (reporting (state_of code st) (Miss st.unit fire.handler ∷ [])) _
     (misses code (state_of code st) fire e)
-    (record { state = refl; told = told })
+    (record { state = refl; reported = reported })
 
 module _ (code : Listing) (origin : Option ℕ) (unit : ℕ) (s : State) (fire : Fire) where
   abbrev fired_if : Bool → Step

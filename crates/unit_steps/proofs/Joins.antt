@@ -29,7 +29,7 @@ module _ (code : Listing) (answer : Bool) (st : RunState) (before after : List E
   led_by_step a b h k =
       record {
         alike = subst (λ t. IsAlike a.state t) (sym k.state) h.states;
-        told = k.told ∙ ap (λ events. before ++ events) (sym h.events);
+        reported = k.reported ∙ ap (λ events. before ++ events) (sym h.events);
       }
 
   some_is : (a b : Step) → Some a ≡ Some b → b ≡ a

@@ -11,9 +11,9 @@ use Rattle.scj_model.specs.Code.{Code}
 use Rattle.scj_model.specs.State.{Object, Frame, Activity, Job, MemoryArea, TheSequencer, State, with_activity, object_at, area_at, is_init, is_over}
 use Rattle.scj_model.specs.Memory.{has_room, has_store_for, used, reserved, closed, area_with_scope}
 use Rattle.scj_model.specs.Registry.{handler_number, most_handlers}
-use Rattle.scj_model.specs.Steps.{Step, silently, telling, allocating, opening, fault_in, job_ended}
+use Rattle.scj_model.specs.Steps.{Step, silently, reporting, allocating, opening, fault_in, job_ended}
 use Rattle.scj_model.specs.Effects.{Effect, Goes, Prints, Makes, Stores, StoresStatic, SetsHidden, SetsCeiling, Calls, Opens, Leaves, AsksRegistration, AsksRelease, AsksTermination, Faults, Stuck}
-use Rattle.scj_model.specs.Apply.{applied, called, ceiling_entered, frame_left, is_full, opened_in, registered, with_frame, tell_priority}
+use Rattle.scj_model.specs.Apply.{applied, called, ceiling_entered, frame_left, is_full, opened_in, registered, with_frame, report_priority}
 use Rattle.unit_steps.specs.Alike.{over, IsAlikeStep, IsAlikeTry, none, some}
 use Rattle.unit_steps.proofs.Alike.{stays, each_way, either_way}
 
@@ -59,23 +59,23 @@ module _ (code : Code) (s : State) (x : Activity) where
             | None ↦ silently (with_activity s seq (record activity { frames = g ∷ frames }))
             | Some ceiling ↦
                 if nat_lt ceiling activity.priority then fault_in s seq activity position CeilingViolation
-                else telling
+                else reporting
                 (with_activity s seq (record activity {
                   frames = record g { saved = Some activity.priority } ∷ frames;
                   priority = ceiling;
                 }))
-                (tell_priority s seq activity.priority ceiling)
+                (report_priority s seq activity.priority ceiling)
           ])
           (elim o as (λ z. Step) [
             | None ↦ silently (with_activity t seq (record activity { frames = g ∷ frames }))
             | Some ceiling ↦
                 if nat_lt ceiling activity.priority then fault_in t seq activity position CeilingViolation
-                else telling
+                else reporting
                 (with_activity t seq (record activity {
                   frames = record g { saved = Some activity.priority } ∷ frames;
                   priority = ceiling;
                 }))
-                (tell_priority t seq activity.priority ceiling)
+                (report_priority t seq activity.priority ceiling)
           ])
       entered None = stays
       entered (Some ceiling) =

@@ -13,10 +13,10 @@ use Rattle.scj_model.specs.Code.{Code}
 use Rattle.scj_model.specs.State.{Object, Frame, Activity, Ended, Job, Release, ReleaseAt, Started, State, with_activity, with_status, object_at, is_init, changed}
 use Rattle.scj_model.specs.Memory.{has_room, has_store_for, used, reserved, closed, with_object, with_area, with_slot, area_with_scope}
 use Rattle.scj_model.specs.Registry.{handler_number, most_handlers, new_row}
-use Rattle.scj_model.specs.Steps.{Step, silently, telling, allocating, opening, fault_in, closed_all, job_ended, of_release, then_do}
+use Rattle.scj_model.specs.Steps.{Step, silently, reporting, allocating, opening, fault_in, closed_all, job_ended, of_release, then_do}
 use Rattle.scj_model.specs.Effects.{Effect, Goes, Prints, Makes, Stores, StoresStatic, SetsHidden, SetsCeiling, Calls, Opens, Leaves, AsksRegistration, AsksRelease, AsksTermination, Faults, Stuck}
-use Rattle.scj_model.specs.Apply.{applied, called, ceiling_entered, class_name, frame_left, is_full, opened_in, registered, released, returned, termination_asked, with_first, without, with_frame, tell_priority}
-use Rattle.unit_steps.proofs.StatusSet.{status_again, told_alike}
+use Rattle.scj_model.specs.Apply.{applied, called, ceiling_entered, class_name, frame_left, is_full, opened_in, registered, released, returned, termination_asked, with_first, without, with_frame, report_priority}
+use Rattle.unit_steps.proofs.StatusSet.{status_again, reported_alike}
 use Rattle.unit_steps.proofs.OwnActivity.{scope_sees_areas}
 
 module _ (code : Code) (s : State) (n : ℕ) (x : Activity) where
@@ -32,10 +32,10 @@ module _ (code : Code) (s : State) (n : ℕ) (x : Activity) where
   unfolding with_activity
   put_back u activity = status_again u n (Started x) (Started activity)
 
-  told_there : (tell : Release → List Event) →
-      ((r : Release) → tell (record r { status = Started x }) ≡ tell r) →
-      of_release t job tell ≡ of_release s job tell
-  told_there tell h = told_alike n (Started x) s.releases tell h
+  reported_there : (report : Release → List Event) →
+      ((r : Release) → report (record r { status = Started x }) ≡ report r) →
+      of_release t job report ≡ of_release s job report
+  reported_there report h = reported_alike n (Started x) s.releases report h
 
   closed_there : (u : State) (opened : Option ℕ) →
       closed (with_status u n (Started x)) opened ≡ with_status (closed u opened) n (Started x)
@@ -55,13 +55,13 @@ module _ (code : Code) (s : State) (n : ℕ) (x : Activity) where
       fault_in t job activity position fault ≡ fault_in s job activity position fault
   unfolding fault_in
   broken activity position fault =
-      ap (λ v. telling (with_status v n Ended)
+      ap (λ v. reporting (with_status v n Ended)
       (Fault s.unit fault position ∷ of_release t job (λ r. End s.unit r.handler r.number ∷ [])))
       (all_closed_there s activity.frames)
-      ∙ (ap (λ v. telling v (Fault s.unit fault position ∷ of_release t job (λ r. End s.unit r.handler r.number ∷ [])))
+      ∙ (ap (λ v. reporting v (Fault s.unit fault position ∷ of_release t job (λ r. End s.unit r.handler r.number ∷ [])))
       (status_again (closed_all s activity.frames) n (Started x) Ended)
-      ∙ ap (λ events. telling (with_status (closed_all s activity.frames) n Ended) (Fault s.unit fault position ∷ events))
-      (told_there (λ r. End s.unit r.handler r.number ∷ []) (λ r. refl)))
+      ∙ ap (λ events. reporting (with_status (closed_all s activity.frames) n Ended) (Fault s.unit fault position ∷ events))
+      (reported_there (λ r. End s.unit r.handler r.number ∷ []) (λ r. refl)))
 
   -- two ways, each the same
   pub choose : (b d : Bool) → d ≡ b → {a c p q : Step} → p ≡ a → q ≡ c →
@@ -69,10 +69,10 @@ module _ (code : Code) (s : State) (n : ℕ) (x : Activity) where
   choose b d e {a} {c} {p} {q} h k =
       ap (λ d. if d then p else q) e ∙ (ap (λ p. if b then p else q) h ∙ ap (λ q. if b then a else q) k)
 
-  told_priority : (before after : ℕ) → tell_priority t job before after ≡ tell_priority s job before after
-  told_priority before after =
+  reported_priority : (before after : ℕ) → report_priority t job before after ≡ report_priority s job before after
+  reported_priority before after =
       ap (λ (events : List Event). if before == after then [] else events)
-      (told_there (λ r. Prio s.unit r.handler after ∷ []) (λ r. refl))
+      (reported_there (λ r. Prio s.unit r.handler after ∷ []) (λ r. refl))
 
   goes_on : (u : State) (activity : Activity) →
       silently (with_activity (with_status u n (Started x)) job activity) ≡ silently (with_activity u job activity)
@@ -90,23 +90,23 @@ module _ (code : Code) (s : State) (n : ℕ) (x : Activity) where
             | None ↦ silently (with_activity t job (record activity { frames = g ∷ frames }))
             | Some ceiling ↦
                 if nat_lt ceiling activity.priority then fault_in t job activity position CeilingViolation
-                else telling
+                else reporting
                 (with_activity t job (record activity {
                   frames = record g { saved = Some activity.priority } ∷ frames;
                   priority = ceiling;
                 }))
-                (tell_priority t job activity.priority ceiling)
+                (report_priority t job activity.priority ceiling)
           ])
           ≡ (elim o as (λ z. Step) [
             | None ↦ silently (with_activity s job (record activity { frames = g ∷ frames }))
             | Some ceiling ↦
                 if nat_lt ceiling activity.priority then fault_in s job activity position CeilingViolation
-                else telling
+                else reporting
                 (with_activity s job (record activity {
                   frames = record g { saved = Some activity.priority } ∷ frames;
                   priority = ceiling;
                 }))
-                (tell_priority s job activity.priority ceiling)
+                (report_priority s job activity.priority ceiling)
           ])
       entered None = goes_on s (record activity { frames = g ∷ frames })
       entered (Some ceiling) =
@@ -116,8 +116,8 @@ module _ (code : Code) (s : State) (n : ℕ) (x : Activity) where
             frames = record g { saved = Some activity.priority } ∷ frames;
             priority = ceiling;
           } in
-          ap (λ v. telling v (tell_priority t job activity.priority ceiling)) (put_back s raised)
-          ∙ ap (λ events. telling (with_activity s job raised) events) (told_priority activity.priority ceiling))
+          ap (λ v. reporting v (report_priority t job activity.priority ceiling)) (put_back s raised)
+          ∙ ap (λ events. reporting (with_activity s job raised) events) (reported_priority activity.priority ceiling))
 
   opened_there : (activity : Activity) (frames : List Frame) (position : Position) (g : Frame) (scope bytes : ℕ) →
       opened_in t job activity frames position g scope bytes ≡ opened_in s job activity frames position g scope bytes
@@ -138,10 +138,10 @@ module _ (code : Code) (s : State) (n : ℕ) (x : Activity) where
       job_ended (with_status u n (Started x)) job activity value ≡ job_ended u job activity value
   unfolding job_ended
   ended_there u activity value =
-      ap (λ v. telling v (of_release (with_status u n (Started x)) job (λ r. End u.unit r.handler r.number ∷ [])))
+      ap (λ v. reporting v (of_release (with_status u n (Started x)) job (λ r. End u.unit r.handler r.number ∷ [])))
       (status_again u n (Started x) Ended)
-      ∙ ap (λ events. telling (with_status u n Ended) events)
-      (told_alike n (Started x) u.releases (λ r. End u.unit r.handler r.number ∷ []) (λ r. refl))
+      ∙ ap (λ events. reporting (with_status u n Ended) events)
+      (reported_alike n (Started x) u.releases (λ r. End u.unit r.handler r.number ∷ []) (λ r. refl))
 
   left_there : (activity : Activity) (f : Frame) (below : List Frame) (value : Option Value) →
       frame_left t job activity f below value ≡ frame_left s job activity f below value
@@ -153,12 +153,12 @@ module _ (code : Code) (s : State) (n : ℕ) (x : Activity) where
         areas = without f.opened activity.areas;
         priority = priority;
       } in
-      ap (λ v. then_do (telling v (tell_priority t job activity.priority priority)) (last after below))
+      ap (λ v. then_do (reporting v (report_priority t job activity.priority priority)) (last after below))
       (closed_there s f.opened)
       ∙ (ap (λ events.
-      then_do (telling (with_status (closed s f.opened) n (Started x)) events) (last after below))
-      (told_priority activity.priority priority)
-      ∙ ap (λ (second : Step). telling second.state (tell_priority s job activity.priority priority ++ second.events))
+      then_do (reporting (with_status (closed s f.opened) n (Started x)) events) (last after below))
+      (reported_priority activity.priority priority)
+      ∙ ap (λ (second : Step). reporting second.state (report_priority s job activity.priority priority ++ second.events))
       (last_there after below))
     where
       last : Activity → List Frame → State → Step
@@ -184,7 +184,7 @@ module _ (code : Code) (s : State) (n : ℕ) (x : Activity) where
       (ap (λ v. silently v) back)
       (choose (not (nat_lt (length s.registry) most_handlers)) (not (nat_lt (length s.registry) most_handlers)) refl
       (broken activity position TooManyHandlers)
-      (ap (λ v. telling
+      (ap (λ v. reporting
       (record v { registry = v.registry ++ new_row code.program r o ∷ [] })
       (Register s.unit (length s.registry + 1) (class_name code o.class) (new_row code.program r o).priority ∷ []))
       back)))
@@ -194,7 +194,7 @@ module _ (code : Code) (s : State) (n : ℕ) (x : Activity) where
   unfolding applied allocating has_room used
   release_unseen activity below position (Goes f) = ap (λ v. Some v) (goes_on s (record activity { frames = f ∷ below }))
   release_unseen activity below position (Prints f label value) =
-      ap (λ v. Some (telling v (Print s.unit label value ∷ []))) (put_back s (record activity { frames = f ∷ below }))
+      ap (λ v. Some (reporting v (Print s.unit label value ∷ []))) (put_back s (record activity { frames = f ∷ below }))
   release_unseen activity below position (Makes f class slots) =
       ap (λ v. Some v)
       (choose (has_room s f.area (length slots)) (has_room s f.area (length slots)) refl

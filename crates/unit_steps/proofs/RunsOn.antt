@@ -8,7 +8,7 @@ use Rattle.scj_model.specs.Plan.{Plan}
 use Rattle.scj_model.specs.State.{is_over}
 use Rattle.scj_model.specs.Steps.{Step}
 use Rattle.scj_model.specs.Choice.{Policy}
-use Rattle.scj_model.specs.Run.{RunSoFar, continued, has_ended, one_more_unit, one_unit, run, told_by}
+use Rattle.scj_model.specs.Run.{RunSoFar, continued, has_ended, one_more_unit, one_unit, run, reported_by}
 
 module _ (code : Code) (plan : Plan) (policy : Policy) where
   abbrev at : ℕ → RunSoFar
@@ -58,14 +58,14 @@ module _ (code : Code) (plan : Plan) (policy : Policy) where
       or_false false = refl
 
   -- what is told in all, where the run has ended before, and where the units are spent
-  pub told_ended : (n k : ℕ) → has_ended (at n) ≡ true → told_by (n + k) (at (n + k)) ≡ (at n).events
-  told_ended n k e =
-      ap (told_by (n + k)) (stays_ended n k e)
+  pub reported_ended : (n k : ℕ) → has_ended (at n) ≡ true → reported_by (n + k) (at (n + k)) ≡ (at n).events
+  reported_ended n k e =
+      ap (reported_by (n + k)) (stays_ended n k e)
       ∙ (ap (λ b. (at n).events ++ (if b then [] else Stopped (n + k) ∷ [])) e ∙ nothing_more (at n).events)
     where
       nothing_more : (events : List Event) → events ++ [] ≡ events
       nothing_more [] = refl
       nothing_more (x ∷ xs) = ap (λ ys. x ∷ ys) (nothing_more xs)
 
-  pub told_stopped : (n : ℕ) → has_ended (at n) ≡ false → told_by n (at n) ≡ (at n).events ++ Stopped n ∷ []
-  told_stopped n e = ap (λ b. (at n).events ++ (if b then [] else Stopped n ∷ [])) e
+  pub reported_stopped : (n : ℕ) → has_ended (at n) ≡ false → reported_by n (at n) ≡ (at n).events ++ Stopped n ∷ []
+  reported_stopped n e = ap (λ b. (at n).events ++ (if b then [] else Stopped n ∷ [])) e

@@ -33,20 +33,20 @@ module _ (index : ℕ) (first : ReleaseStatus) (xs : List Release) where
       changed (with_this second) index (changed (with_this first) index xs) ≡ changed (with_this second) index xs
   set_twice second = set_twice_of second (slice_get xs index) refl
 
-  told_of : (tell : Release → List Event) → ((r : Release) → tell (with_this first r) ≡ tell r) →
+  reported_of : (report : Release → List Event) → ((r : Release) → report (with_this first r) ≡ report r) →
       (o : Option Release) → slice_get xs index ≡ o →
-      (elim (slice_get (set_first o) index) as (λ z. List Event) [ None ↦ [] | Some r ↦ tell r ])
-      ≡ (elim o as (λ z. List Event) [ None ↦ [] | Some r ↦ tell r ])
-  told_of tell h None e = ap (λ (o : Option Release). elim o as (λ z. List Event) [ None ↦ [] | Some r ↦ tell r ]) e
-  told_of tell h (Some r) e =
-      ap (λ (o : Option Release). elim o as (λ z. List Event) [ None ↦ [] | Some r ↦ tell r ])
+      (elim (slice_get (set_first o) index) as (λ z. List Event) [ None ↦ [] | Some r ↦ report r ])
+      ≡ (elim o as (λ z. List Event) [ None ↦ [] | Some r ↦ report r ])
+  reported_of report h None e = ap (λ (o : Option Release). elim o as (λ z. List Event) [ None ↦ [] | Some r ↦ report r ]) e
+  reported_of report h (Some r) e =
+      ap (λ (o : Option Release). elim o as (λ z. List Event) [ None ↦ [] | Some r ↦ report r ])
       (get_set_same xs index (with_this first r) (get_within xs index r e))
       ∙ h r
 
-  pub told_alike : (tell : Release → List Event) → ((r : Release) → tell (with_this first r) ≡ tell r) →
-      (elim (slice_get (changed (with_this first) index xs) index) as (λ z. List Event) [ None ↦ [] | Some r ↦ tell r ])
-      ≡ (elim (slice_get xs index) as (λ z. List Event) [ None ↦ [] | Some r ↦ tell r ])
-  told_alike tell h = told_of tell h (slice_get xs index) refl
+  pub reported_alike : (report : Release → List Event) → ((r : Release) → report (with_this first r) ≡ report r) →
+      (elim (slice_get (changed (with_this first) index xs) index) as (λ z. List Event) [ None ↦ [] | Some r ↦ report r ])
+      ≡ (elim (slice_get xs index) as (λ z. List Event) [ None ↦ [] | Some r ↦ report r ])
+  reported_alike report h = reported_of report h (slice_get xs index) refl
 
 -- as states
 pub status_again : (s : State) (index : ℕ) (first second : ReleaseStatus) →

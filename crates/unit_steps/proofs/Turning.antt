@@ -12,7 +12,7 @@ use Rattle.scj_model.specs.State.{Waits as WaitsSeen, Started as StartedSeen, En
 use Rattle.scj_model.specs.Steps.{Step, then_try}
 use Rattle.scj_model.specs.Sequencer.{sequencer_op}
 use Rattle.scj_model.specs.Choice.{by_priority, chosen}
-use Rattle.scj_model.specs.Run.{acts, frame_op, is_same_turn, ref_op, release_op_of, sequencer_turn, start_op, tell_turn, turn_acts, turn_taken}
+use Rattle.scj_model.specs.Run.{acts, frame_op, is_same_turn, ref_op, release_op_of, sequencer_turn, start_op, report_turn, turn_acts, turn_taken}
 use Rattle.job_frames.specs.declared.activities.Activity.{Activity as StoredActivity}
 use Rattle.job_frames.specs.declared.frames.Frame.{Frame as StoredFrame}
 use Rattle.job_frames.specs.Frames.{activity_seen, frames_of}
@@ -168,16 +168,16 @@ module _ (code : Listing) (rows : List ReadingRow) (st : RunState) (index : ℕ)
 -- ---- turns
 
 module _ (s : State) (turn : Turn) where
-  abbrev told_if : Bool → List Event
-  told_if last = if last then [] else tell_turn s turn
+  abbrev reported_if : Bool → List Event
+  reported_if last = if last then [] else report_turn s turn
 
   pub same_turn : holds s.last_choice (is_same_turn turn) ≡ true → (turn_taken s turn).events ≡ []
   unfolding turn_taken
-  same_turn e = ap told_if e
+  same_turn e = ap reported_if e
 
-  pub other_turn : holds s.last_choice (is_same_turn turn) ≡ false → (turn_taken s turn).events ≡ tell_turn s turn
+  pub other_turn : holds s.last_choice (is_same_turn turn) ≡ false → (turn_taken s turn).events ≡ report_turn s turn
   unfolding turn_taken
-  other_turn e = ap told_if e
+  other_turn e = ap reported_if e
 
 -- ---- the choice
 

@@ -11,7 +11,7 @@ use Rattle.scj_model.specs.Choice.{Policy}
 use Rattle.scj_model.specs.Run.{RunSoFar, continued, empty_state, has_ended, one_more_unit, one_unit, run}
 use Rattle.scj_model.proofs.Units.{arrivals_keep_unit, acts_keep_unit, phase_keeps_unit}
 use Rattle.unit_steps.proofs.RunsOn.{ended_on}
-use Rattle.scj_model.proofs.Reaching.{Gives, gives_on, gives_some, gives_told}
+use Rattle.scj_model.proofs.Reaching.{Gives, gives_on, gives_some, gives_reported}
 
 -- the unit after one unit is the next one
 pub unit_follows : (code : Code) (plan : Plan) (policy : Policy) (s : State) →
@@ -20,10 +20,10 @@ unfolding one_unit
 unit_follows code plan policy s =
     gives_on (λ t. t.unit ≡ s.unit) (λ t. t.unit ≡ s.unit + 1) _ _
     (gives_on (λ t. t.unit ≡ s.unit) (λ t. t.unit ≡ s.unit) _ _
-    (gives_told (λ t. t.unit ≡ s.unit) (arrivals code plan s) _
+    (gives_reported (λ t. t.unit ≡ s.unit) (arrivals code plan s) _
     (λ step k. (acts_keep_unit code plan.readings policy (arrivals code plan s).state).is step k
     ∙ arrivals_keep_unit code plan s))
-    (λ r q. gives_told (λ t. t.unit ≡ s.unit) r (phase_after code r.state)
+    (λ r q. gives_reported (λ t. t.unit ≡ s.unit) r (phase_after code r.state)
     (λ step k. (phase_keeps_unit code r.state).is step k ∙ q)))
     (λ r q. gives_some (λ t. t.unit ≡ s.unit + 1) _ (ap (λ (k : ℕ). k + 1) q))
 

@@ -7,7 +7,7 @@ use Rattle.scj_model.specs.Code.{code_of}
 use Rattle.op_list.specs.Listed.{Listing}
 use Rattle.scj_model.specs.Plan.{Plan}
 use Rattle.scj_model.specs.State.{State}
-use Rattle.scj_model.specs.Steps.{Step, telling, then_try}
+use Rattle.scj_model.specs.Steps.{Step, reporting, then_try}
 use Rattle.scj_model.specs.Sequencer.{phase_after}
 use Rattle.scj_model.specs.Arrivals.{arrivals}
 use Rattle.scj_model.specs.Choice.{Policy}
@@ -35,7 +35,7 @@ next_alike s t (over activity e none) = over activity e none
 
 module _ (code : Listing) (done : Step) where
   abbrev next_after : Step → Option Step
-  next_after result = Some (telling (next_unit result.state) result.events)
+  next_after result = Some (reporting (next_unit result.state) result.events)
 
   -- nothing can follow
   pub followed_stuck : (st : RunState) (before after : List Event) → then_try done (phase_after (code_of code.program)) ≡ None →
@@ -48,18 +48,18 @@ module _ (code : Listing) (done : Step) where
       state_of code last ≡ next_unit (state_of code third) →
       IsLedTry code (followed (code_of code.program) done) true last before after
   followed_led third last before after result h k next =
-      let is : followed (code_of code.program) done ≡ Some (telling (next_unit result.state) result.events) =
+      let is : followed (code_of code.program) done ≡ Some (reporting (next_unit result.state) result.events) =
       ap (λ (o : Option Step). o >>= next_after) h in
       subst (λ (o : Option Step). IsLedTry code o true last before after) (sym is)
       (record {
         went = refl;
         leads = λ one f.
             subst (λ d. IsLed code d last before after)
-            (let same_one : telling (next_unit result.state) result.events ≡ one = cc (f) in same_one)
+            (let same_one : reporting (next_unit result.state) result.events ≡ one = cc (f) in same_one)
             (record {
               alike = subst (λ t. IsAlike (next_unit result.state) t) (sym next)
                   (next_alike result.state (state_of code third) k.alike);
-              told = k.told;
+              reported = k.reported;
             });
       })
 
@@ -73,7 +73,7 @@ module _ (code : Listing) (plan : Plan) (policy : Policy) (was : RunState) where
   arrived = then_try (arrivals (code_of code.program) plan s) (acts (code_of code.program) plan.readings policy)
 
   abbrev counted : Step → Option Step
-  counted result = Some (telling (next_unit result.state) result.events)
+  counted result = Some (reporting (next_unit result.state) result.events)
 
   -- nobody can act, or nothing can follow
   pub unit_stuck : (st : RunState) (before middle : List Event) → arrived ≡ None →
@@ -97,7 +97,7 @@ pub operated_acts : (code : Listing) (plan : Plan) (policy : Policy) (s : State)
 operated_acts code plan policy s done e = go (acts (code_of code.program) plan.readings policy (arrivals (code_of code.program) plan s).state) e
   where
     go : (o : Option Step) →
-        option_map (λ (second : Step). telling second.state ((arrivals (code_of code.program) plan s).events ++ second.events)) o
+        option_map (λ (second : Step). reporting second.state ((arrivals (code_of code.program) plan s).events ++ second.events)) o
         ≡ Some done → (step : Step) × (o ≡ Some step) × (step.state ≡ done.state)
     go None h = absurd (cc (h))
     go (Some step) h = (step, refl, ap (λ (o : Option Step). (unwrap_or o done).state) h)

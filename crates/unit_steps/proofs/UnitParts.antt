@@ -49,37 +49,37 @@ unit_counted code plan policy was st before after h =
     ∙ (unit_follows (code_of code.program) plan policy (state_of code was)).is there.0 there.1
 
 module _ (code : Listing) (plan : Plan) (policy : Policy) (was first second : RunState)
-    (before told_first told_second : List Event)
-    (arrived : IsStep code (arrivals (code_of code.program) plan (state_of code was)) first before told_first)
+    (before reported_first reported_second : List Event)
+    (arrived : IsStep code (arrivals (code_of code.program) plan (state_of code was)) first before reported_first)
     (acted : Bool)
-    (acts_led : IsLedTry code (acts (code_of code.program) plan.readings policy (state_of code first)) acted second told_first
-    told_second)
+    (acts_led : IsLedTry code (acts (code_of code.program) plan.readings policy (state_of code first)) acted second reported_first
+    reported_second)
   where
-    pub both_led : IsLedTry code (operated (code_of code.program) plan policy (state_of code was)) acted second before told_second
+    pub both_led : IsLedTry code (operated (code_of code.program) plan policy (state_of code was)) acted second before reported_second
     both_led =
-        then_led code acted second before told_first told_second (arrivals (code_of code.program) plan (state_of code was))
+        then_led code acted second before reported_first reported_second (arrivals (code_of code.program) plan (state_of code was))
         (acts (code_of code.program) plan.readings policy) first arrived acts_led
 
 -- ---- what follows the operation
 
-module _ (code : Listing) (done : Step) (second third : RunState) (before told_second told_third : List Event)
-    (led : IsLed code done second before told_second) (answer : Bool)
-    (tried : IsTry code (phase_after (code_of code.program) (state_of code second)) answer third told_second told_third) where
-  phase_there : IsLedTry code (then_try done (phase_after (code_of code.program))) answer third before told_third
-  phase_there = phase_led code answer third before told_second told_third done second led tried
+module _ (code : Listing) (done : Step) (second third : RunState) (before reported_second reported_third : List Event)
+    (led : IsLed code done second before reported_second) (answer : Bool)
+    (tried : IsTry code (phase_after (code_of code.program) (state_of code second)) answer third reported_second reported_third) where
+  phase_there : IsLedTry code (then_try done (phase_after (code_of code.program))) answer third before reported_third
+  phase_there = phase_led code answer third before reported_second reported_third done second led tried
 
-  pub stuck_then : answer ≡ false → IsLedTry code (followed (code_of code.program) done) false third before told_third
+  pub stuck_then : answer ≡ false → IsLedTry code (followed (code_of code.program) done) false third before reported_third
   stuck_then e =
-      followed_stuck code done third before told_third
-      (none_there code (then_try done (phase_after (code_of code.program))) answer third before told_third e phase_there)
+      followed_stuck code done third before reported_third
+      (none_there code (then_try done (phase_after (code_of code.program))) answer third before reported_third e phase_there)
 
   pub goes_to_next : (last : RunState) → answer ≡ true → state_of code last ≡ next_unit (state_of code third) →
-      IsLedTry code (followed (code_of code.program) done) true last before told_third
+      IsLedTry code (followed (code_of code.program) done) true last before reported_third
   goes_to_next last e next =
       let there : (result : Step) × (then_try done (phase_after (code_of code.program)) ≡ Some result)
-      × IsLed code result third before told_third =
-      led_there code (then_try done (phase_after (code_of code.program))) answer third before told_third e phase_there in
-      followed_led code done third last before told_third there.0 there.1 there.2 next
+      × IsLed code result third before reported_third =
+      led_there code (then_try done (phase_after (code_of code.program))) answer third before reported_third e phase_there in
+      followed_led code done third last before reported_third there.0 there.1 there.2 next
 
 -- ---- a whole unit
 

@@ -10,7 +10,7 @@ use Rattle.unit_steps.specs.Alike.{IsAlike}
 -- the step led to a state like this one, and its events were told
 pub record IsLed (code : Listing) (step : Step) (st : RunState) (before after : List Event) : Type 0 where
   pub alike : IsAlike step.state (state_of code st)
-  pub told : after ≡ before ++ step.events
+  pub reported : after ≡ before ++ step.events
 
 -- a step that may have no result: the code answers whether it has one, and if so it was led there
 pub record IsLedTry (code : Listing) (step : Option Step) (answer : Bool) (st : RunState) (before after : List Event) : Type 0 where

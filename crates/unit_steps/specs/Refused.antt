@@ -4,7 +4,7 @@ use Rattle.scj_rules.specs.Words.{◌>>=◌}
 use Rattle.scj_model.specs.Code.{Code}
 use Rattle.scj_model.specs.Plan.{Plan}
 use Rattle.scj_model.specs.State.{State}
-use Rattle.scj_model.specs.Steps.{Step, telling, then_try}
+use Rattle.scj_model.specs.Steps.{Step, reporting, then_try}
 use Rattle.scj_model.specs.Sequencer.{phase_after}
 use Rattle.scj_model.specs.Arrivals.{arrivals}
 use Rattle.scj_model.specs.Choice.{Policy}
@@ -30,4 +30,4 @@ operated code plan policy s = then_try (arrivals code plan s) (acts code plan.re
 -- what follows these, and the next unit comes next
 abbrev pub followed : Code → Step → Option Step
 followed code done =
-    then_try done (phase_after code) >>= (λ result. Some (telling (next_unit result.state) result.events))
+    then_try done (phase_after code) >>= (λ result. Some (reporting (next_unit result.state) result.events))

@@ -35,18 +35,18 @@ fn calls(
     activity: Activity,
     call: NewFrame,
     arguments: Vec<Value>,
-    told: &mut Vec<Event>,
+    reported: &mut Vec<Event>,
 ) -> Result<(), Memory>
     requires closes { CloseInOrder state.old.memory activity.frames }
     requires live { (r : ℕ) → call.this ≡ Some r → IsLive state.old.memory r }
     ensures { IfOk result
         (λ _. IsApplied code.now state.old acting activity
-        (λ f. Calls f (frame_called code.now call arguments.items)) true state.new told.old.items
-        told.new.items) }
+        (λ f. Calls f (frame_called code.now call arguments.items)) true state.new reported.old.items
+        reported.new.items) }
 {
     let mut activity = activity;
     put_on_top(alloc, code, &mut activity, call, arguments)?;
-    called(code, state, acting, activity, told)?;
+    called(code, state, acting, activity, reported)?;
     Ok(())
 }
 
@@ -60,19 +60,19 @@ fn opens(
     call: NewFrame,
     scope: ScopeId,
     bytes: u64,
-    told: &mut Vec<Event>,
+    reported: &mut Vec<Event>,
 ) -> Result<(), Memory>
     requires stands { StandsIn state.old.memory activity }
     requires numbers { HasNumbers state.old.memory }
     ensures { IfOk result
         (λ _. IsApplied code.now state.old acting activity
-        (λ f. Opens f (frame_called code.now call []) scope bytes) true state.new told.old.items
-        told.new.items) }
+        (λ f. Opens f (frame_called code.now call []) scope bytes) true state.new reported.old.items
+        reported.new.items) }
 {
     let mut activity = activity;
     let none = Vec::new(alloc);
     put_on_top(alloc, code, &mut activity, call, none)?;
-    opened_in(state, acting, activity, scope, bytes, told)?;
+    opened_in(state, acting, activity, scope, bytes, reported)?;
     Ok(())
 }
 
@@ -85,14 +85,14 @@ fn apply(
     acting: Acting,
     activity: Activity,
     effect: Effect,
-    told: &mut Vec<Event>,
+    reported: &mut Vec<Event>,
 ) -> Result<bool, Memory>
     requires stands { StandsIn state.old.memory activity }
     requires numbers { HasNumbers state.old.memory }
     requires effect { EffectStands state.old.memory activity effect }
     ensures { IfOk result
         (λ answer. IsApplied code.now state.old acting activity (effect_seen code.now effect) answer
-        state.new told.old.items told.new.items) }
+        state.new reported.old.items reported.new.items) }
 {
     match effect {
         Effect::Goes => {
@@ -100,17 +100,17 @@ fn apply(
             Ok(true)
         }
         Effect::Prints { label, value } => {
-            prints(state, acting, activity, label, value, told)?;
+            prints(state, acting, activity, label, value, reported)?;
             Ok(true)
         }
         Effect::Makes { class, slots } => {
             let object = NewObject { class, slots };
-            makes(state, acting, activity, object, told)?;
+            makes(state, acting, activity, object, reported)?;
             Ok(true)
         }
         Effect::MakesArray { class, kind, count } => {
             let array = NewArray { class, kind, count };
-            makes_array(state, acting, activity, array, told)?;
+            makes_array(state, acting, activity, array, reported)?;
             Ok(true)
         }
         Effect::Stores { r, slot, value } => {
@@ -126,30 +126,30 @@ fn apply(
             Ok(true)
         }
         Effect::SetsCeiling { r, ceiling } => {
-            sets_ceiling(state, acting, activity, r, ceiling, told)?;
+            sets_ceiling(state, acting, activity, r, ceiling, reported)?;
             Ok(true)
         }
         Effect::Calls { call, arguments } => {
-            calls(alloc, code, state, acting, activity, call, arguments, told)?;
+            calls(alloc, code, state, acting, activity, call, arguments, reported)?;
             Ok(true)
         }
         Effect::Opens { call, scope, bytes } => {
             opens(
-                alloc, code, state, acting, activity, call, scope, bytes, told,
+                alloc, code, state, acting, activity, call, scope, bytes, reported,
             )?;
             Ok(true)
         }
         Effect::Leaves { value } => {
-            leaves(state, acting, activity, value, told)?;
+            leaves(state, acting, activity, value, reported)?;
             Ok(true)
         }
         Effect::Faults { fault } => {
-            faults(state, acting, activity, fault, told)?;
+            faults(state, acting, activity, fault, reported)?;
             Ok(true)
         }
-        Effect::AsksRegistration { r } => asks_registration(code, state, acting, activity, r, told),
-        Effect::AsksRelease { r } => asks_release(code, state, acting, activity, r, told),
-        Effect::AsksTermination { r } => asks_termination(code, state, acting, activity, r, told),
+        Effect::AsksRegistration { r } => asks_registration(code, state, acting, activity, r, reported),
+        Effect::AsksRelease { r } => asks_release(code, state, acting, activity, r, reported),
+        Effect::AsksTermination { r } => asks_termination(code, state, acting, activity, r, reported),
         Effect::Stuck => Ok(is_stuck()),
     }
 }
@@ -162,20 +162,20 @@ pub(crate) fn apply_effect(
     acting: Acting,
     activity: Activity,
     effect: Effect,
-    told: &mut Vec<Event>,
+    reported: &mut Vec<Event>,
 ) -> Result<Acted, Memory>
     requires stands { StandsIn state.old.memory activity }
     requires numbers { HasNumbers state.old.memory }
     requires effect { EffectStands state.old.memory activity effect }
     ensures applied { IfOk result
         (λ acted. IsApplied code.now state.old acting activity (effect_seen code.now effect)
-        (went acted) state.new told.old.items told.new.items) }
+        (went acted) state.new reported.old.items reported.new.items) }
     ensures refused { (s : StateSeen) (f : StoredFrame) (below : List StoredFrame) → activity.frames ≡ f ∷ below →
         IfOk result
         (λ acted. Refuses acted (refused_by (with_memory s state.old.memory)
         (effect_seen code.now effect (frame_of code.now f)))) }
 {
     let refusal = refused_before(state, &activity, &effect)?;
-    let went = apply(alloc, code, state, acting, activity, effect, told)?;
+    let went = apply(alloc, code, state, acting, activity, effect, reported)?;
     Ok(came_to(went, refusal))
 }

@@ -18,7 +18,7 @@ use class_rows::ClassTable;
 use mission_steps::{aperiodic_of, is_exec, release_taken, takes_releases};
 use run_plan::Plan;
 use run_state::RunState;
-use run_state::told::tell;
+use run_state::reported::report;
 use scj_base::{Memory, Name};
 use scj_model::{Event, Fire};
 
@@ -44,32 +44,32 @@ fn is_due_at(state: &RunState, index: usize) -> bool
 }
 
 /// The handler at a place of the registry is released if it is due.
-fn arrive_if_due(state: &mut RunState, index: usize, told: &mut Vec<Event>) -> Result<(), Memory>
+fn arrive_if_due(state: &mut RunState, index: usize, reported: &mut Vec<Event>) -> Result<(), Memory>
     ensures { (code : Listing) →
         IfOk result
-        (λ _. IsStep code (arrived_at (state_of code state.old) index) state.new told.old.items told.new.items) }
+        (λ _. IsStep code (arrived_at (state_of code state.old) index) state.new reported.old.items reported.new.items) }
 {
     if !is_due_at(state, index) {
         return Ok(());
     }
     let number = number_of(index)?;
-    release_taken(state, number, told)?;
+    release_taken(state, number, reported)?;
     Ok(())
 }
 
 /// The handlers that are released periodically in this unit.
-fn periodic_arrivals(state: &mut RunState, told: &mut Vec<Event>) -> Result<(), Memory>
+fn periodic_arrivals(state: &mut RunState, reported: &mut Vec<Event>) -> Result<(), Memory>
     ensures { (code : Listing) →
         IfOk result
         (λ _. IsStep code
         (for_each release_taken (due_handlers (state_of code state.old)) (state_of code state.old)) state.new
-        told.old.items told.new.items) }
+        reported.old.items reported.new.items) }
 {
     if !takes_releases(state) {
         return Ok(());
     }
     for index in 0..state.registry.len() {
-        arrive_if_due(state, index, told)?;
+        arrive_if_due(state, index, reported)?;
     }
     Ok(())
 }
@@ -99,23 +99,23 @@ fn fired(
     classes: &ClassTable<'_>,
     state: &mut RunState,
     fire: &Fire,
-    told: &mut Vec<Event>,
+    reported: &mut Vec<Event>,
 ) -> Result<(), Memory>
     ensures { (code : Listing) → code.program ≡ classes.now →
         IfOk result
         (λ _. IsStep code
-        (fired (code_of code.program) (state_of code state.old) fire.now) state.new told.old.items
-        told.new.items) }
+        (fired (code_of code.program) (state_of code state.old) fire.now) state.new reported.old.items
+        reported.new.items) }
 {
     match fired_handler(classes, state, &fire.handler)? {
         Some(handler) => {
-            release_taken(state, handler, told)?;
+            release_taken(state, handler, reported)?;
             Ok(())
         }
         None => {
             let unit = state.unit;
-            tell(
-                told,
+            report(
+                reported,
                 Event::Miss {
                     unit,
                     name: fire.handler,
@@ -133,19 +133,19 @@ fn fired_in(
     unit: u64,
     state: &mut RunState,
     fire: &Fire,
-    told: &mut Vec<Event>,
+    reported: &mut Vec<Event>,
 ) -> Result<(), Memory>
     ensures { (code : Listing) → code.program ≡ classes.now →
         IfOk result
         (λ _. IsStep code
         (fired_in (code_of code.program) origin unit
         (state_of code state.old) fire.now)
-        state.new told.old.items told.new.items) }
+        state.new reported.old.items reported.new.items) }
 {
     if !comes_in(origin, unit, fire) {
         return Ok(());
     }
-    fired(classes, state, fire, told)?;
+    fired(classes, state, fire, reported)?;
     Ok(())
 }
 
@@ -156,18 +156,18 @@ fn fires_in_order(
     unit: u64,
     state: &mut RunState,
     fires: &[Fire],
-    told: &mut Vec<Event>,
+    reported: &mut Vec<Event>,
 ) -> Result<(), Memory>
     ensures { (code : Listing) → code.program ≡ classes.now →
         IfOk result
         (λ _. IsStep code
         (for_each (fired_in (code_of code.program) origin unit) fires.now
         (state_of code state.old))
-        state.new told.old.items told.new.items) }
+        state.new reported.old.items reported.new.items) }
 {
     let mut rest = fires;
     while let [fire, others @ ..] = rest {
-        fired_in(classes, origin, unit, state, fire, told)?;
+        fired_in(classes, origin, unit, state, fire, reported)?;
         rest = others;
     }
     Ok(())
@@ -192,22 +192,22 @@ pub(crate) fn arrivals(
     plan: &Plan,
     past: &mut usize,
     state: &mut RunState,
-    told: &mut Vec<Event>,
+    reported: &mut Vec<Event>,
 ) -> Result<(), Memory>
     requires past { past.old ≡ fires_before plan.now state.old.unit }
     ensures arrived { (code : Listing) → code.program ≡ classes.now →
         IfOk result
         (λ _. IsStep code
-        (arrivals (code_of code.program) plan.now (state_of code state.old)) state.new told.old.items
-        told.new.items) }
+        (arrivals (code_of code.program) plan.now (state_of code state.old)) state.new reported.old.items
+        reported.new.items) }
     ensures past { IfOk result (λ _. past.new ≡ fires_before plan.now (state.old.unit + 1)) }
 {
     let origin = executes_since(state);
     let unit = state.unit;
     let fires = plan.fires_coming(*past, origin, unit);
     let next = plan.past_fires(*past, unit);
-    periodic_arrivals(state, told)?;
-    fires_in_order(classes, origin, unit, state, fires, told)?;
+    periodic_arrivals(state, reported)?;
+    fires_in_order(classes, origin, unit, state, fires, reported)?;
     *past = next;
     Ok(())
 }

@@ -87,7 +87,7 @@ pub(crate) fn frame_op(
     plan: &Plan,
     state: &mut RunState,
     job: Job,
-    told: &mut Vec<Event>,
+    reported: &mut Vec<Event>,
 ) -> Result<Acted, Memory>
     requires numbers { HasNumbers state.old.memory }
     requires stands { JobStands code.now plan.now.readings state.old (job_seen job) }
@@ -96,7 +96,7 @@ pub(crate) fn frame_op(
         IfOk result
         (λ acted. IsLedTry code.now
         (frame_op (code_of code.now.program) plan.now.readings (state_of code.now state.old) (job_seen job) activity)
-        (went acted) state.new told.old.items told.new.items) }
+        (went acted) state.new reported.old.items reported.new.items) }
     ensures refused { (activity : ActivityOfRun) → activity_of (state_of code.now state.old)
         (job_seen job) ≡ Some activity →
         IfOk result
@@ -118,6 +118,6 @@ pub(crate) fn frame_op(
         job,
         position: position_of(code, done.op),
     };
-    let acted = apply_effect(alloc, code, state, acting, activity, done.effect, told)?;
+    let acted = apply_effect(alloc, code, state, acting, activity, done.effect, reported)?;
     Ok(acted)
 }

@@ -6,7 +6,7 @@ ghost use Rattle.scj_model.specs.declared.events.Event.TheVariants.{Run as RunEv
 ghost use Rattle.scj_model.specs.Code.{code_of};
 ghost use Rattle.op_list.specs.Listed.{Listing};
 ghost use Rattle.scj_model.specs.Choice.{by_priority};
-ghost use Rattle.scj_model.specs.Run.{acts, is_same_turn, ref_op, sequencer_turn, tell_turn, turn_acts, turn_taken};
+ghost use Rattle.scj_model.specs.Run.{acts, is_same_turn, ref_op, sequencer_turn, report_turn, turn_acts, turn_taken};
 ghost use Rattle.scj_model.specs.State.{ReleaseAt, TheSequencer, TurnOf};
 ghost use Rattle.scj_model.specs.Steps.{of_release};
 ghost use Rattle.run_state.specs.Seen.{state_of, turn_seen};
@@ -26,7 +26,7 @@ use mission_steps::{is_exec, sequencer_op, start_op};
 use op_list::OpList;
 use run_plan::Plan;
 use run_releases::{Release, ReleaseStatus};
-use run_state::told::tell;
+use run_state::reported::report;
 use run_state::{Job, RunState, Turn};
 use scj_base::Memory;
 use scj_model::Event;
@@ -38,7 +38,7 @@ fn sequencer_turn(
     code: &OpList<'_>,
     plan: &Plan,
     state: &mut RunState,
-    told: &mut Vec<Event>,
+    reported: &mut Vec<Event>,
 ) -> Result<Acted, Memory>
     requires numbers { HasNumbers state.old.memory }
     requires few { open_count state.old.memory < 1794 }
@@ -48,17 +48,17 @@ fn sequencer_turn(
     ensures led { IfOk result
         (λ acted. IsLedTry code.now
         (sequencer_turn (code_of code.now.program) plan.now.readings (state_of code.now state.old)) (went acted)
-        state.new told.old.items told.new.items) }
+        state.new reported.old.items reported.new.items) }
     ensures refused { IfOk result
         (λ acted. Refuses acted
         (refused_to_sequencer (code_of code.now.program) plan.now.readings (state_of code.now state.old))) }
 {
     if state.activity.frames.depth() == 0 {
         let refusal = refused_own(alloc, code, state)?;
-        let went = sequencer_op(alloc, code, state, told)?;
+        let went = sequencer_op(alloc, code, state, reported)?;
         return Ok(came_to(went, refusal));
     }
-    let acted = frame_op(alloc, code, plan, state, Job::Sequencer, told)?;
+    let acted = frame_op(alloc, code, plan, state, Job::Sequencer, reported)?;
     Ok(acted)
 }
 
@@ -103,7 +103,7 @@ fn release_turn(
     plan: &Plan,
     state: &mut RunState,
     index: usize,
-    told: &mut Vec<Event>,
+    reported: &mut Vec<Event>,
 ) -> Result<Acted, Memory>
     requires numbers { HasNumbers state.old.memory }
     requires start { StartStands state.old index }
@@ -111,7 +111,7 @@ fn release_turn(
     ensures led { IfOk result
         (λ acted. IsLedTry code.now
         (ref_op (code_of code.now.program) plan.now.readings (state_of code.now state.old) (ReleaseAt index))
-        (went acted) state.new told.old.items told.new.items) }
+        (went acted) state.new reported.old.items reported.new.items) }
     ensures refused { IfOk result
         (λ acted. Refuses acted
         (refused_to_turn (code_of code.now.program) plan.now.readings (state_of code.now state.old)
@@ -119,11 +119,11 @@ fn release_turn(
 {
     match move_at(state, index) {
         Move::Starts { handler } => {
-            let went = start_op(alloc, code, state, index, handler, told)?;
+            let went = start_op(alloc, code, state, index, handler, reported)?;
             Ok(came_to(went, None))
         }
         Move::GoesOn => {
-            let acted = frame_op(alloc, code, plan, state, Job::Release(index), told)?;
+            let acted = frame_op(alloc, code, plan, state, Job::Release(index), reported)?;
             Ok(acted)
         }
         Move::Nothing => Ok(Acted::Stuck),
@@ -158,17 +158,17 @@ fn is_last(state: &RunState, turn: Turn) -> bool
 }
 
 /// Tells that the release at a place acts.
-fn tell_run(state: &RunState, index: usize, told: &mut Vec<Event>) -> Result<(), Memory>
+fn report_run(state: &RunState, index: usize, reported: &mut Vec<Event>) -> Result<(), Memory>
     ensures { (code : Listing) →
         OnOk result
-        (told.new.items ≡ told.old.items ++ of_release (state_of code state.now) (ReleaseAt index)
+        (reported.new.items ≡ reported.old.items ++ of_release (state_of code state.now) (ReleaseAt index)
         (λ r. RunEvent state.now.unit r.handler r.number ∷ [])) }
 {
     match state.releases.release(index) {
         Some(release) => {
             let unit = state.unit;
-            tell(
-                told,
+            report(
+                reported,
                 Event::Run {
                     unit,
                     handler: release.handler,
@@ -182,46 +182,46 @@ fn tell_run(state: &RunState, index: usize, told: &mut Vec<Event>) -> Result<(),
 }
 
 /// Tells whose turn it is.
-fn tell_turn(state: &RunState, turn: Turn, told: &mut Vec<Event>) -> Result<(), Memory>
+fn report_turn(state: &RunState, turn: Turn, reported: &mut Vec<Event>) -> Result<(), Memory>
     ensures { (code : Listing) →
         OnOk result
-        (told.new.items ≡ told.old.items ++ tell_turn (state_of code state.now) (turn_seen turn)) }
+        (reported.new.items ≡ reported.old.items ++ report_turn (state_of code state.now) (turn_seen turn)) }
 {
     match turn {
         Turn::Idle => {
             let unit = state.unit;
-            tell(told, Event::Idle { unit })?;
+            report(reported, Event::Idle { unit })?;
             Ok(())
         }
         Turn::Of(index) => {
-            tell_run(state, index, told)?;
+            report_run(state, index, reported)?;
             Ok(())
         }
     }
 }
 
 /// Tells whose turn it is where the last one was another.
-fn tell_other_turn(state: &RunState, turn: Turn, told: &mut Vec<Event>) -> Result<(), Memory>
+fn report_other_turn(state: &RunState, turn: Turn, reported: &mut Vec<Event>) -> Result<(), Memory>
     ensures { (code : Listing) →
         OnOk result
-        (told.new.items ≡ told.old.items ++ (turn_taken (state_of code state.now) (turn_seen turn)).events) }
+        (reported.new.items ≡ reported.old.items ++ (turn_taken (state_of code state.now) (turn_seen turn)).events) }
 {
     if is_last(state, turn) {
         return Ok(());
     }
-    tell_turn(state, turn, told)?;
+    report_turn(state, turn, reported)?;
     Ok(())
 }
 
 /// A turn is told where the last one was another.
-fn turn_taken(state: &mut RunState, turn: Turn, told: &mut Vec<Event>) -> Result<(), Memory>
+fn turn_taken(state: &mut RunState, turn: Turn, reported: &mut Vec<Event>) -> Result<(), Memory>
     ensures same { IfOk result (λ _. state.new ≡ record state.old { last_choice = Some turn }) }
     ensures step { (code : Listing) →
         IfOk result
-        (λ _. IsStep code (turn_taken (state_of code state.old) (turn_seen turn)) state.new told.old.items
-        told.new.items) }
+        (λ _. IsStep code (turn_taken (state_of code state.old) (turn_seen turn)) state.new reported.old.items
+        reported.new.items) }
 {
-    tell_other_turn(state, turn, told)?;
+    report_other_turn(state, turn, reported)?;
     state.last_choice = Some(turn);
     Ok(())
 }
@@ -233,7 +233,7 @@ fn turn_acts(
     plan: &Plan,
     state: &mut RunState,
     turn: Turn,
-    told: &mut Vec<Event>,
+    reported: &mut Vec<Event>,
 ) -> Result<Acted, Memory>
     requires numbers { HasNumbers state.old.memory }
     requires start { (index : ℕ) → turn_seen turn ≡ TurnOf index → StartStands state.old index }
@@ -242,7 +242,7 @@ fn turn_acts(
     ensures led { IfOk result
         (λ acted. IsLedTry code.now
         (turn_acts (code_of code.now.program) plan.now.readings (turn_seen turn) (state_of code.now state.old))
-        (went acted) state.new told.old.items told.new.items) }
+        (went acted) state.new reported.old.items reported.new.items) }
     ensures refused { IfOk result
         (λ acted. Refuses acted
         (refused_to_turn (code_of code.now.program) plan.now.readings (state_of code.now state.old)
@@ -251,7 +251,7 @@ fn turn_acts(
     match turn {
         Turn::Idle => Ok(Acted::Done(None)),
         Turn::Of(index) => {
-            let acted = release_turn(alloc, code, plan, state, index, told)?;
+            let acted = release_turn(alloc, code, plan, state, index, reported)?;
             Ok(acted)
         }
     }
@@ -273,23 +273,23 @@ pub(crate) fn acts(
     code: &OpList<'_>,
     plan: &Plan,
     state: &mut RunState,
-    told: &mut Vec<Event>,
+    reported: &mut Vec<Event>,
 ) -> Result<Acted, Memory>
     requires stands { ActsStand code.now plan.now.readings state.old }
     ensures led { IfOk result
         (λ acted. IsLedTry code.now
         (acts (code_of code.now.program) plan.now.readings by_priority (state_of code.now state.old))
-        (went acted) state.new told.old.items told.new.items) }
+        (went acted) state.new reported.old.items reported.new.items) }
     ensures refused { IfOk result
         (λ acted. Refuses acted
         (refused_at (code_of code.now.program) plan.now.readings by_priority (state_of code.now state.old))) }
 {
     if !is_exec(state.phase) {
-        let acted = sequencer_turn(alloc, code, plan, state, told)?;
+        let acted = sequencer_turn(alloc, code, plan, state, reported)?;
         return Ok(acted);
     }
     let turn = turn_of(state);
-    turn_taken(state, turn, told)?;
-    let acted = turn_acts(alloc, code, plan, state, turn, told)?;
+    turn_taken(state, turn, reported)?;
+    let acted = turn_acts(alloc, code, plan, state, turn, reported)?;
     Ok(acted)
 }

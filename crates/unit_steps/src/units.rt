@@ -56,7 +56,7 @@ pub fn begin_unit(
     setting: Setting<'_>,
     past: &mut usize,
     state: &mut RunState,
-    told: &mut Vec<Event>,
+    reported: &mut Vec<Event>,
 ) -> Result<Acted, Memory>
     requires same { setting.classes.now ≡ setting.code.now.program }
     requires past { past.old ≡ fires_before setting.plan.now state.old.unit }
@@ -66,8 +66,8 @@ pub fn begin_unit(
     ensures led { IfOk result
         (λ acted. IsLedTry setting.entry.code.now
         (operated (code_of setting.entry.code.now.program) setting.entry.plan.now by_priority
-        (state_of setting.entry.code.now state.old)) (went acted) state.new told.old.items
-        told.new.items) }
+        (state_of setting.entry.code.now state.old)) (went acted) state.new reported.old.items
+        reported.new.items) }
     ensures refused { IfOk result
         (λ acted. Refuses acted
         (refused_at (code_of setting.entry.code.now.program) setting.entry.plan.now.readings by_priority
@@ -75,8 +75,8 @@ pub fn begin_unit(
         (state_of setting.entry.code.now state.old)).state)) }
     ensures past { IfOk result (λ acted. past.new ≡ fires_before setting.entry.plan.now (state.old.unit + 1)) }
 {
-    arrivals(setting.classes, setting.plan, past, state, told)?;
-    let acted = acts(alloc, setting.code, setting.plan, state, told)?;
+    arrivals(setting.classes, setting.plan, past, state, reported)?;
+    let acted = acts(alloc, setting.code, setting.plan, state, reported)?;
     Ok(acted)
 }
 
@@ -84,16 +84,16 @@ pub fn begin_unit(
 pub fn end_unit(
     setting: Setting<'_>,
     state: &mut RunState,
-    told: &mut Vec<Event>,
+    reported: &mut Vec<Event>,
 ) -> Result<bool, Memory>
     requires stands { PhaseStands state.old }
     ensures { (done : Step) (before : List EventOfRun) →
-        IsLed setting.entry.code.now done state.old before told.old.items →
+        IsLed setting.entry.code.now done state.old before reported.old.items →
         IfOk result
         (λ answer. IsLedTry setting.entry.code.now (followed (code_of setting.entry.code.now.program) done) answer
-        state.new before told.new.items) }
+        state.new before reported.new.items) }
 {
-    let followed = phase_after(setting.code, state, told)?;
+    let followed = phase_after(setting.code, state, reported)?;
     if !followed {
         return Ok(false);
     }
@@ -109,7 +109,7 @@ pub fn one_unit(
     setting: Setting<'_>,
     past: &mut usize,
     state: &mut RunState,
-    told: &mut Vec<Event>,
+    reported: &mut Vec<Event>,
 ) -> Result<bool, Memory>
     requires same { setting.classes.now ≡ setting.code.now.program }
     requires past { past.old ≡ fires_before setting.plan.now state.old.unit }
@@ -123,15 +123,15 @@ pub fn one_unit(
     ensures led { IfOk result
         (λ answer. IsLedTry setting.entry.code.now
         (one_unit (code_of setting.entry.code.now.program) setting.entry.plan.now by_priority
-        (state_of setting.entry.code.now state.old)) answer state.new told.old.items told.new.items) }
+        (state_of setting.entry.code.now state.old)) answer state.new reported.old.items reported.new.items) }
     ensures past { IfOk result
         (λ answer. answer ≡ true → past.new ≡ fires_before setting.entry.plan.now state.new.unit) }
 {
-    let acted = begin_unit(alloc, setting, past, state, told)?;
+    let acted = begin_unit(alloc, setting, past, state, reported)?;
     match acted {
         Acted::Stuck => Ok(false),
         Acted::Done(_refusal) => {
-            let ended = end_unit(setting, state, told)?;
+            let ended = end_unit(setting, state, reported)?;
             Ok(ended)
         }
     }

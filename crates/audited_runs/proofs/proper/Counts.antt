@@ -12,22 +12,22 @@ use Rattle.scj_model.specs.Code.{Code}
 use Rattle.scj_model.specs.State.{Object, Frame, Activity, ReleaseStatus, Waits, Started, Ended, Release, Job, TheSequencer, ReleaseAt, State, with_activity, with_status, object_at, is_exec, is_init, is_waiting}
 use Rattle.scj_model.specs.Registry.{handler_number, most_handlers}
 use Rattle.scj_model.specs.Memory.{area_with_scope, closed, has_room, has_store_for, with_area, with_object}
-use Rattle.scj_model.specs.Steps.{Step, allocating, closed_all, fault_in, job_ended, opening, silently, telling, then_do}
+use Rattle.scj_model.specs.Steps.{Step, allocating, closed_all, fault_in, job_ended, opening, silently, reporting, then_do}
 use Rattle.scj_model.specs.Effects.{Effect, Goes, Prints, Makes, Stores, StoresStatic, SetsHidden, SetsCeiling, Calls, Opens, Leaves, AsksRegistration, AsksRelease, AsksTermination, Faults, Stuck}
-use Rattle.scj_model.specs.Apply.{applied, asks_for_end, called, ceiling_entered, dropped_release, frame_left, is_full, is_sequencer, most_waiting, opened_in, registered, release_taken, released, releases_of, returned, takes_releases, tell_priority, termination, termination_asked, waiting_of, with_frame, without}
+use Rattle.scj_model.specs.Apply.{applied, asks_for_end, called, ceiling_entered, dropped_release, frame_left, is_full, is_sequencer, most_waiting, opened_in, registered, release_taken, released, releases_of, returned, takes_releases, report_priority, termination, termination_asked, waiting_of, with_frame, without}
 use Rattle.audited_runs.proofs.Changes.{length_changed}
 use Rattle.audited_runs.proofs.proper.Steps.{GoodIf, either_good, good_if, good_option, mapped_good, nothing_good, some_good}
 
 pub record Short (most lines : ℕ) (x : Step) : Type 0 where
-  pub told : length x.events ≤ lines
+  pub reported : length x.events ≤ lines
   pub more : length x.state.releases ≤ most
 
 -- ---- lists
 
-one_if : {A : Type 0} (o : Option A) (tell : A → Event) →
-    length (elim o as (λ _. List Event) [ None ↦ [] | Some a ↦ tell a ∷ [] ]) ≤ 1
-one_if None tell = omega arith
-one_if (Some a) tell = omega arith
+one_if : {A : Type 0} (o : Option A) (report : A → Event) →
+    length (elim o as (λ _. List Event) [ None ↦ [] | Some a ↦ report a ∷ [] ]) ≤ 1
+one_if None report = omega arith
+one_if (Some a) report = omega arith
 
 filter_shorter : {A : Type 0} (test : A → Bool) (xs : List A) → length (filter test xs) ≤ length xs
 filter_shorter test [] = omega arith
@@ -73,8 +73,8 @@ pub short_taken : (n : ℕ) (s : State) (handler : ℕ) → length s.releases �
 unfolding release_taken
 short_taken n s handler h =
     good_if (Short (n + 1) 1) (not (nat_lt (length (waiting_of s handler)) most_waiting)) _ _
-    (λ e. record { told = omega arith; more = omega (arith, h) })
-    (λ e. record { told = omega arith; more = longer (record { handler = handler; number = length (releases_of s handler) + 1; status = Waits }) })
+    (λ e. record { reported = omega arith; more = omega (arith, h) })
+    (λ e. record { reported = omega arith; more = longer (record { handler = handler; number = length (releases_of s handler) + 1; status = Waits }) })
   where
     longer : (r : Release) → length (s.releases ++ r ∷ []) ≤ n + 1
     longer r = let e = length_push s.releases r in omega (arith, e, h)
@@ -84,10 +84,10 @@ module _ (n : ℕ) where
   S = Short (n + 1) (n + 2)
 
   pub silent : (s : State) → length s.releases ≤ n → S (silently s)
-  silent s h = record { told = omega arith; more = omega (arith, h) }
+  silent s h = record { reported = omega arith; more = omega (arith, h) }
 
-  two_lines : (s : State) (es : List Event) → length es ≤ 2 → length s.releases ≤ n → S (telling s es)
-  two_lines s es l h = record { told = omega (arith, l); more = omega (arith, h) }
+  two_lines : (s : State) (es : List Event) → length es ≤ 2 → length s.releases ≤ n → S (reporting s es)
+  two_lines s es l h = record { reported = omega (arith, l); more = omega (arith, h) }
 
   short_fault : (s : State) (job : Job) (a : Activity) (position : Position) (fault : RunFault) → length s.releases ≤ n →
       S (fault_in s job a position fault)
@@ -101,14 +101,14 @@ module _ (n : ℕ) where
   ended : (s : State) (job : Job) (a : Activity) (value : Option Value) → length s.releases ≤ n →
       Short n 1 (job_ended s job a value)
   unfolding job_ended
-  ended s TheSequencer a value h = record { told = omega arith; more = h }
+  ended s TheSequencer a value h = record { reported = omega arith; more = h }
   ended s (ReleaseAt p) a value h =
       record {
-        told = one_if (slice_get s.releases p) (λ (r : Release). event.End s.unit r.handler r.number);
+        reported = one_if (slice_get s.releases p) (λ (r : Release). event.End s.unit r.handler r.number);
         more = many_status n s p Ended h;
       }
 
-  one_prio : (s : State) (job : Job) (before after : ℕ) → length (tell_priority s job before after) ≤ 1
+  one_prio : (s : State) (job : Job) (before after : ℕ) → length (report_priority s job before after) ≤ 1
   one_prio s TheSequencer before after = go (before == after)
     where
       go : (b : Bool) → length {A = Event} (if b then [] else []) ≤ 1
@@ -156,15 +156,15 @@ module _ (n : ℕ) where
       (λ e. silent s h)
     where
       weak : {x : Step} → Short (n + 1) 1 x → S x
-      weak k = record { told = let l = k.told in omega (arith, l); more = k.more }
+      weak k = record { reported = let l = k.reported in omega (arith, l); more = k.more }
 
   short_asked : (s : State) (r : ℕ) → length s.releases ≤ n → S (termination_asked s r)
   unfolding termination_asked termination
   short_asked s r h =
       good_if S (asks_for_end s.mission s.phase s.is_end_asked r) _ _
       (λ e. good_if S (is_exec s.phase) _ _
-      (λ f. record { told = drops; more = kept })
-      (λ f. record { told = omega arith; more = omega (arith, h) }))
+      (λ f. record { reported = drops; more = kept })
+      (λ f. record { reported = omega arith; more = omega (arith, h) }))
       (λ e. silent s h)
     where
       waiting : List Release
@@ -214,20 +214,20 @@ module _ (n : ℕ) where
             }
 
         first : List Event
-        first = tell_priority s job a.priority (unwrap_or f.saved a.priority)
+        first = report_priority s job a.priority (unwrap_or f.saved a.priority)
 
-        both : (x : Step) → Short n 1 x → S (telling x.state (first ++ x.events))
+        both : (x : Step) → Short n 1 x → S (reporting x.state (first ++ x.events))
         both x k =
             record {
-              told =
+              reported =
                   let e = length-append first x.events in
                   let l = one_prio s job a.priority (unwrap_or f.saved a.priority) in
-                  let m = k.told in omega (arith, e, l, m);
+                  let m = k.reported in omega (arith, e, l, m);
               more = let m = k.more in omega (arith, m);
             }
 
         go : (fs : List Frame) →
-            S (then_do (telling (closed s f.opened) first) (λ t. elim fs as (λ _. Step) [
+            S (then_do (reporting (closed s f.opened) first) (λ t. elim fs as (λ _. Step) [
               | [] ↦ job_ended t job after value
               | g ∷ gs ↦ silently (with_activity t job after)
             ]))
@@ -237,7 +237,7 @@ module _ (n : ℕ) where
         go (g ∷ gs) =
             both (silently (with_activity (closed s f.opened) job after))
             (record {
-              told = omega arith;
+              reported = omega arith;
               more = many_with n (closed s f.opened) job after (many_closed n s f.opened h);
             })
 

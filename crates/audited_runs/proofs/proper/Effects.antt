@@ -19,9 +19,9 @@ use Rattle.scj_model.specs.TraceText.{label}
 use Rattle.scj_model.specs.State.{Object, Frame, Activity, Ended, Release, Job, TheSequencer, ReleaseAt, State, with_activity, with_status, object_at, is_exec, is_init, is_waiting}
 use Rattle.scj_model.specs.Registry.{handler_number, most_handlers, new_row}
 use Rattle.scj_model.specs.Memory.{area_with_scope, closed, has_room, has_store_for, with_area, with_object}
-use Rattle.scj_model.specs.Steps.{Step, allocating, closed_all, fault_in, job_ended, opening, silently, telling}
+use Rattle.scj_model.specs.Steps.{Step, allocating, closed_all, fault_in, job_ended, opening, silently, reporting}
 use Rattle.scj_model.specs.Effects.{Effect, Goes, Prints, Makes, Stores, StoresStatic, SetsHidden, SetsCeiling, Calls, Opens, Leaves, AsksRegistration, AsksRelease, AsksTermination, Faults, Stuck, monitor_of}
-use Rattle.scj_model.specs.Apply.{applied, asks_for_end, called, ceiling_entered, frame_left, is_full, is_sequencer, most_waiting, opened_in, registered, release_taken, released, releases_of, returned, takes_releases, tell_priority, termination, termination_asked, waiting_of, with_frame, without}
+use Rattle.scj_model.specs.Apply.{applied, asks_for_end, called, ceiling_entered, frame_left, is_full, is_sequencer, most_waiting, opened_in, registered, release_taken, released, releases_of, returned, takes_releases, report_priority, termination, termination_asked, waiting_of, with_frame, without}
 use Rattle.priority_laws.specs.Handlers.{CeilingsArePriorities, IsPriority}
 use Rattle.audited_runs.proofs.Arriving.{HasRow, numbered}
 use Rattle.audited_runs.proofs.proper.Backing.{Backs, RegistersWell}
@@ -89,7 +89,7 @@ module _ (nodes : List Node) (F : Position → Type 0) where
       }
 
   prio_proper : (s : State) (job : Job) (before after : ℕ) → ((p : ℕ) → job ≡ ReleaseAt p → IsPriority after) →
-      All (IsProper nodes F) (tell_priority s job before after)
+      All (IsProper nodes F) (report_priority s job before after)
   prio_proper s TheSequencer before after h =
       if_proper nodes F (before == after) [] [] (none_proper nodes F) (none_proper nodes F)
   prio_proper s (ReleaseAt p) before after h =
@@ -204,7 +204,7 @@ module _ (nodes : List Node) (F : Position → Type 0) where
     unfolding frame_left
     good_left f value h =
         good_then nodes F
-        (telling (closed s f.opened) (tell_priority s job a.priority (unwrap_or f.saved a.priority)))
+        (reporting (closed s f.opened) (report_priority s job a.priority (unwrap_or f.saved a.priority)))
         (λ t. elim below as (λ _. Step) [
           | [] ↦ job_ended t job after value
           | g ∷ gs ↦ silently (with_activity t job after)

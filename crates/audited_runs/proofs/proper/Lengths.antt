@@ -17,10 +17,10 @@ use Rattle.scj_model.specs.Choice.{by_priority, chosen}
 use Rattle.scj_model.specs.Code.{Code}
 use Rattle.scj_model.specs.Plan.{Plan}
 use Rattle.scj_model.specs.Reached.{Between, Reached}
-use Rattle.scj_model.specs.Run.{acts, continued, empty_state, has_ended, is_same_turn, one_more_unit, one_unit, run, RunSoFar, tell_turn, trace, turn_acts, turn_taken, with_turn}
+use Rattle.scj_model.specs.Run.{acts, continued, empty_state, has_ended, is_same_turn, one_more_unit, one_unit, run, RunSoFar, report_turn, trace, turn_acts, turn_taken, with_turn}
 use Rattle.scj_model.specs.Sequencer.{Continues, TakesSafelet, TakesSequencer, TakesMission, LacksSequencer, LacksMission, BeginsMission, BeginsExecution, SkipsExecution, EndsExecution, ClosesMission, SeqEffect, Transition, after_operation, goes_to, gone_to, has_started, innermost, phase_after, seq_applied, transition, transition_done}
 use Rattle.scj_model.specs.State.{Release, State, Turn, IdleTurn, TurnOf, is_exec}
-use Rattle.scj_model.specs.Steps.{Step, fault_in, for_each, silently, telling, then_do, then_try}
+use Rattle.scj_model.specs.Steps.{Step, fault_in, for_each, silently, reporting, then_do, then_try}
 use Rattle.scj_model.proofs.Reaching.{reached_run}
 use Rattle.audited_runs.proofs.OneUnit.{UnitParts, unit_parts}
 use Rattle.audited_runs.proofs.proper.Counts.{Short, many_closed, short_taken}
@@ -38,19 +38,19 @@ module _ (n : ℕ) (code : Code) (rows : List ReadingRow) (s : State) (h : lengt
   after_turn first next l k = go (next first.state) k
     where
       go : (o : Option Step) → GoodIf (Short (n + 1) (n + 2)) o →
-          GoodIf W (option_map (λ second. telling second.state (first.events ++ second.events)) o)
+          GoodIf W (option_map (λ second. reporting second.state (first.events ++ second.events)) o)
       go None g = nothing_good W
       go (Some second) g =
           some_good W _
           (record {
-            told =
+            reported =
                 let e = length-append first.events second.events in
-                let m = (g.is second refl).told in omega (arith, e, l, m);
+                let m = (g.is second refl).reported in omega (arith, e, l, m);
             more = (g.is second refl).more;
           })
 
   one_turn : (turn : Turn) → length (turn_taken s turn).events ≤ 1
-  unfolding turn_taken tell_turn
+  unfolding turn_taken report_turn
   one_turn IdleTurn = go (holds s.last_choice (is_same_turn IdleTurn))
     where
       go : (b : Bool) → length (if b then [] else event.Idle s.unit ∷ []) ≤ 1
@@ -74,7 +74,7 @@ module _ (n : ℕ) (code : Code) (rows : List ReadingRow) (s : State) (h : lengt
   unfolding turn_taken turn_acts
   by_choice None =
       after_turn (turn_taken s IdleTurn) (turn_acts code rows IdleTurn) (one_turn IdleTurn)
-      (some_good (Short (n + 1) (n + 2)) _ (record { told = omega arith; more = omega (arith, h) }))
+      (some_good (Short (n + 1) (n + 2)) _ (record { reported = omega arith; more = omega (arith, h) }))
   by_choice (Some p) =
       after_turn (turn_taken s (TurnOf p)) (turn_acts code rows (TurnOf p)) (one_turn (TurnOf p))
       (short_release n code rows (with_turn s (TurnOf p)) h p)
@@ -87,7 +87,7 @@ module _ (n : ℕ) (code : Code) (rows : List ReadingRow) (s : State) (h : lengt
       weaker : {o : Option Step} → GoodIf (Short (n + 1) (n + 2)) o → GoodIf W o
       weaker k =
           record {
-            is = λ x e. record { told = (let l = (k.is x e).told in omega (arith, l)); more = (k.is x e).more };
+            is = λ x e. record { reported = (let l = (k.is x e).reported in omega (arith, l)); more = (k.is x e).more };
           }
 
 -- ---- what follows
@@ -98,25 +98,25 @@ module _ (m : ℕ) (code : Code) where
 
   effect_short : (s : State) (e : SeqEffect) → length s.releases ≤ m → T (seq_applied code s e)
   unfolding seq_applied fault_in
-  effect_short s Continues h = record { told = omega arith; more = h }
-  effect_short s (TakesSafelet q) h = record { told = omega arith; more = h }
-  effect_short s (TakesSequencer q) h = record { told = omega arith; more = h }
-  effect_short s (TakesMission q) h = record { told = omega arith; more = h }
-  effect_short s (LacksSequencer q) h = record { told = omega arith; more = h }
-  effect_short s LacksMission h = record { told = omega arith; more = h }
-  effect_short s (BeginsMission q) h = record { told = omega arith; more = h }
-  effect_short s BeginsExecution h = record { told = omega arith; more = h }
-  effect_short s SkipsExecution h = record { told = omega arith; more = h }
-  effect_short s EndsExecution h = record { told = omega arith; more = h }
+  effect_short s Continues h = record { reported = omega arith; more = h }
+  effect_short s (TakesSafelet q) h = record { reported = omega arith; more = h }
+  effect_short s (TakesSequencer q) h = record { reported = omega arith; more = h }
+  effect_short s (TakesMission q) h = record { reported = omega arith; more = h }
+  effect_short s (LacksSequencer q) h = record { reported = omega arith; more = h }
+  effect_short s LacksMission h = record { reported = omega arith; more = h }
+  effect_short s (BeginsMission q) h = record { reported = omega arith; more = h }
+  effect_short s BeginsExecution h = record { reported = omega arith; more = h }
+  effect_short s SkipsExecution h = record { reported = omega arith; more = h }
+  effect_short s EndsExecution h = record { reported = omega arith; more = h }
   effect_short s ClosesMission h =
-      record { told = omega arith; more = many_closed m s (innermost s.activity.areas) h }
+      record { reported = omega arith; more = many_closed m s (innermost s.activity.areas) h }
 
   module _ (s : State) (h : length s.releases ≤ m) where
     transits : (t : Option Transition) → GoodIf T (option_map (transition_done code s) t)
     transits t = mapped_good T t (transition_done code s) (λ x e. effect_short (gone_to s x) x.effect h)
 
     same_short : GoodIf T (Some (silently s))
-    same_short = some_good T _ (record { told = omega arith; more = h })
+    same_short = some_good T _ (record { reported = omega arith; more = h })
 
     phase_short : GoodIf T (phase_after code s)
     unfolding phase_after
@@ -148,10 +148,10 @@ then_short : (first : Step) (next : State → Step) (a b c d : ℕ) → Short a 
     Short c (b + d) (then_do first next)
 then_short first next a b c d h k =
     record {
-      told =
+      reported =
           let e = length-append first.events (next first.state).events in
-          let l = h.told in
-          let m = k.told in omega (arith, e, l, m);
+          let l = h.reported in
+          let m = k.reported in omega (arith, e, l, m);
       more = k.more;
     }
 
@@ -159,7 +159,7 @@ each_short : (step : State → ℕ → Step) →
     ((m : ℕ) (t : State) (x : ℕ) → length t.releases ≤ m → Short (m + 1) 1 (step t x)) → (xs : List ℕ) (n : ℕ)
     (s : State) → length s.releases ≤ n → Short (n + length xs) (length xs) (for_each step xs s)
 unfolding for_each
-each_short step one [] n s h = record { told = omega arith; more = omega (arith, h) }
+each_short step one [] n s h = record { reported = omega arith; more = omega (arith, h) }
 each_short step one (x ∷ xs) n s h =
     let first : Short (n + 1) 1 (step s x) = one n s x h in
     let rest : Short (n + 1 + length xs) (length xs) (for_each step xs (step s x).state) =
@@ -167,7 +167,7 @@ each_short step one (x ∷ xs) n s h =
     let both : Short (n + 1 + length xs) (1 + length xs) (then_do (step s x) (for_each step xs)) =
     then_short (step s x) (for_each step xs) (n + 1) 1 (n + 1 + length xs) (length xs) first rest in
     record {
-      told = (let l = both.told in omega (arith, l));
+      reported = (let l = both.reported in omega (arith, l));
       more = (let m = both.more in omega (arith, m));
     }
 
@@ -180,14 +180,14 @@ fire_short code fires m t x h = at (slice_get fires x)
         Short (m + 1) 1
         (elim o as (λ _. Step) [
           | Some handler ↦ release_taken t handler
-          | None ↦ telling t (event.Miss t.unit fire.handler ∷ [])
+          | None ↦ reporting t (event.Miss t.unit fire.handler ∷ [])
         ])
-    by fire None = record { told = omega arith; more = omega (arith, h) }
+    by fire None = record { reported = omega arith; more = omega (arith, h) }
     by fire (Some handler) = short_taken m t handler h
 
     at : (o : Option Fire) →
         Short (m + 1) 1 (elim o as (λ _. Step) [ None ↦ silently t | Some fire ↦ fired code t fire ])
-    at None = record { told = omega arith; more = omega (arith, h) }
+    at None = record { reported = omega arith; more = omega (arith, h) }
     at (Some fire) = by fire (fired_handler code t fire.handler)
 
 few_due : (s : State) → length s.registry ≤ 64 → length (due_handlers s) ≤ 64
@@ -218,7 +218,7 @@ arrivals_short code plan n s h few fires =
     let a : length due ≤ 64 = few_due s few in
     let b : length come ≤ length plan.fires = fewer_where (comes_in (executes_since s) s.unit) 0 plan.fires in
     record {
-      told = (let l = both.told in omega (arith, l, a, b, fires));
+      reported = (let l = both.reported in omega (arith, l, a, b, fires));
       more = (let m = both.more in omega (arith, m, a, b, fires));
     }
 
@@ -239,12 +239,12 @@ module _ (code : Code) (plan : Plan) (fires : length plan.fires ≤ 10000)
       let f = length-append (arrivals code plan s).events parts.op.events in
       subst (λ (x : Step). Short (n + 10065) (n + 20133) x) (sym parts.is)
       (record {
-        told = (let x = a.told in let y = b.told in let z = c.told in omega (arith, d, f, x, y, z));
+        reported = (let x = a.reported in let y = b.reported in let z = c.reported in omega (arith, d, f, x, y, z));
         more = (let x = c.more in omega (arith, x));
       })
 
   record RunShort (k : ℕ) (x : RunSoFar) : Type 0 where
-    told : length x.events ≤ 100650020133 * k
+    reported : length x.events ≤ 100650020133 * k
     more : length x.state.releases ≤ 10065 * k
 
   one_more : (k : ℕ) (x : RunSoFar) (u : Step) → k ≤ 10000000 → RunShort k x →
@@ -252,28 +252,28 @@ module _ (code : Code) (plan : Plan) (fires : length plan.fires ≤ 10000)
       (length (x.events ++ u.events) ≤ 100650020133 * suc k) × (length u.state.releases ≤ 10065 * suc k)
   one_more k x u l h s =
       let e = length-append x.events u.events in
-      let a = h.told in
-      let b = s.told in
+      let a = h.reported in
+      let b = s.reported in
       let c = s.more in (omega (arith, e, a, b, l), omega (arith, c))
 
   run_short : (k : ℕ) → k ≤ 10000000 → RunShort k (run code plan by_priority k)
   unfolding run one_more_unit continued empty_state
-  run_short zero l = record { told = omega arith; more = omega arith }
+  run_short zero l = record { reported = omega arith; more = omega arith }
   run_short (suc k) l = by (has_ended so_far) refl (run_short k (omega (arith, l)))
     where
       so_far : RunSoFar
       so_far = run code plan by_priority k
 
       same : RunShort k so_far → RunShort (suc k) so_far
-      same h = record { told = (let a = h.told in omega (arith, a)); more = (let a = h.more in omega (arith, a)) }
+      same h = record { reported = (let a = h.reported in omega (arith, a)); more = (let a = h.more in omega (arith, a)) }
 
       next : (o : Option Step) → one_unit code plan by_priority so_far.state ≡ o → RunShort k so_far →
           RunShort (suc k) (continued so_far o)
-      next None e h = record { told = (same h).told; more = (same h).more }
+      next None e h = record { reported = (same h).reported; more = (same h).more }
       next (Some u) e h =
           let p = one_more k so_far u (omega (arith, l)) h
           (unit_short (10065 * k) so_far.state u h.more (few so_far.state (reached_run code plan by_priority k)) e) in
-          record { told = p.0; more = p.1 }
+          record { reported = p.0; more = p.1 }
 
       by : (b : Bool) → has_ended so_far ≡ b → RunShort k so_far →
           RunShort (suc k) (if b then so_far else continued so_far (one_unit code plan by_priority so_far.state))
@@ -283,7 +283,7 @@ module _ (code : Code) (plan : Plan) (fires : length plan.fires ≤ 10000)
   -- a trace has fewer than 2^64 lines
   pub trace_short : plan.units ≤ 10000000 → length (trace code plan plan.units) < 2 ^ 64
   unfolding trace
-  trace_short l = go (has_ended (run code plan by_priority plan.units)) (run_short plan.units l).told
+  trace_short l = go (has_ended (run code plan by_priority plan.units)) (run_short plan.units l).reported
     where
       es : List Event
       es = (run code plan by_priority plan.units).events

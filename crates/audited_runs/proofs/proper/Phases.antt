@@ -16,7 +16,7 @@ use Rattle.scj_model.specs.declared.plans.Fire.{Fire}
 use Rattle.scj_model.specs.Code.{Code}
 use Rattle.scj_model.specs.Plan.{Plan}
 use Rattle.scj_model.specs.State.{TheSequencer, State, Waits, is_exec}
-use Rattle.scj_model.specs.Steps.{Step, silently, telling, for_each}
+use Rattle.scj_model.specs.Steps.{Step, silently, reporting, for_each}
 use Rattle.scj_model.specs.Apply.{class_name_at, most_waiting, release_taken, releases_of, waiting_of}
 use Rattle.scj_model.specs.Arrivals.{arrivals, due_handlers, executes_since, fired, fired_at, fired_handler, fires_due}
 use Rattle.scj_model.specs.Sequencer.{Continues, TakesSafelet, TakesSequencer, TakesMission, LacksSequencer, LacksMission, BeginsMission, BeginsExecution, SkipsExecution, EndsExecution, ClosesMission, SeqEffect, Transition, after_initialize, after_operation, goes_to, gone_to, has_started, phase_after, position_of_object, seq_applied, transition, transition_done}
@@ -34,9 +34,9 @@ module _ (nodes : List Node) (F : Position → Type 0) where
   taken_registry s handler = go (not (nat_lt (length (waiting_of s handler)) most_waiting))
     where
       go : (b : Bool) →
-          (if b then telling s (event.Lost s.unit handler ∷ [])
+          (if b then reporting s (event.Lost s.unit handler ∷ [])
           else (let number = length (releases_of s handler) + 1 in
-          telling (record s { releases = s.releases ++ record { handler = handler; number = number; status = Waits } ∷ [] })
+          reporting (record s { releases = s.releases ++ record { handler = handler; number = number; status = Waits } ∷ [] })
           (event.Arrive s.unit handler number ∷ []))).state.registry ≡ s.registry
       go true = refl
       go false = refl
@@ -58,7 +58,7 @@ module _ (nodes : List Node) (F : Position → Type 0) where
           Good nodes F
           (elim o as (λ _. Step) [
             | Some handler ↦ release_taken s handler
-            | None ↦ telling s (event.Miss s.unit fire.handler ∷ [])
+            | None ↦ reporting s (event.Miss s.unit fire.handler ∷ [])
           ])
       go None e = record { events = one_proper nodes F (event.Miss s.unit fire.handler) tt; few = few }
       go (Some handler) e = good_taken nodes F s handler few (handler_has_row code s fire.handler handler e)
@@ -91,12 +91,12 @@ module _ (nodes : List Node) (F : Position → Type 0) where
   -- ---- what follows an operation
 
   module _ (code : Code) where
-    abbrev Tells : State → SeqEffect → Type 0
-    Tells s (LacksSequencer q) = F (position_of_object code s q)
-    Tells s (BeginsMission q) = is_name (class_name_at code s q) ≡ true
-    Tells s e = Unit {0}
+    abbrev Reports : State → SeqEffect → Type 0
+    Reports s (LacksSequencer q) = F (position_of_object code s q)
+    Reports s (BeginsMission q) = is_name (class_name_at code s q) ≡ true
+    Reports s e = Unit {0}
 
-    effect_good : (s : State) (e : SeqEffect) → length s.registry ≤ 64 → Tells s e →
+    effect_good : (s : State) (e : SeqEffect) → length s.registry ≤ 64 → Reports s e →
         Good nodes F (seq_applied code s e)
     unfolding seq_applied
     effect_good s Continues few h = good_silent nodes F s few
@@ -117,7 +117,7 @@ module _ (nodes : List Node) (F : Position → Type 0) where
     module _ (s : State) (few : length s.registry ≤ 64)
         (asks : (r : ℕ) → s.operation ≡ GetSequencer r → F (position_of_object code s r))
         (opens : (r : ℕ) → s.operation ≡ OpenMission r → is_name (class_name_at code s r) ≡ true) where
-      goes_good : (t : Transition) → Tells (gone_to s t) t.effect → GoodIf (Good nodes F) (Some (transition_done code s t))
+      goes_good : (t : Transition) → Reports (gone_to s t) t.effect → GoodIf (Good nodes F) (Some (transition_done code s t))
       goes_good t h = some_good (Good nodes F) _ (effect_good (gone_to s t) t.effect few h)
 
       known_good : (o : Option ℕ) →

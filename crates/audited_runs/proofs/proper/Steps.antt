@@ -10,7 +10,7 @@ use Rattle.scj_tree.specs.declared.nodes.Node.{Node}
 use Rattle.scj_model.specs.declared.events.Event.{Event}
 use Rattle.scj_model.specs.declared.events.Event.TheVariants as event
 use Rattle.scj_model.specs.State.{State}
-use Rattle.scj_model.specs.Steps.{Step, silently, telling, then_do, then_try}
+use Rattle.scj_model.specs.Steps.{Step, silently, reporting, then_do, then_try}
 use Rattle.scj_model.specs.TraceText.{label}
 use Rattle.trace_audit.specs.Printed.{IsHandlerNumber, IsPriorityNumber}
 pub use Rattle.int_values.proofs.Steps.{GoodIf, bind_good, either_good, good_if, good_option, mapped_good, nothing_good, some_good}
@@ -48,11 +48,11 @@ module _ (nodes : List Node) (F : Position → Type 0) where
   if_proper true es fs h k = h
   if_proper false es fs h k = k
 
-  pub elim_proper : {A : Type 0} (o : Option A) (tell : A → List Event) →
-      ((a : A) → All (IsProper nodes F) (tell a)) →
-      All (IsProper nodes F) (elim o as (λ _. List Event) [ None ↦ [] | Some a ↦ tell a ])
-  elim_proper None tell h = none_proper
-  elim_proper (Some a) tell h = h a
+  pub elim_proper : {A : Type 0} (o : Option A) (report : A → List Event) →
+      ((a : A) → All (IsProper nodes F) (report a)) →
+      All (IsProper nodes F) (elim o as (λ _. List Event) [ None ↦ [] | Some a ↦ report a ])
+  elim_proper None report h = none_proper
+  elim_proper (Some a) report h = h a
 
   -- ---- steps
 
@@ -72,10 +72,10 @@ module _ (nodes : List Node) (F : Position → Type 0) where
   tried_good first next h k = go (next first.state) k
     where
       go : (o : Option Step) → GoodIf Good o →
-          GoodIf Good (option_map (λ (second : Step). telling second.state (first.events ++ second.events)) o)
+          GoodIf Good (option_map (λ (second : Step). reporting second.state (first.events ++ second.events)) o)
       go None g = nothing_good Good
       go (Some second) g =
-          some_good Good (telling second.state (first.events ++ second.events))
+          some_good Good (reporting second.state (first.events ++ second.events))
           (record {
             events = All-append (IsProper nodes F) first.events second.events h (g.is second refl).events;
             few = (g.is second refl).few;

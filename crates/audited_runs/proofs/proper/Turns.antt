@@ -24,7 +24,7 @@ use Rattle.scj_model.specs.Steps.{silently, then_try}
 use Rattle.scj_model.specs.Apply.{applied}
 use Rattle.scj_model.specs.Sequencer.{area_opened, body_called, innermost, method_called, safelet_made, sequencer_op}
 use Rattle.scj_model.specs.Choice.{by_priority, candidate, chosen, may_act}
-use Rattle.scj_model.specs.Run.{acts, effect_at, frame_op, is_same_turn, no_activity, position_of_op, ref_op, release_op_of, sequencer_turn, start_op, started_with, tell_turn, turn_acts, turn_taken, with_turn}
+use Rattle.scj_model.specs.Run.{acts, effect_at, frame_op, is_same_turn, no_activity, position_of_op, ref_op, release_op_of, sequencer_turn, start_op, started_with, report_turn, turn_acts, turn_taken, with_turn}
 use Rattle.scj_model.specs.Safety.{job_may_act}
 use Rattle.priority_laws.specs.Handlers.{CeilingsArePriorities}
 use Rattle.priority_laws.proofs.ReleaseTurns.{started_is, started_may_act}
@@ -199,7 +199,7 @@ module _ (nodes : List Node) (F : Position → Type 0) (code : Code) (rows : Lis
 
   module _ (s : State) (few : length s.registry ≤ 64) (b : Backed F code rows s) where
     turn_proper : (turn : Turn) → All (IsProper nodes F) (turn_taken s turn).events
-    unfolding turn_taken tell_turn
+    unfolding turn_taken report_turn
     turn_proper IdleTurn =
         if_proper nodes F (holds s.last_choice (is_same_turn IdleTurn)) [] _ (none_proper nodes F)
         (one_proper nodes F (event.Idle s.unit) tt)

@@ -12,7 +12,7 @@ loop-number-init c = c.in_ok-rows.ensures.items
 pub loop-number-preserved : goal.loop-number-preserved
 loop-number-preserved c =
     let code : Code = code_of c.args.checked.now.program in
-    let told = rw (c.deref.ensures.value, c.at.ensures) at c.next_left-left.ensures in
+    let reported = rw (c.deref.ensures.value, c.at.ensures) at c.next_left-left.ensures in
     c.in_ok-push.ensures.items
     ∙ one_row_more (next_left code) c.loop-number.number c.loop-number.rows.items c.next_left-left.result
-    c.loop-number.invariant told
+    c.loop-number.invariant reported

@@ -15,5 +15,5 @@ loop-others-preserved c =
       same = rw here l.same;
       classes = All-rest P c.class-item.result _ c.loop-others.others.now whole l.classes;
       left = grind (arith, common_steps, whole, here);
-      told = λ h. (rw (here, l.same) at c.in_ok-note_inherited_methods.ensures) _ (rw whole at (l.told h));
+      reported = λ h. (rw (here, l.same) at c.in_ok-note_inherited_methods.ensures) _ (rw whole at (l.reported h));
     }

@@ -13,8 +13,8 @@ invariant-loop-others l =
       classes : AreClasses l.initial.table.forest l.others;
       left : l.found.items ++ flat_map (broken_at_class l.initial.table.forest) l.others
           ≡ l.initial.found.items ++ flat_map (broken_at_class l.initial.table.forest) l.classes;
-      told : AreInheritedMethods (declarations_of l.initial.table.forest) l.classes l.initial.told →
-          AreInheritedMethods (declarations_of l.initial.table.forest) l.others l.told;
+      reported : AreInheritedMethods (declarations_of l.initial.table.forest) l.classes l.initial.reported →
+          AreInheritedMethods (declarations_of l.initial.table.forest) l.others l.reported;
     }
 
 abbrev pub decreases-loop-others : goal.decreases-loop-others

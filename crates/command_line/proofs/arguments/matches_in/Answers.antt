@@ -18,6 +18,6 @@ returns-in-Ok-clause-rows c =
 pub returns-in-Err-clause-usage : goal.returns-in-Err-clause-usage
 returns-in-Err-clause-usage c refused =
     let is = c.in_ok-command.ensures in
-    let told : c.refusal.result ≡ Usage = cc in
+    let reported : c.refusal.result ≡ Usage = cc in
     ap (λ (a : App). is_empty (fault_of a (map string_bytes c.args.words.now))) (sym is)
-    ∙ refused_by_kind _ c.in-Err.error c.refusal.result (c.in-Err.ensures.kinds (free_as _ is)) c.refusal.ensures told
+    ∙ refused_by_kind _ c.in-Err.error c.refusal.result (c.in-Err.ensures.kinds (free_as _ is)) c.refusal.ensures reported

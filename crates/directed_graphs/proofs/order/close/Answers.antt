@@ -1,6 +1,6 @@
 use Rattle.std.proofs.Common.{◌<◌, List, ℕ, length, ap, arith}
 use Rattle.directed_graphs.specs.Walks.{walk_of}
-use Rattle.directed_graphs.proofs.Emptying.{emptying_none, emptying_more, emptied_at, emptied_vertex, emptied_told, emptying_all}
+use Rattle.directed_graphs.proofs.Emptying.{emptying_none, emptying_more, emptied_at, emptied_vertex, emptied_reported, emptying_all}
 use Rattle.directed_graphs.proofs.order.close.Goals as goal
 
 pub loop-index-init : goal.loop-index-init
@@ -32,7 +32,7 @@ index_mut-requires-in-loop-index c =
     let d = c.args.search.now.path.ok.0 in omega (arith, a, b, d)) in
     let v = emptied_vertex c.args.group (walk_of c.args.search.now) (walk_of c.loop-index.search) c.loop-index.index
     c.index-vertex.result.now c.loop-index.invariant c.requires.marks l c.index-vertex.ensures in
-    let w = emptied_told c.args.group (walk_of c.args.search.now) (walk_of c.loop-index.search) c.loop-index.index
+    let w = emptied_reported c.args.group (walk_of c.args.search.now) (walk_of c.loop-index.search) c.loop-index.index
     c.index-vertex.result.now c.loop-index.invariant c.requires.loops v in
     let f = c.loop-index.search.loops.ok.0 in omega (arith, w, f)
 
@@ -48,7 +48,7 @@ loop-index-preserved c =
     c.index-vertex.result.now c.loop-index.invariant l
     (emptied_at c.args.group (walk_of c.args.search.now) (walk_of c.loop-index.search) c.loop-index.index
     c.index-vertex.result.now c.loop-index.invariant l c.index-vertex.ensures) v
-    (emptied_told c.args.group (walk_of c.args.search.now) (walk_of c.loop-index.search) c.loop-index.index
+    (emptied_reported c.args.group (walk_of c.args.search.now) (walk_of c.loop-index.search) c.loop-index.index
     c.index-vertex.result.now c.loop-index.invariant c.requires.loops v) c.push.new.self.items
     c.in_ok-push.ensures.items
 

@@ -1,7 +1,7 @@
 use Rattle.std.proofs.Common.{◌≡◌, length}
 use Rattle.parser_machine.specs.Closing.{closed}
 use Rattle.parser_machine.specs.States.{level_of}
-use Rattle.parser_nodes.specs.Told.{seen}
+use Rattle.parser_nodes.specs.Reported.{seen}
 use Rattle.expression_steps.proofs.closing.closed.Given as goal
 
 abbrev pub invariant-loop-entry : goal.invariant-loop-entry

@@ -22,9 +22,9 @@ returns c =
     answer_is (code_of c.args.code.now) c.children_first.ensures c.args.tables.now c.requires.tables
     c.requires.formed.small c.args.class c.handler_node-handler.result c.handler_node-handler.ensures.handles
     c.handler_node-handler.ensures.there c.in_ok-marks.marks.items reach s.0 s.1 c.as_slice-2.result.now
-    c.as_slice-loops.result.now c.as_slice-shown.result.now c.as_slice-points.result.now c.told-need.result
+    c.as_slice-loops.result.now c.as_slice-shown.result.now c.as_slice-points.result.now c.row_or-need.result
     c.first_shown-best.result c.storage_shown.result c.first_of.result c.answer_for.result c.as_slice-2.ensures.value
     c.as_slice-loops.ensures.value c.as_slice-shown.ensures.value c.as_slice-points.ensures.value
-    (c.told-need.ensures
+    (c.row_or-need.ensures
     ∙ ap (λ (xs : List ℕ). lookup 0 xs c.handler_node-handler.result) c.as_slice-3.ensures.value)
     c.first_shown-best.ensures c.storage_shown.ensures c.first_of.ensures c.answer_for.ensures

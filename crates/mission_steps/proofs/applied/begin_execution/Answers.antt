@@ -10,5 +10,5 @@ returns c = λ code. record {
   state =
       ap (λ (n : ℕ). (let s : State = record (state_of code c.args.state.now) { origin = n; last_choice = None } in s))
       c.in_ok-state.ensures;
-  told = c.in_ok-tell.ensures;
+  reported = c.in_ok-report.ensures;
 }

@@ -8,6 +8,6 @@ pub returns : goal.returns
 unfolding seq_applied state_of
 returns c = record {
   state = refl;
-  told = c.in_ok-tell.ensures ∙ ap (λ (name : List ℕ). c.args.told.now.items ++ Mission c.args.state.now.unit name ∷ [])
+  reported = c.in_ok-report.ensures ∙ ap (λ (name : List ℕ). c.args.reported.now.items ++ Mission c.args.state.now.unit name ∷ [])
       c.class_name_at-class.ensures;
 }

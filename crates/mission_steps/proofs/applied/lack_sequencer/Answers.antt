@@ -14,5 +14,5 @@ returns c =
     subst (λ (position : Position). IsStep c.args.code.now
     (fault_in (state_of c.args.code.now c.args.state.now) TheSequencer
     (state_of c.args.code.now c.args.state.now).activity position NullPointer) c.halted.new.state
-    c.args.told.now.items c.halted.new.told.items) c.position_of_object-index.ensures
+    c.args.reported.now.items c.halted.new.reported.items) c.position_of_object-index.ensures
     (c.in_ok-halted.ensures c.args.code.now (state_of c.args.code.now c.args.state.now).activity)

@@ -15,7 +15,7 @@ returns-in-Some c =
     made_there c.args.code.now c.args.state.now
     (class_position (code_of c.args.code.now.program).program c.args.class) c.args.class c.args.area
     c.in_ok-object.object.slots.items c.make_object.new.state
-    c.in-Some.r c.args.told.now.items (sym c.in_ok-object.ensures.slots)
+    c.in-Some.r c.args.reported.now.items (sym c.in_ok-object.ensures.slots)
     (is_made c.args.code.now c.args.state.now (class_position (code_of c.args.code.now.program).program c.args.class)
     c.args.class c.args.area c.in_ok-object.object.slots.items
     c.in_ok-object.object.class c.make_object.result (Some c.in-Some.r)
@@ -29,7 +29,7 @@ returns c =
     not_made c.args.code.now c.args.state.now
     (class_position (code_of c.args.code.now.program).program c.args.class) c.args.class c.args.area
     c.in_ok-object.object.slots.items c.make_object.new.state
-    c.halted.new.state c.args.told.now.items c.halted.new.told.items (sym c.in_ok-object.ensures.slots)
+    c.halted.new.state c.args.reported.now.items c.halted.new.reported.items (sym c.in_ok-object.ensures.slots)
     (is_made c.args.code.now c.args.state.now (class_position (code_of c.args.code.now.program).program c.args.class)
     c.args.class c.args.area c.in_ok-object.object.slots.items
     c.in_ok-object.object.class c.make_object.result None
@@ -40,6 +40,6 @@ returns c =
     (subst (λ (position : Position). IsStep c.args.code.now
     (fault_in (state_of c.args.code.now c.make_object.new.state) TheSequencer
     (state_of c.args.code.now c.args.state.now).activity position MemoryFull) c.halted.new.state
-    c.args.told.now.items c.halted.new.told.items) c.class_position.ensures
+    c.args.reported.now.items c.halted.new.reported.items) c.class_position.ensures
     (c.in_ok-halted-in-None.ensures c.args.code.now
     (state_of c.args.code.now c.args.state.now).activity))

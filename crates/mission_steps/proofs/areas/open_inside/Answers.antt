@@ -7,7 +7,7 @@ use Rattle.mission_steps.proofs.areas.open_inside.Goals as goal
 pub returns-in_ok-push-in-Some : goal.returns-in_ok-push-in-Some
 returns-in_ok-push-in-Some c = λ code.
     opened_inside code c.args.state.now c.args.position c.args.scope c.args.bytes c.open_area.new.state c.push.new.self
-    c.in-Some.area c.args.told.now.items
+    c.in-Some.area c.args.reported.now.items
     (is_opened code c.args.state.now c.args.position c.args.scope c.args.bytes c.innermost-parent.result
     c.open_area.result (Some c.in-Some.area) (state_of code c.open_area.new.state) c.innermost-parent.ensures
     c.in-Some.is
@@ -17,7 +17,7 @@ returns-in_ok-push-in-Some c = λ code.
 pub returns-in_ok-halted-in-None : goal.returns-in_ok-halted-in-None
 returns-in_ok-halted-in-None c = λ code.
     not_opened code c.args.state.now c.args.position c.args.scope c.args.bytes c.open_area.new.state c.halted.new.state
-    c.args.told.now.items c.halted.new.told.items
+    c.args.reported.now.items c.halted.new.reported.items
     (is_opened code c.args.state.now c.args.position c.args.scope c.args.bytes c.innermost-parent.result
     c.open_area.result None (state_of code c.open_area.new.state) c.innermost-parent.ensures c.in-None.is
     (c.open_area.ensures.opened code TheSequencer (state_of code c.args.state.now).activity c.args.position))

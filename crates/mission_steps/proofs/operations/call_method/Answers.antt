@@ -8,15 +8,15 @@ use Rattle.mission_steps.proofs.operations.call_method.Goals as goal
 
 pub returns-in_default : goal.returns-in_default
 unfolding state_of
-returns-in_default c = λ told.
-    no_step c.args.code.now c.args.state.now told told _
+returns-in_default c = λ reported.
+    no_step c.args.code.now c.args.state.now reported reported _
     (no_method_called c.args.code.now (state_of c.args.code.now c.args.state.now) c.args.r
     c.args.name.now c.in_default.ensures)
 
 pub returns-in_default-body_named : goal.returns-in_default-body_named
 unfolding state_of
-returns-in_default-body_named c = λ told.
-    no_step c.args.code.now c.args.state.now told told _
+returns-in_default-body_named c = λ reported.
+    no_step c.args.code.now c.args.state.now reported reported _
     (no_method c.args.code.now (state_of c.args.code.now c.args.state.now) c.args.r
     c.in-Some.class c.args.name.now c.in-Some.ensures
     (ap (λ (name : List ℕ). body_named (code_of c.args.code.now.program).program c.in-Some.class name) (sym c.new.ensures)
@@ -24,10 +24,10 @@ returns-in_default-body_named c = λ told.
 
 pub returns : goal.returns
 unfolding state_of
-returns c = λ told.
-    as_try c.args.code.now c.in_ok-went.went c.call_body.new.state told told _ _
+returns c = λ reported.
+    as_try c.args.code.now c.in_ok-went.went c.call_body.new.state reported reported _ _
     (method_found c.args.code.now (state_of c.args.code.now c.args.state.now) c.args.r
     c.in-Some.class c.args.name.now c.in-Some-body_named.body c.in-Some.ensures
     (ap (λ (name : List ℕ). body_named (code_of c.args.code.now.program).program c.in-Some.class name) (sym c.new.ensures)
     ∙ sym c.in-Some-body_named.ensures))
-    (c.in_ok-went.ensures told)
+    (c.in_ok-went.ensures reported)

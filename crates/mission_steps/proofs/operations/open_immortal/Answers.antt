@@ -12,14 +12,14 @@ use Rattle.mission_steps.proofs.operations.open_immortal.Goals as goal
 pub returns-in_default : goal.returns-in_default
 unfolding state_of
 returns-in_default c =
-    no_step c.args.code.now c.args.state.now c.args.told.now.items c.args.told.now.items _
+    no_step c.args.code.now c.args.state.now c.args.reported.now.items c.args.reported.now.items _
     (no_safelet c.args.code.now (state_of c.args.code.now c.args.state.now)
     (sym c.in_default.ensures))
 
 pub returns-in_default-size_of : goal.returns-in_default-size_of
 unfolding state_of
 returns-in_default-size_of c =
-    no_step c.args.code.now c.args.state.now c.args.told.now.items c.args.told.now.items _
+    no_step c.args.code.now c.args.state.now c.args.reported.now.items c.args.reported.now.items _
     (no_immortal c.args.code.now (state_of c.args.code.now c.args.state.now) c.in-Some.class
     (sym c.in-Some.ensures)
     (sym c.in_default-size_of.ensures))
@@ -27,10 +27,10 @@ returns-in_default-size_of c =
 pub returns : goal.returns
 unfolding state_of
 returns c =
-    try_of c.args.code.now c.open_inside.new.state c.args.told.now.items c.open_inside.new.told.items _ _
+    try_of c.args.code.now c.open_inside.new.state c.args.reported.now.items c.open_inside.new.reported.items _ _
     (immortal_opened c.args.code.now (state_of c.args.code.now c.args.state.now) c.in-Some.class
     c.in-Some-size_of.bytes (sym c.in-Some.ensures) (sym c.in-Some-size_of.ensures))
     (subst (λ (position : Position). IsStep c.args.code.now
     (area_opened (state_of c.args.code.now c.args.state.now) position immortal_scope c.in-Some-size_of.bytes)
-    c.open_inside.new.state c.args.told.now.items c.open_inside.new.told.items) c.class_position.ensures
+    c.open_inside.new.state c.args.reported.now.items c.open_inside.new.reported.items) c.class_position.ensures
     (c.in_ok-open_inside.ensures c.args.code.now))

@@ -11,14 +11,14 @@ use Rattle.mission_steps.proofs.operations.open_mission.Goals as goal
 pub returns-in_default : goal.returns-in_default
 unfolding state_of
 returns-in_default c =
-    no_step c.args.code.now c.args.state.now c.args.told.now.items c.args.told.now.items _
+    no_step c.args.code.now c.args.state.now c.args.reported.now.items c.args.reported.now.items _
     (no_mission c.args.code.now (state_of c.args.code.now c.args.state.now) c.args.r
     c.in_default.ensures)
 
 pub returns-in_default-private_scope : goal.returns-in_default-private_scope
 unfolding state_of
 returns-in_default-private_scope c =
-    no_step c.args.code.now c.args.state.now c.args.told.now.items c.args.told.now.items _
+    no_step c.args.code.now c.args.state.now c.args.reported.now.items c.args.reported.now.items _
     (no_scope c.args.code.now (state_of c.args.code.now c.args.state.now) c.args.r c.in-Some.class
     c.in-Some.ensures
     (sym c.in_default-private_scope.ensures))
@@ -26,7 +26,7 @@ returns-in_default-private_scope c =
 pub returns-in_default-size_of : goal.returns-in_default-size_of
 unfolding state_of
 returns-in_default-size_of c =
-    no_step c.args.code.now c.args.state.now c.args.told.now.items c.args.told.now.items _
+    no_step c.args.code.now c.args.state.now c.args.reported.now.items c.args.reported.now.items _
     (no_size c.args.code.now (state_of c.args.code.now c.args.state.now) c.args.r c.in-Some.class
     c.in-Some-private_scope.scope c.in-Some.ensures (sym c.in-Some-private_scope.ensures)
     (sym c.in_default-size_of.ensures))
@@ -34,11 +34,11 @@ returns-in_default-size_of c =
 pub returns : goal.returns
 unfolding state_of
 returns c =
-    try_of c.args.code.now c.open_inside.new.state c.args.told.now.items c.open_inside.new.told.items _ _
+    try_of c.args.code.now c.open_inside.new.state c.args.reported.now.items c.open_inside.new.reported.items _ _
     (mission_opened c.args.code.now (state_of c.args.code.now c.args.state.now) c.args.r
     c.in-Some.class c.in-Some-private_scope.scope c.in-Some-size_of.bytes c.in-Some.ensures
     (sym c.in-Some-private_scope.ensures) (sym c.in-Some-size_of.ensures))
     (subst (λ (position : Position). IsStep c.args.code.now
     (area_opened (state_of c.args.code.now c.args.state.now) position c.in-Some-private_scope.scope
-    c.in-Some-size_of.bytes) c.open_inside.new.state c.args.told.now.items c.open_inside.new.told.items)
+    c.in-Some-size_of.bytes) c.open_inside.new.state c.args.reported.now.items c.open_inside.new.reported.items)
     c.class_position.ensures (c.in_ok-open_inside.ensures c.args.code.now))

@@ -10,40 +10,40 @@ pub returns-in-AllocSafelet : goal.returns-in-AllocSafelet
 returns-in-AllocSafelet c = rw c.in-AllocSafelet.is (c.alloc_safelet.ensures)
 
 pub returns-in-ConstructSafelet : goal.returns-in-ConstructSafelet
-returns-in-ConstructSafelet c = rw c.in-ConstructSafelet.is (c.construct.ensures c.args.told.now.items)
+returns-in-ConstructSafelet c = rw c.in-ConstructSafelet.is (c.construct.ensures c.args.reported.now.items)
 
 pub returns-in-InitializeApplication : goal.returns-in-InitializeApplication
 unfolding sequencer_op
-returns-in-InitializeApplication c = rw c.in-InitializeApplication.is (c.call_method.ensures c.args.told.now.items)
+returns-in-InitializeApplication c = rw c.in-InitializeApplication.is (c.call_method.ensures c.args.reported.now.items)
 
 pub returns-in-GetSequencer : goal.returns-in-GetSequencer
 unfolding sequencer_op
-returns-in-GetSequencer c = rw c.in-GetSequencer.is (c.call_method-in-GetSequencer.ensures c.args.told.now.items)
+returns-in-GetSequencer c = rw c.in-GetSequencer.is (c.call_method-in-GetSequencer.ensures c.args.reported.now.items)
 
 pub returns-in-GetNextMission : goal.returns-in-GetNextMission
 unfolding sequencer_op
-returns-in-GetNextMission c = rw c.in-GetNextMission.is (c.call_method-in-GetNextMission.ensures c.args.told.now.items)
+returns-in-GetNextMission c = rw c.in-GetNextMission.is (c.call_method-in-GetNextMission.ensures c.args.reported.now.items)
 
 pub returns-in-OpenMission : goal.returns-in-OpenMission
 returns-in-OpenMission c = rw c.in-OpenMission.is (c.open_mission.ensures)
 
 pub returns-in-Initialize : goal.returns-in-Initialize
 unfolding sequencer_op
-returns-in-Initialize c = rw c.in-Initialize.is (c.call_method-in-Initialize.ensures c.args.told.now.items)
+returns-in-Initialize c = rw c.in-Initialize.is (c.call_method-in-Initialize.ensures c.args.reported.now.items)
 
 pub returns-in-CleanUp : goal.returns-in-CleanUp
 unfolding sequencer_op
-returns-in-CleanUp c = rw c.in-CleanUp.is (c.call_method-in-CleanUp.ensures c.args.told.now.items)
+returns-in-CleanUp c = rw c.in-CleanUp.is (c.call_method-in-CleanUp.ensures c.args.reported.now.items)
 
 pub returns-in-Execute : goal.returns-in-Execute
 unfolding sequencer_op
 returns-in-Execute c = rw c.in-Execute.is (
-    no_step c.args.code.now c.args.state.now c.args.told.now.items c.args.told.now.items None refl)
+    no_step c.args.code.now c.args.state.now c.args.reported.now.items c.args.reported.now.items None refl)
 
 pub returns-in-Finished : goal.returns-in-Finished
 unfolding sequencer_op
 returns-in-Finished c = rw c.in-Finished.is (
-    no_step c.args.code.now c.args.state.now c.args.told.now.items c.args.told.now.items None refl)
+    no_step c.args.code.now c.args.state.now c.args.reported.now.items c.args.reported.now.items None refl)
 
 pub alloc_safelet-requires-clause-numbers : goal.alloc_safelet-requires-clause-numbers
 alloc_safelet-requires-clause-numbers c = c.requires.numbers.objects

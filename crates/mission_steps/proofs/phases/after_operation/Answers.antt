@@ -13,7 +13,7 @@ use Rattle.mission_steps.proofs.phases.after_operation.Goals as goal
 pub returns-in_ok-transition_done-in-Some : goal.returns-in_ok-transition_done-in-Some
 unfolding state_of
 returns-in_ok-transition_done-in-Some c =
-    try_of c.args.code.now c.transition_done.new.state c.args.told.now.items c.transition_done.new.told.items
+    try_of c.args.code.now c.transition_done.new.state c.args.reported.now.items c.transition_done.new.reported.items
     _ _
     (follows c.args.code.now (state_of c.args.code.now c.args.state.now) c.args.value
     c.skips_execution-skips.result c.what_follows.result c.skips_execution-skips.ensures c.what_follows.ensures
@@ -25,7 +25,7 @@ returns-in_ok-transition_done-in-Some c =
 pub returns-in-None : goal.returns-in-None
 unfolding state_of
 returns-in-None c =
-    no_step c.args.code.now c.args.state.now c.args.told.now.items c.args.told.now.items _
+    no_step c.args.code.now c.args.state.now c.args.reported.now.items c.args.reported.now.items _
     (follows c.args.code.now (state_of c.args.code.now c.args.state.now) c.args.value
     c.skips_execution-skips.result c.what_follows.result c.skips_execution-skips.ensures c.what_follows.ensures
     ∙ ap (λ (found : Option Transition). option_map

@@ -8,8 +8,8 @@ use Rattle.mission_steps.proofs.phases.phase_after.Goals as goal
 pub returns-then-is_exec : goal.returns-then-is_exec
 unfolding state_of
 returns-then-is_exec c =
-    as_try c.args.code.now c.in_ok-went.went c.after_execution.new.state c.args.told.now.items
-    c.after_execution.new.told.items _ _
+    as_try c.args.code.now c.in_ok-went.went c.after_execution.new.state c.args.reported.now.items
+    c.after_execution.new.reported.items _ _
     (after_in_execution c.args.code.now (state_of c.args.code.now c.args.state.now)
     (sym c.is_exec.ensures ∙ c.if-is_exec.true))
     (c.in_ok-went.ensures)
@@ -17,16 +17,16 @@ returns-then-is_exec c =
 pub returns-in_default : goal.returns-in_default
 unfolding state_of
 returns-in_default c =
-    try_of c.args.code.now c.args.state.now c.args.told.now.items c.args.told.now.items _ _
+    try_of c.args.code.now c.args.state.now c.args.reported.now.items c.args.reported.now.items _ _
     (after_under_way c.args.code.now (state_of c.args.code.now c.args.state.now)
     (sym c.is_exec.ensures ∙ c.if-is_exec.false) c.in_default.is)
-    (still c.args.code.now c.args.state.now c.args.told.now.items)
+    (still c.args.code.now c.args.state.now c.args.reported.now.items)
 
 pub returns : goal.returns
 unfolding state_of
 returns c =
-    as_try c.args.code.now c.in_ok-went-2.went c.after_operation.new.state c.args.told.now.items
-    c.after_operation.new.told.items _ _
+    as_try c.args.code.now c.in_ok-went-2.went c.after_operation.new.state c.args.reported.now.items
+    c.after_operation.new.reported.items _ _
     (after_done c.args.code.now (state_of c.args.code.now c.args.state.now) c.in-Some.value
     (sym c.is_exec.ensures ∙ c.if-is_exec.false) c.in-Some.is)
     (c.in_ok-went-2.ensures)

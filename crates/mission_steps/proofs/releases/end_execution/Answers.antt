@@ -3,6 +3,6 @@ use Rattle.mission_steps.proofs.releases.end_execution.Goals as goal
 
 pub returns : goal.returns
 returns c = λ code.
-    ended_step code c.args.state.now c.drop_waiting.new.self c.args.told.now.items c.tell.new.told.items
-    c.drop_waiting.new.told.items c.in_ok-drop_waiting.ensures.dropped (c.in_ok-drop_waiting.ensures.seen code)
-    (c.in_ok-drop_waiting.ensures.told code) c.in_ok-tell.ensures
+    ended_step code c.args.state.now c.drop_waiting.new.self c.args.reported.now.items c.report.new.reported.items
+    c.drop_waiting.new.reported.items c.in_ok-drop_waiting.ensures.dropped (c.in_ok-drop_waiting.ensures.seen code)
+    (c.in_ok-drop_waiting.ensures.reported code) c.in_ok-report.ensures

@@ -10,15 +10,15 @@ use Rattle.mission_steps.proofs.releases.released.Goals as goal
 pub returns-then-not-takes_releases : goal.returns-then-not-takes_releases
 unfolding state_of
 returns-then-not-takes_releases c = λ code.
-    same_step code c.args.state.now c.args.told.now.items c.args.told.now.items _ _
+    same_step code c.args.state.now c.args.reported.now.items c.args.reported.now.items _ _
     (released_nothing (state_of code c.args.state.now) c.args.r
     (sym (c.takes_releases.ensures code) ∙ c.if-not-takes_releases.true))
-    (still code c.args.state.now c.args.told.now.items)
+    (still code c.args.state.now c.args.reported.now.items)
 
 pub returns-in_ok-release_taken-in-Some : goal.returns-in_ok-release_taken-in-Some
 unfolding state_of
 returns-in_ok-release_taken-in-Some c = λ code.
-    same_step code c.release_taken.new.state c.args.told.now.items c.release_taken.new.told.items _ _
+    same_step code c.release_taken.new.state c.args.reported.now.items c.release_taken.new.reported.items _ _
     (released_handler (state_of code c.args.state.now) c.args.r c.in-Some.handler
     (sym (c.takes_releases.ensures code) ∙ c.if-not-takes_releases.false)
     (ap (λ (rows : List HandlerRow). handler_number rows c.args.r) (sym c.as_slice.ensures.value)
@@ -28,9 +28,9 @@ returns-in_ok-release_taken-in-Some c = λ code.
 pub returns-in-None : goal.returns-in-None
 unfolding state_of
 returns-in-None c = λ code.
-    same_step code c.args.state.now c.args.told.now.items c.args.told.now.items _ _
+    same_step code c.args.state.now c.args.reported.now.items c.args.reported.now.items _ _
     (released_nobody (state_of code c.args.state.now) c.args.r
     (sym (c.takes_releases.ensures code) ∙ c.if-not-takes_releases.false)
     (ap (λ (rows : List HandlerRow). handler_number rows c.args.r) (sym c.as_slice.ensures.value)
     ∙ (sym c.in_ok-handler.ensures ∙ c.in-None.is)))
-    (still code c.args.state.now c.args.told.now.items)
+    (still code c.args.state.now c.args.reported.now.items)

@@ -8,14 +8,14 @@ use Rattle.mission_steps.proofs.releases.termination_asked.Goals as goal
 pub returns-in_ok-termination : goal.returns-in_ok-termination
 unfolding state_of
 returns-in_ok-termination c = λ code.
-    same_step code c.termination.new.state c.args.told.now.items c.termination.new.told.items _ _
+    same_step code c.termination.new.state c.args.reported.now.items c.termination.new.reported.items _ _
     (asked_to_end (state_of code c.args.state.now) c.args.r
     (sym c.asks_for_end.ensures ∙ c.if-asks_for_end.true)) (c.in_ok-termination.ensures code)
 
 pub returns-else-asks_for_end : goal.returns-else-asks_for_end
 unfolding state_of
 returns-else-asks_for_end c = λ code.
-    same_step code c.args.state.now c.args.told.now.items c.args.told.now.items _ _
+    same_step code c.args.state.now c.args.reported.now.items c.args.reported.now.items _ _
     (asked_in_vain (state_of code c.args.state.now) c.args.r
     (sym c.asks_for_end.ensures ∙ c.if-asks_for_end.false))
-    (still code c.args.state.now c.args.told.now.items)
+    (still code c.args.state.now c.args.reported.now.items)

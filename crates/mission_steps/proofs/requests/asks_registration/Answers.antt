@@ -15,7 +15,7 @@ unfolding applied state_of
 returns-in_default c =
     no_effect c.args.code.now c.args.state.now c.args.acting c.args.activity
     (λ f. AsksRegistration f c.args.r)
-    c.args.state.now c.args.told.now.items c.args.told.now.items
+    c.args.state.now c.args.reported.now.items c.args.reported.now.items
     (λ f below. ap (option_map (λ (o : Object).
     registered (code_of c.args.code.now.program) (state_of c.args.code.now c.args.state.now)
     (job_seen c.args.acting.job) (activity_seen c.args.code.now c.args.activity) c.args.acting.position c.args.r
@@ -34,7 +34,7 @@ returns c =
     c.in-Some.row (sym c.in-Some.is ∙ c.in_ok-row.ensures) in
     effect_after c.args.code.now c.args.state.now c.args.acting c.args.activity
     (λ f. AsksRegistration f c.args.r)
-    c.register.new.state c.args.told.now.items c.register.new.told.items
+    c.register.new.state c.args.reported.now.items c.register.new.reported.items
     (λ s. registered (code_of c.args.code.now.program) (state_of c.args.code.now c.args.state.now)
     (job_seen c.args.acting.job) (activity_seen c.args.code.now c.args.activity) c.args.acting.position c.args.r
     there.0 s)

@@ -10,9 +10,9 @@ pub returns : goal.returns
 unfolding applied
 returns c =
     effect_after c.args.code.now c.args.state.now c.args.acting c.args.activity (λ f. AsksRelease f c.args.r)
-    c.released.new.state c.args.told.now.items c.released.new.told.items (λ s. released s c.args.r) (λ f below. refl)
+    c.released.new.state c.args.reported.now.items c.released.new.reported.items (λ s. released s c.args.r) (λ f below. refl)
     (subst
     (λ (s : State). IsStep c.args.code.now (released s c.args.r) c.released.new.state
-    c.args.told.now.items
-    c.released.new.told.items) (c.in_ok-put_back.ensures.put c.args.code.now)
+    c.args.reported.now.items
+    c.released.new.reported.items) (c.in_ok-put_back.ensures.put c.args.code.now)
     (c.in_ok-released.ensures c.args.code.now))

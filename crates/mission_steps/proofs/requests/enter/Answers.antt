@@ -10,6 +10,6 @@ unfolding state_of
 returns c =
     entered c.args.code.now c.args.state.now c.put_back.new.state
     (with_activity (state_of c.args.code.now c.args.state.now) (job_seen c.args.job)
-    (activity_seen c.args.code.now c.args.activity)) c.args.row c.push.new.self.items c.args.told.now.items
-    c.tell_registered.new.told.items (c.in_ok-put_back.ensures.put c.args.code.now)
-    c.in_ok-push.ensures.items c.in_ok-tell_registered.ensures _ refl
+    (activity_seen c.args.code.now c.args.activity)) c.args.row c.push.new.self.items c.args.reported.now.items
+    c.report_registered.new.reported.items (c.in_ok-put_back.ensures.put c.args.code.now)
+    c.in_ok-push.ensures.items c.in_ok-report_registered.ensures _ refl

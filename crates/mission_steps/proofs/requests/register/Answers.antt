@@ -16,7 +16,7 @@ use Rattle.mission_steps.proofs.requests.register.Goals as goal
 pub returns-then-not-is_init : goal.returns-then-not-is_init
 unfolding state_of
 returns-then-not-is_init c = λ r o e.
-    same_step c.args.code.now c.fault_in.new.state c.args.told.now.items c.fault_in.new.told.items _ _
+    same_step c.args.code.now c.fault_in.new.state c.args.reported.now.items c.fault_in.new.reported.items _ _
     (registered_too_late c.args.code.now
     (state_of c.args.code.now c.args.state.now)
     (job_seen c.args.acting.job) (activity_seen c.args.code.now c.args.activity) c.args.acting.position r o
@@ -27,7 +27,7 @@ returns-then-not-is_init c = λ r o e.
 pub returns-then-is_some : goal.returns-then-is_some
 unfolding state_of
 returns-then-is_some c = λ r o e.
-    same_step c.args.code.now c.put_back.new.state c.args.told.now.items c.args.told.now.items _ _
+    same_step c.args.code.now c.put_back.new.state c.args.reported.now.items c.args.reported.now.items _ _
     (registered_already c.args.code.now
     (state_of c.args.code.now c.args.state.now)
     (job_seen c.args.acting.job) (activity_seen c.args.code.now c.args.activity) c.args.acting.position r o
@@ -39,14 +39,14 @@ returns-then-is_some c = λ r o e.
     ∙ (ap (λ (rows : List HandlerRow). is_some (handler_number rows c.args.row.at)) (sym c.as_slice.ensures.value)
     ∙ (ap (λ (number : Option ℕ). is_some number) (sym c.in_ok-handler_number.ensures)
     ∙ (sym c.is_some.ensures ∙ c.if-is_some.true)))))
-    (quietly c.args.code.now c.put_back.new.state c.args.told.now.items _
+    (quietly c.args.code.now c.put_back.new.state c.args.reported.now.items _
     (c.in_ok-put_back.ensures.put c.args.code.now))
 
 pub returns-then-len-ge-MOST_HANDLERS : goal.returns-then-len-ge-MOST_HANDLERS
 unfolding state_of
 returns-then-len-ge-MOST_HANDLERS c = λ r o e.
-    same_step c.args.code.now c.fault_in-then-len-ge-MOST_HANDLERS.new.state c.args.told.now.items
-    c.fault_in-then-len-ge-MOST_HANDLERS.new.told.items _ _
+    same_step c.args.code.now c.fault_in-then-len-ge-MOST_HANDLERS.new.state c.args.reported.now.items
+    c.fault_in-then-len-ge-MOST_HANDLERS.new.reported.items _ _
     (registered_too_many c.args.code.now
     (state_of c.args.code.now c.args.state.now)
     (job_seen c.args.acting.job) (activity_seen c.args.code.now c.args.activity) c.args.acting.position r o
@@ -64,7 +64,7 @@ returns-then-len-ge-MOST_HANDLERS c = λ r o e.
 pub returns : goal.returns
 unfolding state_of
 returns c = λ r o e.
-    same_step c.args.code.now c.enter.new.state c.args.told.now.items c.enter.new.told.items _ _
+    same_step c.args.code.now c.enter.new.state c.args.reported.now.items c.enter.new.reported.items _ _
     (registered_newly c.args.code.now
     (state_of c.args.code.now c.args.state.now)
     (job_seen c.args.acting.job) (activity_seen c.args.code.now c.args.activity) c.args.acting.position r o

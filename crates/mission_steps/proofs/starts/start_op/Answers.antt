@@ -12,7 +12,7 @@ use Rattle.mission_steps.proofs.starts.start_op.Goals as goal
 pub returns-in_default : goal.returns-in_default
 unfolding state_of
 returns-in_default c = λ r e.
-    no_step c.args.code.now c.args.state.now c.args.told.now.items c.args.told.now.items _
+    no_step c.args.code.now c.args.state.now c.args.reported.now.items c.args.reported.now.items _
     (no_row (code_of c.args.code.now.program) (state_of c.args.code.now c.args.state.now) c.args.index r
     (c.in_default.ensures ∙ ap (λ (rows : List HandlerRow). handler_row rows c.args.handler) c.as_slice.ensures.value
     ∙ ap (handler_row c.args.state.now.registry.items) (sym e)))
@@ -20,7 +20,7 @@ returns-in_default c = λ r e.
 pub returns-in_default-private_scope : goal.returns-in_default-private_scope
 unfolding state_of
 returns-in_default-private_scope c = λ r e.
-    no_step c.args.code.now c.args.state.now c.args.told.now.items c.args.told.now.items _
+    no_step c.args.code.now c.args.state.now c.args.reported.now.items c.args.reported.now.items _
     (no_private_scope (code_of c.args.code.now.program) (state_of c.args.code.now c.args.state.now) c.args.index r
     c.in-Some.row
     (c.in-Some.ensures ∙ ap (λ (rows : List HandlerRow). handler_row rows c.args.handler) c.as_slice.ensures.value
@@ -29,7 +29,7 @@ returns-in_default-private_scope c = λ r e.
 pub returns-in_default-body_named : goal.returns-in_default-body_named
 unfolding state_of
 returns-in_default-body_named c = λ r e.
-    no_step c.args.code.now c.args.state.now c.args.told.now.items c.args.told.now.items _
+    no_step c.args.code.now c.args.state.now c.args.reported.now.items c.args.reported.now.items _
     (no_body (code_of c.args.code.now.program) (state_of c.args.code.now c.args.state.now) c.args.index r
     c.in-Some.row
     (c.in-Some.ensures ∙ ap (λ (rows : List HandlerRow). handler_row rows c.args.handler) c.as_slice.ensures.value
@@ -41,7 +41,7 @@ returns-in_default-body_named c = λ r e.
 pub returns : goal.returns
 unfolding state_of
 returns c = λ r e.
-    try_of c.args.code.now c.started_with.new.state c.args.told.now.items c.started_with.new.told.items _ _
+    try_of c.args.code.now c.started_with.new.state c.args.reported.now.items c.started_with.new.reported.items _ _
     (begins_with (code_of c.args.code.now.program) (state_of c.args.code.now c.args.state.now) c.args.index r
     c.in-Some.row
     (c.in-Some.ensures ∙ ap (λ (rows : List HandlerRow). handler_row rows c.args.handler) c.as_slice.ensures.value

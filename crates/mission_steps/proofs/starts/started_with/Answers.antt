@@ -20,7 +20,7 @@ returns-in_ok-put_back-in-Some c =
     started_there c.args.code.now c.args.state.now c.args.start.now.index c.args.start.now.row
     c.args.start.now.scope c.args.start.now.body
     c.open_area.new.state c.put_back.new.state c.in-Some.area c.in_ok-activity-in-Some.activity c.in_ok-areas.areas
-    c.args.told.now.items
+    c.args.reported.now.items
     (is_private c.args.code.now c.args.state.now c.args.start.now.index c.args.start.now.row
     c.args.start.now.scope c.args.start.now.body
     c.innermost-parent.result c.open_area.result (Some c.in-Some.area)
@@ -35,7 +35,7 @@ unfolding state_of
 returns-in_ok-fault_in-in-None c =
     not_started c.args.code.now c.args.state.now c.args.start.now.index c.args.start.now.row
     c.args.start.now.scope c.args.start.now.body
-    c.open_area.new.state c.fault_in.new.state c.args.told.now.items c.fault_in.new.told.items
+    c.open_area.new.state c.fault_in.new.state c.args.reported.now.items c.fault_in.new.reported.items
     (is_private c.args.code.now c.args.state.now c.args.start.now.index c.args.start.now.row
     c.args.start.now.scope c.args.start.now.body
     c.innermost-parent.result c.open_area.result None
@@ -44,11 +44,11 @@ returns-in_ok-fault_in-in-None c =
     (class_position (code_of c.args.code.now.program).program c.args.start.now.row.class)))
     (subst (λ (position : Position). IsStep c.args.code.now
     (fault_in (state_of c.args.code.now c.open_area.new.state) (ReleaseAt c.args.start.now.index) no_activity
-    position StoreFull) c.fault_in.new.state c.args.told.now.items c.fault_in.new.told.items) c.class_position.ensures
+    position StoreFull) c.fault_in.new.state c.args.reported.now.items c.fault_in.new.reported.items) c.class_position.ensures
     (subst (λ (activity : StoredActivity). IsStep c.args.code.now
     (fault_in (state_of c.args.code.now c.open_area.new.state) (ReleaseAt c.args.start.now.index)
     (activity_seen c.args.code.now activity) c.class_position.result StoreFull) c.fault_in.new.state
-    c.args.told.now.items c.fault_in.new.told.items) c.empty.ensures
+    c.args.reported.now.items c.fault_in.new.reported.items) c.empty.ensures
     (c.in_ok-fault_in-in-None.ensures c.args.code.now)))
 
 pub fault_in-requires : goal.fault_in-requires

@@ -4,7 +4,7 @@ use Rattle.node_contexts.proofs.CountLemmas.{place_is}
 use Rattle.node_bindings.proofs.numbers.index_of.Goals as goal
 
 pub returns-then-is_variable_of : goal.returns-then-is_variable_of
-returns-then-is_variable_of c = ap (λ n. Some n) c.told.ensures
+returns-then-is_variable_of c = ap (λ n. Some n) c.row_or.ensures
     ∙ sym (place_is (declarations_of c.args.facts.now) c.args.member c.args.variable c.args.numbers.now
     c.requires ∙ (rw (sym c.is_variable_of.ensures ∙ c.if-is_variable_of.true) refl))
 

@@ -12,9 +12,9 @@ unfolding noted_at late_at
 returns c =
     let p = declarations_of c.args.classes.now in
     let id = c.args.id in
-    let number : c.told.result ≡ number_before p id =
-    c.told.ensures ∙ ap (λ (ns : List ℕ). lookup 0 ns id) c.requires.numbers ∙ sym (number_at p id) in
-    let late : c.note_late.new.found.items ≡ c.note_asked.new.found.items ++ too_late p id c.told.result =
+    let number : c.row_or.result ≡ number_before p id =
+    c.row_or.ensures ∙ ap (λ (ns : List ℕ). lookup 0 ns id) c.requires.numbers ∙ sym (number_at p id) in
+    let late : c.note_late.new.found.items ≡ c.note_asked.new.found.items ++ too_late p id c.row_or.result =
     rw (← c.program.ensures) c.in_ok-note_late.ensures in
     late ∙ ap (λ n. c.note_asked.new.found.items ++ too_late p id n) number
     ∙ ap (λ (fs : List Found). fs ++ too_late p id (number_before p id)) c.in_ok-note_asked.ensures

@@ -12,7 +12,7 @@ returns-clause-whole c = λ ids e.
     let s : c.push.new.self ≡ FileOpen [] ∷ [] = cc c.in_ok-push.ensures in
     let i = lexemes_of c.args.bytes.now c.args.tokens.now in
     let same = ap (λ (s : List Entry). way (at FileStart s c.args.nodes.now.all) i) s in
-    let told =
-    c.told_by.ensures.whole c.read-outcome.new.nodes.all (way (at FileStart c.push.new.self c.args.nodes.now.all) i) ids
+    let reported =
+    c.reported_by.ensures.whole c.read-outcome.new.nodes.all (way (at FileStart c.push.new.self c.args.nodes.now.all) i) ids
     c.read-outcome.ensures.way e in
-    (told.0, sym same ∙ told.1, told.2)
+    (reported.0, sym same ∙ reported.1, reported.2)

@@ -1,7 +1,7 @@
 use Rattle.std.proofs.Common.{◌≡◌, ◌<◌, arith}
 use Rattle.std.proofs.lemmas.Result.{err_from_is_err_and}
 use Rattle.plain_machine.proofs.BehindLaws.{breaks_before}
-use Rattle.plain_machine.proofs.LastLaws.{tells_last}
+use Rattle.plain_machine.proofs.LastLaws.{reports_last}
 use Rattle.plain_machine.proofs.StepLaws.{steps, stops, stops_broken, unit_broken}
 use Rattle.plain_machine.proofs.steps.one_step.Goals as goal
 
@@ -39,7 +39,7 @@ returns-in_err-put_all-clause-stop g c =
 
 pub progress_after-requires : goal.progress_after-requires
 progress_after-requires g c = λ e.
-    tells_last c.args.setting.code.now c.args.setting.plan.now c.args.at.now.state.unit c.spend.new.at
+    reports_last c.args.setting.code.now c.args.setting.plan.now c.args.at.now.state.unit c.spend.new.at
     c.in_ok-spend.ensures c.requires.between.goes_on e
 
 pub returns-clause-ok : goal.returns-clause-ok

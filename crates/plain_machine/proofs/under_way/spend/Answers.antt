@@ -5,7 +5,7 @@ use Rattle.plain_machine.proofs.under_way.spend.Goals as goal
 pub unreachable-requires : goal.unreachable-requires
 unreachable-requires c =
     goes_through c.args.setting.code.now c.args.setting.plan.now c.args.at.now c.args.at.now c.requires.between
-    c.in_ok-one_unit.field-0 c.clear.new.self.items c.one_unit.new.told.items c.one_unit.new.state c.if-branch.false
+    c.in_ok-one_unit.field-0 c.clear.new.self.items c.one_unit.new.reported.items c.one_unit.new.state c.if-branch.false
     c.requires.never c.in_ok-one_unit.ensures.led
 
 pub returns : goal.returns

@@ -20,11 +20,11 @@ returns-then-is_over-clause-on c =
       table = c.spend_watched.new.table;
       fault = c.last_fault-run.result;
     })
-    c.args.run.now.fault within c.in_ok-spend_watched.ensures.spent c.in_ok-spend_watched.ensures.tells
+    c.args.run.now.fault within c.in_ok-spend_watched.ensures.spent c.in_ok-spend_watched.ensures.reports
     c.requires.watched.fault c.requires.watched.between.goes_on
     (c.last_fault-run.ensures
     ∙ ap (λ (events : List Event). last_fault c.args.run.now.fault events) c.deref.ensures.value) _
-    c.last_told.result (sym c.is_over.ensures ∙ c.if-is_over.true) c.last_told.ensures
+    c.last_reported.result (sym c.is_over.ensures ∙ c.if-is_over.true) c.last_reported.ensures
 
 pub returns-then-is_over-clause-end : goal.returns-then-is_over-clause-end
 returns-then-is_over-clause-end c =
@@ -36,11 +36,11 @@ returns-then-is_over-clause-end c =
       table = c.spend_watched.new.table;
       fault = c.last_fault-run.result;
     })
-    c.args.run.now.fault within c.in_ok-spend_watched.ensures.spent c.in_ok-spend_watched.ensures.tells
+    c.args.run.now.fault within c.in_ok-spend_watched.ensures.spent c.in_ok-spend_watched.ensures.reports
     c.requires.watched.fault c.requires.watched.between.goes_on
     (c.last_fault-run.ensures
     ∙ ap (λ (events : List Event). last_fault c.args.run.now.fault events) c.deref.ensures.value)
-    c.last_told.result (sym c.is_over.ensures ∙ c.if-is_over.true) c.last_told.ensures
+    c.last_reported.result (sym c.is_over.ensures ∙ c.if-is_over.true) c.last_reported.ensures
 
 pub returns-clause-on : goal.returns-clause-on
 returns-clause-on c =
@@ -52,7 +52,7 @@ returns-clause-on c =
             table = c.spend_watched.new.table;
             fault = c.last_fault-run.result;
           })
-          c.args.run.now.fault within c.in_ok-spend_watched.ensures.spent c.in_ok-spend_watched.ensures.tells
+          c.args.run.now.fault within c.in_ok-spend_watched.ensures.spent c.in_ok-spend_watched.ensures.reports
           c.requires.watched.fault c.requires.watched.between.goes_on
           (c.last_fault-run.ensures
           ∙ ap (λ (events : List Event). last_fault c.args.run.now.fault events) c.deref.ensures.value)

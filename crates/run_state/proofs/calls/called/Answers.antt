@@ -17,7 +17,7 @@ unfolding code_of declarations_of
 returns-then-was_full c = λ g before h.
     let code = c.args.code.now in
     let full : c.was_full.result ≡ true = search rules in
-    same_step code c.refused.new.state c.args.told.now.items c.refused.new.told.items _ _
+    same_step code c.refused.new.state c.args.reported.now.items c.refused.new.reported.items _ _
     (called_full code (state_of code c.args.state.now) (job_seen c.args.acting.job) (activity_seen code before)
     (frames_of code before.frames) c.args.acting.position g (sym (c.was_full.ensures.full code g before h) ∙ full))
     (c.in_ok-refused.ensures code g before h)
@@ -27,7 +27,7 @@ unfolding code_of declarations_of
 returns-in_ok-put_back-in-None c = λ g before h.
     let code = c.args.code.now in
     let few : c.was_full.result ≡ false = search rules in
-    same_step code c.put_back.new.state c.args.told.now.items c.args.told.now.items _ _
+    same_step code c.put_back.new.state c.args.reported.now.items c.args.reported.now.items _ _
     (called_plainly code (state_of code c.args.state.now) (job_seen c.args.acting.job) (activity_seen code before)
     (frames_of code before.frames) c.args.acting.position g (sym (c.was_full.ensures.full code g before h) ∙ few)
     (sym (c.in-None.ensures g before h)))
@@ -35,7 +35,7 @@ returns-in_ok-put_back-in-None c = λ g before h.
       state = c.in_ok-put_back-in-None.ensures.put code ∙ ap (λ (a : Activity).
           with_activity (state_of code c.args.state.now) (job_seen c.args.acting.job) a)
           (on_top_seen code g before c.args.activity h);
-      told = sym (append-nil c.args.told.now.items);
+      reported = sym (append-nil c.args.reported.now.items);
     })
 
 pub returns-in_ok-refused-in-Some : goal.returns-in_ok-refused-in-Some
@@ -43,7 +43,7 @@ unfolding code_of declarations_of
 returns-in_ok-refused-in-Some c = λ g before h.
     let code = c.args.code.now in
     let few : c.was_full.result ≡ false = search rules in
-    same_step code c.refused-then-ceiling-activity.new.state c.args.told.now.items c.refused-then-ceiling-activity.new.told.items _ _
+    same_step code c.refused-then-ceiling-activity.new.state c.args.reported.now.items c.refused-then-ceiling-activity.new.reported.items _ _
     (called_above code (state_of code c.args.state.now) (job_seen c.args.acting.job) (activity_seen code before)
     (frames_of code before.frames) c.args.acting.position g c.in-Some.ceiling
     (sym (c.was_full.ensures.full code g before h) ∙ few) (sym (c.in-Some.ensures g before h))
@@ -56,7 +56,7 @@ unfolding code_of declarations_of
 returns-in_ok-entered-in-Some c = λ g before h.
     let code = c.args.code.now in
     let few : c.was_full.result ≡ false = search rules in
-    same_step code c.entered.new.state c.args.told.now.items c.entered.new.told.items _ _
+    same_step code c.entered.new.state c.args.reported.now.items c.entered.new.reported.items _ _
     (called_entering code (state_of code c.args.state.now) (job_seen c.args.acting.job) (activity_seen code before)
     (frames_of code before.frames) c.args.acting.position g c.in-Some.ceiling
     (sym (c.was_full.ensures.full code g before h) ∙ few) (sym (c.in-Some.ensures g before h))

@@ -10,6 +10,6 @@ unfolding call_entered
 returns c = λ code g before h. record {
   state = c.in_ok-put_back.ensures.put code ∙ ap (λ (a : Activity). with_activity (state_of code c.args.state.now)
       (job_seen c.args.acting.job) a) (c.enter.ensures.entered code g before h);
-  told = priority_below code (state_of code c.args.state.now) (job_seen c.args.acting.job) g before c.args.activity
-      c.args.ceiling c.args.told.now.items c.tell_priority.new.told.items h (c.in_ok-tell_priority.ensures code);
+  reported = priority_below code (state_of code c.args.state.now) (job_seen c.args.acting.job) g before c.args.activity
+      c.args.ceiling c.args.reported.now.items c.report_priority.new.reported.items h (c.in_ok-report_priority.ensures code);
 }

@@ -22,5 +22,5 @@ returns c = λ code g before h.
     subst (λ (a : StoredActivity). IsStep code
     (fault_in (state_of code c.args.state.now) (job_seen c.args.acting.job) (activity_seen code a) c.args.acting.position
     c.args.fault)
-    c.fault_in.new.state c.args.told.now.items c.fault_in.new.told.items)
+    c.fault_in.new.state c.args.reported.now.items c.fault_in.new.reported.items)
     same (c.in_ok-fault_in.ensures code)

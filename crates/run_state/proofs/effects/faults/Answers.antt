@@ -8,5 +8,5 @@ pub returns : goal.returns
 unfolding applied
 returns c = λ code.
     applied_as code c.args.state.now c.args.acting c.args.activity (λ f. Faults c.args.fault)
-    c.fault_in.new.state c.args.told.now.items c.fault_in.new.told.items _ (λ f below e. refl)
+    c.fault_in.new.state c.args.reported.now.items c.fault_in.new.reported.items _ (λ f below e. refl)
     (c.in_ok-fault_in.ensures code)

@@ -7,5 +7,5 @@ pub returns : goal.returns
 unfolding fault_in state_of
 returns c = λ code activity. record {
   state = refl;
-  told = c.in_ok-tell_two.ensures;
+  reported = c.in_ok-report_two.ensures;
 }

@@ -9,7 +9,7 @@ pub returns-in-Sequencer : goal.returns-in-Sequencer
 returns-in-Sequencer c = λ code.
     rw c.in-Sequencer.is (quiet code
     (job_ended (state_of code c.args.state.now) TheSequencer (activity_seen code c.args.activity) c.args.value)
-    c.sequencer_ended.new.state c.args.told.now.items (c.sequencer_ended.ensures code))
+    c.sequencer_ended.new.state c.args.reported.now.items (c.sequencer_ended.ensures code))
 
 pub returns-in_ok-release_ended-in-Release : goal.returns-in_ok-release_ended-in-Release
 unfolding job_ended

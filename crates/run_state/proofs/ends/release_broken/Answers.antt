@@ -13,8 +13,8 @@ close_all-requires c =
 
 pub returns : goal.returns
 returns c = λ code.
-    release_at_fault code c.args.state.now c.args.release c.end.new.self c.args.told.now.items c.tell_end.new.told.items
-    c.close_all.new.memory c.args.activity.now c.args.position c.args.fault c.tell.new.told.items
+    release_at_fault code c.args.state.now c.args.release c.end.new.self c.args.reported.now.items c.report_end.new.reported.items
+    c.close_all.new.memory c.args.activity.now c.args.position c.args.fault c.report.new.reported.items
     (λ s. ap (λ (fs : List StoredFrame). closed_all (with_memory s c.args.state.now.memory) (frames_of code fs))
     (sym c.in_order.ensures) ∙ c.close_all.ensures code s)
-    c.end.ensures.ended c.in_ok-tell.ensures (c.in_ok-tell_end.ensures code)
+    c.end.ensures.ended c.in_ok-report.ensures (c.in_ok-report_end.ensures code)

@@ -4,5 +4,5 @@ use Rattle.run_state.proofs.ends.release_ended.Goals as goal
 
 pub returns : goal.returns
 returns c = λ code activity.
-    release_done code c.args.state.now c.args.release c.end.new.self c.args.told.now.items c.tell_end.new.told.items
-    activity None c.end.ensures.ended (c.in_ok-tell_end.ensures code)
+    release_done code c.args.state.now c.args.release c.end.new.self c.args.reported.now.items c.report_end.new.reported.items
+    activity None c.end.ensures.ended (c.in_ok-report_end.ensures code)

@@ -14,5 +14,5 @@ returns c = λ code. record {
     activity = activity_seen code c.args.activity;
     outcome = Some v;
   } in s)) c.unwrap_or.ensures;
-  told = refl;
+  reported = refl;
 }

@@ -15,9 +15,9 @@ pub returns : goal.returns
 returns c = λ code f below e.
     left_all code c.args.state.now (job_seen c.args.job) c.args.activity c.step_down.new.activity f below c.args.value
     c.in_ok-left.left.opened c.in_ok-left.left.saved c.close_opened.new.memory c.settle.new.state
-    c.args.told.now.items c.tell_priority.new.told.items c.settle.new.told.items
+    c.args.reported.now.items c.report_priority.new.reported.items c.settle.new.reported.items
     (c.in_ok-left.ensures.opened f below e) (c.in_ok-left.ensures.saved f below e)
-    (c.in_ok-step_down.ensures.after code f below e) (c.in_ok-tell_priority.ensures code)
+    (c.in_ok-step_down.ensures.after code f below e) (c.in_ok-report_priority.ensures code)
     (λ s. ap (λ (o : Option ℕ). closed (with_memory s c.args.state.now.memory) o)
     (c.in_ok-left.ensures.opened f below e ∙ sym (c.in_ok-opened.ensures.opened f below e))
     ∙ (closed_is s c.args.state.now.memory c.in_ok-opened.opened

@@ -13,7 +13,7 @@ use Rattle.run_state.proofs.openings.opened_in.Goals as goal
 pub returns-then-is_cycle : goal.returns-then-is_cycle
 returns-then-is_cycle c = λ code g before h.
     let cycle : c.is_cycle.result ≡ true = search rules in
-    same_step code c.refused.new.state c.args.told.now.items c.refused.new.told.items _ _
+    same_step code c.refused.new.state c.args.reported.now.items c.refused.new.reported.items _ _
     (opened_in_cycle code (state_of code c.args.state.now) (job_seen c.args.acting.job) (activity_seen code before)
     (frames_of code before.frames) c.args.acting.position g c.args.scope c.args.bytes
     (ap (λ (a : StoredActivity). is_some (area_with_scope (state_of code c.args.state.now) c.args.scope a.areas))
@@ -24,7 +24,7 @@ pub returns-then-was_full : goal.returns-then-was_full
 returns-then-was_full c = λ code g before h.
     let other : c.is_cycle.result ≡ false = search rules in
     let full : c.was_full.result ≡ true = search rules in
-    same_step code c.refused-then-was_full.new.state c.args.told.now.items c.refused-then-was_full.new.told.items _ _
+    same_step code c.refused-then-was_full.new.state c.args.reported.now.items c.refused-then-was_full.new.reported.items _ _
     (opened_in_full code (state_of code c.args.state.now) (job_seen c.args.acting.job) (activity_seen code before)
     (frames_of code before.frames) c.args.acting.position g c.args.scope c.args.bytes
     (ap (λ (a : StoredActivity). is_some (area_with_scope (state_of code c.args.state.now) c.args.scope a.areas))
@@ -36,7 +36,7 @@ pub returns : goal.returns
 returns c = λ code g before h.
     let other : c.is_cycle.result ≡ false = search rules in
     let few : c.was_full.result ≡ false = search rules in
-    same_step code c.opened_on_top.new.state c.args.told.now.items c.opened_on_top.new.told.items _ _
+    same_step code c.opened_on_top.new.state c.args.reported.now.items c.opened_on_top.new.reported.items _ _
     (opened_in_new code (state_of code c.args.state.now) (job_seen c.args.acting.job) (activity_seen code before)
     (frames_of code before.frames) c.args.acting.position g c.args.scope c.args.bytes
     (ap (λ (a : StoredActivity). is_some (area_with_scope (state_of code c.args.state.now) c.args.scope a.areas))

@@ -17,7 +17,7 @@ pub returns-in_ok-put_back-in-Some : goal.returns-in_ok-put_back-in-Some
 returns-in_ok-put_back-in-Some c = λ code g before h.
     opened_step code (state_of code c.args.state.now) (job_seen c.args.acting.job) (activity_seen code before)
     (frames_of code before.frames) c.args.acting.position g c.args.area.scope c.args.area.parent c.args.area.bytes
-    (state_of code c.open_area.new.state) c.put_back.new.state c.args.told.now.items c.args.told.now.items
+    (state_of code c.open_area.new.state) c.put_back.new.state c.args.reported.now.items c.args.reported.now.items
     c.in-Some.opened
     (rw c.in-Some.is at
     (c.open_area.ensures.opened code (job_seen c.args.acting.job)
@@ -26,14 +26,14 @@ returns-in_ok-put_back-in-Some c = λ code g before h.
       state = c.in_ok-put_back-in-Some.ensures.put code ∙ ap (λ (a : Activity).
           with_activity (state_of code c.open_area.new.state) (job_seen c.args.acting.job) a)
           (c.in_ok-move_in-in-Some.ensures.moved code g before h);
-      told = sym (append-nil c.args.told.now.items);
+      reported = sym (append-nil c.args.reported.now.items);
     })
 
 pub returns-in_ok-refused-in-None : goal.returns-in_ok-refused-in-None
 returns-in_ok-refused-in-None c = λ code g before h.
     unopened_step code (state_of code c.args.state.now) (job_seen c.args.acting.job) (activity_seen code before)
     (frames_of code before.frames) c.args.acting.position g c.args.area.scope c.args.area.parent c.args.area.bytes
-    (state_of code c.open_area.new.state) c.refused.new.state c.args.told.now.items c.refused.new.told.items
+    (state_of code c.open_area.new.state) c.refused.new.state c.args.reported.now.items c.refused.new.reported.items
     (rw c.in-None.is at
     (c.open_area.ensures.opened code (job_seen c.args.acting.job)
     (activity_seen code before) c.args.acting.position))

@@ -18,7 +18,7 @@ returns-in_ok-put_back-in-Some c = λ code f below e.
           with_activity (state_of code c.args.state.now) (job_seen c.args.acting.job) a)
           (operand_on_top code c.args.activity c.push_on_top.new.self f below (At c.in-Some.r)
           c.in_ok-push_on_top-in-Some.ensures.pushed e);
-      told = sym (append-nil c.args.told.now.items);
+      reported = sym (append-nil c.args.reported.now.items);
     })
 
 pub returns-in_ok-fault_in-in-None : goal.returns-in_ok-fault_in-in-None

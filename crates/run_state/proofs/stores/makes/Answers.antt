@@ -20,7 +20,7 @@ made-requires c = λ e.
 pub returns : goal.returns
 returns c = λ code.
     made_applied code c.args.state.now c.args.acting c.args.activity c.args.object.class c.in_ok-area.area
-    c.args.object.slots.items c.make_object-found.result c.make_object-found.new.state c.made.new.state c.args.told.now.items c.made.new.told.items
+    c.args.object.slots.items c.make_object-found.result c.make_object-found.new.state c.made.new.state c.args.reported.now.items c.made.new.reported.items
     c.in_ok-area.ensures.area
     (c.make_object-found.ensures.made code (job_seen c.args.acting.job) (activity_seen code c.args.activity)
     c.args.acting.position)

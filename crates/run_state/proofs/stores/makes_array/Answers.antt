@@ -21,7 +21,7 @@ made-requires c = λ e.
 pub returns : goal.returns
 returns c = λ code.
     made_applied code c.args.state.now c.args.acting c.args.activity c.args.array.class c.in_ok-area.area
-    (new_elements c.args.array.kind c.args.array.count) c.make_array-found.result c.make_array-found.new.state c.made.new.state c.args.told.now.items c.made.new.told.items
+    (new_elements c.args.array.kind c.args.array.count) c.make_array-found.result c.make_array-found.new.state c.made.new.state c.args.reported.now.items c.made.new.reported.items
     c.in_ok-area.ensures.area
     (c.make_array-found.ensures.made code (job_seen c.args.acting.job) (activity_seen code c.args.activity)
     c.args.acting.position)

@@ -15,7 +15,7 @@ pub returns-in_ok-put_back-in-Sequencer : goal.returns-in_ok-put_back-in-Sequenc
 unfolding applied state_of
 returns-in_ok-put_back-in-Sequencer c = λ code.
     applied_on_memory code c.args.state.now c.args.acting c.args.activity (λ f. SetsCeiling f c.args.r c.args.ceiling)
-    c.set_ceiling.new.self c.put_back.new.state c.args.told.now.items
+    c.set_ceiling.new.self c.put_back.new.state c.args.reported.now.items
     (record (state_of code c.args.state.now) {
       objects = changed (with_ceiling c.args.ceiling) c.args.r (state_of code c.args.state.now).objects;
     }) (λ f below. rw c.in-Sequencer.is refl)
@@ -27,7 +27,7 @@ pub returns-in_ok-fault_in-in-Release : goal.returns-in_ok-fault_in-in-Release
 unfolding applied
 returns-in_ok-fault_in-in-Release c = λ code.
     applied_as code c.args.state.now c.args.acting c.args.activity (λ f. SetsCeiling f c.args.r c.args.ceiling)
-    c.fault_in.new.state c.args.told.now.items c.fault_in.new.told.items
+    c.fault_in.new.state c.args.reported.now.items c.fault_in.new.reported.items
     (fault_in (state_of code c.args.state.now) (job_seen c.args.acting.job) (activity_seen code c.args.activity)
     c.args.acting.position NotInitializing)
     (λ f below e. rw c.in-Release.is refl) (c.in_ok-fault_in-in-Release.ensures code)

@@ -10,10 +10,10 @@ use Rattle.run_state.proofs.stores.sets_hidden.Goals as goal
 
 pub returns : goal.returns
 unfolding applied state_of
-returns c = λ code told.
+returns c = λ code reported.
     applied_on_memory code c.args.state.now c.args.acting c.args.activity
     (λ f. SetsHidden f c.args.r (hidden_slots c.args.hidden.items))
-    c.set_hidden.new.self c.put_back.new.state told
+    c.set_hidden.new.self c.put_back.new.state reported
     (record
     (state_of code c.args.state.now) {
       objects = changed (with_first (hidden_slots c.args.hidden.items)) c.args.r

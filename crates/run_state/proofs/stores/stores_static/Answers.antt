@@ -10,10 +10,10 @@ use Rattle.run_state.proofs.stores.stores_static.Goals as goal
 
 pub returns : goal.returns
 unfolding applied state_of
-returns c = λ code told.
+returns c = λ code reported.
     applied_on_memory code c.args.state.now c.args.acting c.args.activity
     (λ f. StoresStatic f c.args.index c.args.value)
-    c.set_static.new.self c.put_back.new.state told
+    c.set_static.new.self c.put_back.new.state reported
     (record
     (state_of code c.args.state.now)
     { statics = slice_set (state_of code c.args.state.now).statics c.args.index c.args.value }) (λ f below. refl)

@@ -22,12 +22,12 @@ loop-number-preserved c =
     let whole = rw c.program-program.ensures at c.len-number-end.ensures.whole in
     let s = rw (c.deref.ensures.value, c.at-id.ensures) at c.in_ok-scope.ensures in
     record {
-      told = c.in_ok-push.ensures.items
+      reported = c.in_ok-push.ensures.items
           ∙ bottom_up-more None (scope_of_next p ts) number c.loop-number.scopes.items c.in_ok-scope.scope
-          c.loop-number.invariant.told s.scope;
+          c.loop-number.invariant.reported s.scope;
       noted = s.found
           ∙ ap (λ (ss : List (Option Scope)). c.loop-number.found.items ++ breaks_at p ts (lookup None ss) number)
-          c.loop-number.invariant.told
+          c.loop-number.invariant.reported
           ∙ ap (λ (fs : List Found). c.loop-number.found.items ++ fs) (breaks_so_far forest whole ts number)
           ∙ ap (λ (fs : List Found). fs ++ breaks_at p ts (lookup None (scopes_in p ts)) number)
           c.loop-number.invariant.noted

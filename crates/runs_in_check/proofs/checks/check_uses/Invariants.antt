@@ -8,7 +8,7 @@ use Rattle.runs_in_check.proofs.checks.check_uses.Given as goal
 -- the scopes of the nodes so far, and what is broken at them
 abbrev pub invariant-loop-number : goal.invariant-loop-number
 invariant-loop-number l = record {
-  told : l.scopes.items ≡ bottom_up None (scope_of_next (declarations_of l.facts) (lookup None l.types)) l.number;
+  reported : l.scopes.items ≡ bottom_up None (scope_of_next (declarations_of l.facts) (lookup None l.types)) l.number;
   noted : l.found.items ≡ joined_below (breaks_at (declarations_of l.facts) (lookup None l.types)
       (lookup None (scopes_in (declarations_of l.facts) (lookup None l.types)))) l.number;
 }

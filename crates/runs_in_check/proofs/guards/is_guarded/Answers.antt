@@ -3,7 +3,7 @@ use Rattle.std.proofs.lemmas.List.{nil_from_length}
 use Rattle.scj_tree.specs.declared.nodes.Node.{Node}
 use Rattle.std.specs.HashMap.{hash_map_len}
 use Rattle.scj_rules.specs.Contexts.{declarations_of, parent_in}
-use Rattle.program_facts.specs.Told.{declared, types}
+use Rattle.program_facts.specs.Reported.{declared, types}
 use Rattle.runs_in_check.specs.Guards.{guards_both, row_in}
 use Rattle.runs_in_check.proofs.Walks.{guarded_by_rows, no_test, no_test_left, none_guarded, other_tests, some_rows, some_test}
 use Rattle.runs_in_check.proofs.guards.is_guarded.Goals as goal

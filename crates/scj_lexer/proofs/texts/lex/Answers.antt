@@ -1,6 +1,6 @@
 use Rattle.std.proofs.Common.{◌≡◌, ◌<◌, ◌≤◌, length, arith, ◌∙◌, sym, refl, eqb-true}
-use Rattle.scj_lexer.proofs.Reached.{reached_start, reached_blank, reached_space, reached_small, Small, reached_step, reached_end, reached_break, PieceFits, piece_fits, not_at_end, told_memory}
-use Rattle.scj_lexer.proofs.Places.{told_in_line}
+use Rattle.scj_lexer.proofs.Reached.{reached_start, reached_blank, reached_space, reached_small, Small, reached_step, reached_end, reached_break, PieceFits, piece_fits, not_at_end, reported_memory}
+use Rattle.scj_lexer.proofs.Places.{reported_in_line}
 use Rattle.scj_lexer.proofs.texts.lex.Goals as goal
 
 pub loop-rest-init : goal.loop-rest-init
@@ -14,11 +14,11 @@ returns-in-Bad-clause-bad c =
 
 pub returns-in_err-put-in-Piece-clause-bad : goal.returns-in_err-put-in-Piece-clause-bad
 returns-in_err-put-in-Piece-clause-bad c =
-    told_memory c.args.file c.args.bytes.now c.from_residual.result c.from_residual.ensures.1
+    reported_memory c.args.file c.args.bytes.now c.from_residual.result c.from_residual.ensures.1
 
 pub returns-in_err-put-clause-bad : goal.returns-in_err-put-clause-bad
 returns-in_err-put-clause-bad c =
-    told_memory c.args.file c.args.bytes.now c.from_residual-in_err-put.result c.from_residual-in_err-put.ensures.1
+    reported_memory c.args.file c.args.bytes.now c.from_residual-in_err-put.result c.from_residual-in_err-put.ensures.1
 
 pub put-requires-clause-len_fits : goal.put-requires-clause-len_fits
 put-requires-clause-len_fits c =
@@ -108,7 +108,7 @@ loop-rest-preserved-then-is_blank c =
 pub behind_piece-pos-requires-clause-in_line : goal.behind_piece-pos-requires-clause-in_line
 behind_piece-pos-requires-clause-in_line c =
     rw c.split_at-in-Piece.ensures.front
-    (told_in_line c.loop-rest.rest.now c.in-Piece.kind c.in-Piece.len
+    (reported_in_line c.loop-rest.rest.now c.in-Piece.kind c.in-Piece.len
     (not_at_end _ _ c.is_empty.ensures c.loop-rest-test.true) (sym c.first.ensures ∙ c.in-Piece.is))
 
 pub along-pos-requires : goal.along-pos-requires

@@ -1,6 +1,6 @@
 use Rattle.std.proofs.Common.{◌≡◌, length}
 use Rattle.parser_machine.specs.Members.{statement_ended}
-use Rattle.parser_nodes.specs.Told.{seen}
+use Rattle.parser_nodes.specs.Reported.{seen}
 use Rattle.statement_steps.proofs.endings.statement_ended.Given as goal
 
 abbrev pub invariant-loop-entry : goal.invariant-loop-entry

@@ -12,7 +12,7 @@ loop-others-init c =
       kept = λ class. refl;
       named = λ path u a.
           record {
-            told = a.told;
+            reported = a.reported;
             renewed = λ name h. a.nearest name
                 ∙ same_without c.args.kind c.args.classes.now name c.args.level.now.class path c.args.is_entered
                 (rw c.members-others.ensures at h);
@@ -32,9 +32,9 @@ loop-others-preserved-in-Continue-1 c =
           let whole = first_left c.id-item.result c.loop-others.others.now c.in-len1-up.len_at_least c.id-item.is in
           let after : List ℕ → Option FieldRef =
           λ name. nearest_in c.args.kind forest name (with_class c.args.is_entered c.args.level.now.class path) in
-          let member = rw u.behind at (c.standing-member.ensures was.told) in
+          let member = rw u.behind at (c.standing-member.ensures was.reported) in
           record {
-            told = (rw c.program-program.ensures at c.in_ok-note.ensures.told) c.args.kind was.told;
+            reported = (rw c.program-program.ensures at c.in_ok-note.ensures.reported) c.args.kind was.reported;
             renewed = λ name h.
                 one_renewed c.args.kind forest name after c.id-item.result _ c.in-Some.name _ _
                 c.standing-member.result (rw c.program-program.ensures at c.in-Some.ensures) member
@@ -50,11 +50,11 @@ loop-others-preserved c =
           let was = c.loop-others.invariant.named path u a in
           let whole = first_left c.id-item.result c.loop-others.others.now c.in-len1-up.len_at_least c.id-item.is in
           let none = rw c.program-program.ensures at c.in_default-name_at.ensures in
-          record { told = was.told; renewed = λ name h. (rw whole at (was.renewed name)) (rw (← none) h) };
+          record { reported = was.reported; renewed = λ name h. (rw whole at (was.renewed name)) (rw (← none) h) };
     }
 
 pub returns-clause-named : goal.returns-clause-named
 returns-clause-named c = λ path u a.
     let was = c.loop-others.invariant.named path u a in
     let none = nil_from_length c.loop-others.others.now (omega (arith, c.in_default.len_below)) in
-    record { told = was.told; nearest = λ name. was.renewed name (rw none refl) }
+    record { reported = was.reported; nearest = λ name. was.renewed name (rw none refl) }

@@ -1,6 +1,6 @@
 use Rattle.class_rows.specs.declared.members.MemberKind.TheVariants.{Field, Method}
 use Rattle.symbol_table.specs.Scopes.{classes_of}
-use Rattle.symbol_table.proofs.ToldLemmas.{others_told}
+use Rattle.symbol_table.proofs.ReportedLemmas.{others_reported}
 use Rattle.symbol_table.proofs.ways.go.Goals as goal
 
 pub returns-clause-scope : goal.returns-clause-scope
@@ -13,9 +13,9 @@ returns-clause-scope c =
       under = u;
       above = record {
         path = e.path;
-        fields = c.in_ok-tell.ensures.nearest Field forest _ u.chain u.behind u.split e.fields;
-        methods = c.in_ok-tell-2.ensures.nearest Method forest _ u.chain u.behind u.split e.methods;
-        fields_told = others_told _ _ _ c.in_ok-tell.ensures.told path e.fields_told;
-        methods_told = others_told _ _ _ c.in_ok-tell-2.ensures.told path e.methods_told;
+        fields = c.in_ok-report.ensures.nearest Field forest _ u.chain u.behind u.split e.fields;
+        methods = c.in_ok-report-2.ensures.nearest Method forest _ u.chain u.behind u.split e.methods;
+        fields_reported = others_reported _ _ _ c.in_ok-report.ensures.reported path e.fields_reported;
+        methods_reported = others_reported _ _ _ c.in_ok-report-2.ensures.reported path e.methods_reported;
       };
     }

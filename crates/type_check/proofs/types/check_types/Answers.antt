@@ -8,7 +8,7 @@ use Rattle.scj_rules.specs.Phases.{over_nodes, type_phase}
 use Rattle.scj_rules.specs.TypeRules.{type_of_next, types_in}
 use Rattle.type_words.proofs.ReturnLemmas.{bottom_up-more}
 use Rattle.type_check.proofs.PassLemmas.{breaks_at, breaks_so_far}
-use Rattle.type_check.proofs.RowLemmas.{none_told}
+use Rattle.type_check.proofs.RowLemmas.{none_reported}
 use Rattle.type_check.proofs.types.check_types.Goals as goal
 
 pub loop-number-init : goal.loop-number-init
@@ -16,7 +16,7 @@ unfolding bottom_up joined_below
 loop-number-init c = record {
   typed = c.in_ok-types.ensures.items;
   noted = c.new-found.ensures.items;
-  right = none_told c.args.facts.now _ _ c.in_ok-rows.ensures;
+  right = none_reported c.args.facts.now _ _ c.in_ok-rows.ensures;
 }
 
 pub loop-number-preserved : goal.loop-number-preserved

@@ -1,6 +1,6 @@
 use Rattle.std.proofs.Common.{◌≡◌, drop}
 use Rattle.type_rules.specs.Parameters.{taken, all_fit}
-use Rattle.program_facts.specs.Told.{declared, types}
+use Rattle.program_facts.specs.Reported.{declared, types}
 use Rattle.type_rules.proofs.arguments.all_fit.Given as goal
 
 -- the arguments that are left tell it

@@ -7,5 +7,5 @@ use Rattle.type_words.proofs.bodies.returning.Given as goal
 abbrev pub invariant-loop-number : goal.invariant-loop-number
 invariant-loop-number l = record {
   whole : length l.returns.items ≡ length l.program.nodes;
-  told : take l.number l.returns.items ≡ bottom_up false (returns_next l.program.nodes) l.number;
+  reported : take l.number l.returns.items ≡ bottom_up false (returns_next l.program.nodes) l.number;
 }

@@ -19,7 +19,7 @@ pub returns-in_ok-goes-in-Goes : goal.returns-in_ok-goes-in-Goes
 unfolding effect_seen
 returns-in_ok-goes-in-Goes c =
     rw c.in-Goes.is
-    (c.in_ok-goes-in-Goes.ensures c.args.code.now c.args.told.now.items)
+    (c.in_ok-goes-in-Goes.ensures c.args.code.now c.args.reported.now.items)
 
 -- the value that is handed on is the one of the effect
 printed_alike : (code : Listing) (was : RunState) (acting : Acting) (activity : StoredActivity) (effect : Frame → Effect)
@@ -42,7 +42,7 @@ unfolding effect_seen
 returns-in_ok-prints-in-Prints c =
     rw c.in-Prints.is
     (printed_alike c.args.code.now c.args.state.now c.args.acting c.args.activity _ c.prints.new.state
-    c.args.told.now.items c.prints.new.told.items c.in-Prints.label c.in-Prints.value
+    c.args.reported.now.items c.prints.new.reported.items c.in-Prints.label c.in-Prints.value
     (c.in_ok-prints-in-Prints.ensures c.args.code.now)
     (λ f. ap (λ (v : ℤ). Prints f c.in-Prints.label v) (search rules)))
 
@@ -62,19 +62,19 @@ pub returns-in_ok-stores-in-Stores : goal.returns-in_ok-stores-in-Stores
 unfolding effect_seen
 returns-in_ok-stores-in-Stores c =
     rw c.in-Stores.is
-    (c.in_ok-stores-in-Stores.ensures c.args.code.now c.args.told.now.items)
+    (c.in_ok-stores-in-Stores.ensures c.args.code.now c.args.reported.now.items)
 
 pub returns-in_ok-stores_static-in-StoresStatic : goal.returns-in_ok-stores_static-in-StoresStatic
 unfolding effect_seen
 returns-in_ok-stores_static-in-StoresStatic c =
     rw c.in-StoresStatic.is
-    (c.in_ok-stores_static-in-StoresStatic.ensures c.args.code.now c.args.told.now.items)
+    (c.in_ok-stores_static-in-StoresStatic.ensures c.args.code.now c.args.reported.now.items)
 
 pub returns-in_ok-sets_hidden-in-SetsHidden : goal.returns-in_ok-sets_hidden-in-SetsHidden
 unfolding effect_seen
 returns-in_ok-sets_hidden-in-SetsHidden c =
     rw c.in-SetsHidden.is
-    (c.in_ok-sets_hidden-in-SetsHidden.ensures c.args.code.now c.args.told.now.items)
+    (c.in_ok-sets_hidden-in-SetsHidden.ensures c.args.code.now c.args.reported.now.items)
 
 pub returns-in_ok-sets_ceiling-in-SetsCeiling : goal.returns-in_ok-sets_ceiling-in-SetsCeiling
 unfolding effect_seen
@@ -119,8 +119,8 @@ unfolding effect_seen
 returns-in-Stuck c =
     rw c.in-Stuck.is
     (c.is_stuck.ensures.applied c.args.code.now c.args.state.now c.args.state.now c.args.acting
-    c.args.activity c.args.told.now.items
-    c.args.told.now.items)
+    c.args.activity c.args.reported.now.items
+    c.args.reported.now.items)
 
 pub makes-requires-clause-open : goal.makes-requires-clause-open
 makes-requires-clause-open c = rw c.in-Makes.is at c.requires.effect

@@ -8,8 +8,8 @@ pub returns : goal.returns
 returns c =
     let code = c.args.code.now in
     let called = frame_called code c.args.call c.args.arguments.items in
-    calls_applied code c.args.state.now c.args.acting c.args.activity called c.called.new.state c.args.told.now.items
-    c.called.new.told.items (c.in_ok-called.ensures called c.args.activity c.in_ok-put_on_top.ensures.put)
+    calls_applied code c.args.state.now c.args.acting c.args.activity called c.called.new.state c.args.reported.now.items
+    c.called.new.reported.items (c.in_ok-called.ensures called c.args.activity c.in_ok-put_on_top.ensures.put)
 
 pub called-requires-clause-closes : goal.called-requires-clause-closes
 called-requires-clause-closes c =

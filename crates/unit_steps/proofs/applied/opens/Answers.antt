@@ -14,8 +14,8 @@ returns c =
     subst
     (λ (arguments : List Value). HasOnTop code (frame_called code c.args.call arguments) c.args.activity
     c.put_on_top.new.activity) c.new-none.ensures.items c.in_ok-put_on_top.ensures.put in
-    opens_applied code c.args.state.now c.args.acting c.args.activity called c.opened_in.new.state c.args.told.now.items
-    c.opened_in.new.told.items c.args.scope c.args.bytes
+    opens_applied code c.args.state.now c.args.acting c.args.activity called c.opened_in.new.state c.args.reported.now.items
+    c.opened_in.new.reported.items c.args.scope c.args.bytes
     (c.in_ok-opened_in.ensures code called c.args.activity on_top)
 
 pub opened_in-requires-clause-stands : goal.opened_in-requires-clause-stands

@@ -7,15 +7,15 @@ use Rattle.unit_steps.proofs.arrivals.fired_in.Goals as goal
 
 pub returns-then-not-comes_in : goal.returns-then-not-comes_in
 returns-then-not-comes_in c = λ code e.
-    same_step code c.args.state.now c.args.told.now.items c.args.told.now.items _ _
+    same_step code c.args.state.now c.args.reported.now.items c.args.reported.now.items _ _
     (comes_not code c.args.origin c.args.unit
     (state_of code c.args.state.now) c.args.fire.now
     (sym c.comes_in.ensures ∙ c.if-not-comes_in.true))
-    (still code c.args.state.now c.args.told.now.items)
+    (still code c.args.state.now c.args.reported.now.items)
 
 pub returns : goal.returns
 returns c = λ code e.
-    same_step code c.fired.new.state c.args.told.now.items c.fired.new.told.items _ _
+    same_step code c.fired.new.state c.args.reported.now.items c.fired.new.reported.items _ _
     (comes code c.args.origin c.args.unit
     (state_of code c.args.state.now) c.args.fire.now
     (sym c.comes_in.ensures ∙ c.if-not-comes_in.false))

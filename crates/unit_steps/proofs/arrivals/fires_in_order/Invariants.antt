@@ -11,7 +11,7 @@ invariant-loop-rest l =
     (code : Listing) → code.program ≡ l.classes →
     IsUnderWay code
     (fired_all code l.origin l.unit l.fires (state_of code l.initial.state))
-    (fired_all code l.origin l.unit l.rest) l.state l.initial.told.items l.told.items
+    (fired_all code l.origin l.unit l.rest) l.state l.initial.reported.items l.reported.items
 
 abbrev pub decreases-loop-rest : goal.decreases-loop-rest
 decreases-loop-rest l = length l.rest

@@ -6,4 +6,4 @@ use Rattle.unit_steps.proofs.arrivals.periodic_arrivals.Given as goal
 abbrev pub invariant-loop-index : goal.invariant-loop-index
 invariant-loop-index l =
     (code : Listing) →
-    AreArriving code l.initial.state l.state l.index l.initial.told.items l.told.items
+    AreArriving code l.initial.state l.state l.index l.initial.reported.items l.reported.items

@@ -26,7 +26,7 @@ returns-in_default-2-clause-led c = λ activity e.
     let code = c.args.code.now in
     let found = activity_of (state_of code c.args.state.now) (job_seen c.args.job) in
     nothing_led code c.args.plan.now.readings (state_of code c.args.state.now) c.args.job c.take_out.new.state
-    c.in-Some.activity activity c.args.told.now.items c.args.told.now.items
+    c.in-Some.activity activity c.args.reported.now.items c.args.reported.now.items
     (taken_is code found c.in-Some.activity activity (c.in-Some.ensures.taken code) e)
     (rw c.in_default-2.is at c.in_ok-done.ensures.none)
 
@@ -55,7 +55,7 @@ returns-clause-led c = λ activity e.
     let next = rw c.in-Some-2.is at c.in_ok-done.ensures.some in
     operation_led code c.args.plan.now.readings (state_of code c.args.state.now)
     (record { job = c.args.job; position = c.position_of.result }) c.take_out.new.state c.apply_effect.new.state c.in-Some.activity
-    activity c.next_on_top.new.frames (went c.in_ok-acted.acted) c.args.told.now.items c.apply_effect.new.told.items c.in-Some-2.done.op
+    activity c.next_on_top.new.frames (went c.in_ok-acted.acted) c.args.reported.now.items c.apply_effect.new.reported.items c.in-Some-2.done.op
     c.in-Some-2.done.effect (taken_is code found c.in-Some.activity activity (c.in-Some.ensures.taken code) e)
     next
     (has_effect code c.args.plan.now.readings c.args.state.now c.take_out.new.state (job_seen c.args.job)

@@ -19,8 +19,8 @@ use Rattle.unit_steps.proofs.turns.acts.Goals as goal
 pub returns-then-not-is_exec-clause-led : goal.returns-then-not-is_exec-clause-led
 unfolding state_of
 returns-then-not-is_exec-clause-led c =
-    led_as c.args.code.now (went c.in_ok-acted.acted) c.sequencer_turn.new.state c.args.told.now.items
-    c.sequencer_turn.new.told.items _ _
+    led_as c.args.code.now (went c.in_ok-acted.acted) c.sequencer_turn.new.state c.args.reported.now.items
+    c.sequencer_turn.new.reported.items _ _
     (sequencer_acts c.args.code.now c.args.plan.now.readings
     (state_of c.args.code.now c.args.state.now) (sym c.is_exec.ensures ∙ c.if-not-is_exec.true))
     c.in_ok-acted.ensures.led
@@ -51,13 +51,13 @@ turn_acts-requires c =
 pub returns-clause-led : goal.returns-clause-led
 unfolding state_of
 returns-clause-led c =
-    led_as c.args.code.now (went c.in_ok-acted-2.acted) c.turn_acts.new.state c.args.told.now.items
-    c.turn_acts.new.told.items _ _
+    led_as c.args.code.now (went c.in_ok-acted-2.acted) c.turn_acts.new.state c.args.reported.now.items
+    c.turn_acts.new.reported.items _ _
     (chosen_acts c.args.code.now c.args.plan.now.readings
     (state_of c.args.code.now c.args.state.now) (turn_seen c.turn_of-turn.result)
     (sym c.is_exec.ensures ∙ c.if-not-is_exec.false) (c.turn_of-turn.ensures c.args.code.now))
-    (then_led c.args.code.now (went c.in_ok-acted-2.acted) c.turn_acts.new.state c.args.told.now.items
-    c.turn_taken.new.told.items c.turn_acts.new.told.items
+    (then_led c.args.code.now (went c.in_ok-acted-2.acted) c.turn_acts.new.state c.args.reported.now.items
+    c.turn_taken.new.reported.items c.turn_acts.new.reported.items
     (turn_taken (state_of c.args.code.now c.args.state.now) (turn_seen c.turn_of-turn.result))
     (turn_acts (code_of c.args.code.now.program) c.args.plan.now.readings (turn_seen c.turn_of-turn.result))
     c.turn_taken.new.state

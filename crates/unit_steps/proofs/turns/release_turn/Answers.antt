@@ -13,11 +13,11 @@ returns-in_ok-went-in-Starts-clause-led c =
     let there = starts_by c.args.code.now c.args.plan.now.readings c.args.state.now c.args.index
     c.in-Starts.handler c.in-Starts.ensures in
     led_by c.args.code.now _ c.came_to.result c.in_ok-went-in-Starts.went c.start_op.new.state
-    c.args.told.now.items c.start_op.new.told.items c.came_to.ensures.went
-    (led_as c.args.code.now c.in_ok-went-in-Starts.went c.start_op.new.state c.args.told.now.items
-    c.start_op.new.told.items _ _ there.2
-    (led_itself c.args.code.now c.in_ok-went-in-Starts.went c.start_op.new.state c.args.told.now.items
-    c.start_op.new.told.items _ (c.in_ok-went-in-Starts.ensures there.0 there.1)))
+    c.args.reported.now.items c.start_op.new.reported.items c.came_to.ensures.went
+    (led_as c.args.code.now c.in_ok-went-in-Starts.went c.start_op.new.state c.args.reported.now.items
+    c.start_op.new.reported.items _ _ there.2
+    (led_itself c.args.code.now c.in_ok-went-in-Starts.went c.start_op.new.state c.args.reported.now.items
+    c.start_op.new.reported.items _ (c.in_ok-went-in-Starts.ensures there.0 there.1)))
 
 pub returns-in_ok-went-in-Starts-clause-refused : goal.returns-in_ok-went-in-Starts-clause-refused
 returns-in_ok-went-in-Starts-clause-refused c =
@@ -30,8 +30,8 @@ pub returns-in_ok-acted-in-GoesOn-clause-led : goal.returns-in_ok-acted-in-GoesO
 returns-in_ok-acted-in-GoesOn-clause-led c =
     let there = goes_on_with c.args.code.now c.args.plan.now.readings c.args.state.now c.args.index
     c.in-GoesOn.ensures in
-    led_as c.args.code.now (went c.in_ok-acted-in-GoesOn.acted) c.frame_op.new.state c.args.told.now.items
-    c.frame_op.new.told.items _ _ there.2
+    led_as c.args.code.now (went c.in_ok-acted-in-GoesOn.acted) c.frame_op.new.state c.args.reported.now.items
+    c.frame_op.new.reported.items _ _ there.2
     (c.in_ok-acted-in-GoesOn.ensures.led (activity_seen c.args.code.now there.0) there.1)
 
 pub returns-in_ok-acted-in-GoesOn-clause-refused : goal.returns-in_ok-acted-in-GoesOn-clause-refused
@@ -46,7 +46,7 @@ returns-in_ok-acted-in-GoesOn-clause-refused c =
 
 pub returns-in-Nothing-clause-led : goal.returns-in-Nothing-clause-led
 returns-in-Nothing-clause-led c =
-    none_there c.args.code.now _ c.args.state.now c.args.told.now.items c.args.told.now.items
+    none_there c.args.code.now _ c.args.state.now c.args.reported.now.items c.args.reported.now.items
     (nothing_done c.args.code.now c.args.plan.now.readings c.args.state.now c.args.index
     c.in-Nothing.ensures) refl
 

@@ -28,12 +28,12 @@ sequencer_op-requires c =
 pub returns-then-depth-eq0-clause-led : goal.returns-then-depth-eq0-clause-led
 returns-then-depth-eq0-clause-led c =
     let code = c.args.code.now in
-    led_by code _ c.came_to.result c.in_ok-went.went c.sequencer_op.new.state c.args.told.now.items
-    c.sequencer_op.new.told.items c.came_to.ensures.went
-    (led_as code c.in_ok-went.went c.sequencer_op.new.state c.args.told.now.items c.sequencer_op.new.told.items _ _
+    led_by code _ c.came_to.result c.in_ok-went.went c.sequencer_op.new.state c.args.reported.now.items
+    c.sequencer_op.new.reported.items c.came_to.ensures.went
+    (led_as code c.in_ok-went.went c.sequencer_op.new.state c.args.reported.now.items c.sequencer_op.new.reported.items _ _
     (without_frames code c.args.plan.now.readings c.args.state.now (sym c.depth.ensures ∙ c.if-depth-eq0.true)
     ∙ ap (λ (st : RunState). sequencer_op (code_of code.program) (state_of code st) st.operation) (sym c.in_ok-refusal.ensures.same))
-    (led_itself code c.in_ok-went.went c.sequencer_op.new.state c.args.told.now.items c.sequencer_op.new.told.items _
+    (led_itself code c.in_ok-went.went c.sequencer_op.new.state c.args.reported.now.items c.sequencer_op.new.reported.items _
     c.in_ok-went.ensures))
 
 pub returns-then-depth-eq0-clause-refused : goal.returns-then-depth-eq0-clause-refused
@@ -46,8 +46,8 @@ returns-then-depth-eq0-clause-refused c =
 
 pub returns-clause-led : goal.returns-clause-led
 returns-clause-led c =
-    led_as c.args.code.now (went c.in_ok-acted.acted) c.frame_op.new.state c.args.told.now.items
-    c.frame_op.new.told.items _ _
+    led_as c.args.code.now (went c.in_ok-acted.acted) c.frame_op.new.state c.args.reported.now.items
+    c.frame_op.new.reported.items _ _
     (with_frames c.args.code.now c.args.plan.now.readings c.args.state.now
     (λ e. c.if-depth-eq0.false (c.depth.ensures ∙ e)))
     (c.in_ok-acted.ensures.led (state_of c.args.code.now c.args.state.now).activity

@@ -12,12 +12,12 @@ use Rattle.unit_steps.proofs.turns.turn_acts.Goals as goal
 pub returns-in-Idle-clause-led : goal.returns-in-Idle-clause-led
 unfolding turn_acts
 returns-in-Idle-clause-led c =
-    rw c.in-Idle.is (led_itself c.args.code.now true c.args.state.now c.args.told.now.items
-    c.args.told.now.items (Some (silently (state_of c.args.code.now c.args.state.now)))
-    (try_of c.args.code.now c.args.state.now c.args.told.now.items c.args.told.now.items
+    rw c.in-Idle.is (led_itself c.args.code.now true c.args.state.now c.args.reported.now.items
+    c.args.reported.now.items (Some (silently (state_of c.args.code.now c.args.state.now)))
+    (try_of c.args.code.now c.args.state.now c.args.reported.now.items c.args.reported.now.items
     (Some (silently (state_of c.args.code.now c.args.state.now)))
     (silently (state_of c.args.code.now c.args.state.now)) refl
-    (still c.args.code.now c.args.state.now c.args.told.now.items)))
+    (still c.args.code.now c.args.state.now c.args.reported.now.items)))
 
 pub returns-in-Idle-clause-refused : goal.returns-in-Idle-clause-refused
 unfolding refused_to_turn

@@ -7,5 +7,5 @@ pub returns-clause-step : goal.returns-clause-step
 unfolding turn_taken state_of
 returns-clause-step c = λ code. record {
   state = refl;
-  told = c.in_ok-tell_other_turn.ensures code;
+  reported = c.in_ok-report_other_turn.ensures code;
 }

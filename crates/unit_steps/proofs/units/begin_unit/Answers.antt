@@ -17,7 +17,7 @@ acts-requires c = record {
 pub returns-clause-led : goal.returns-clause-led
 returns-clause-led c =
     both_led c.args.setting.code.now c.args.setting.plan.now by_priority c.args.state.now
-    c.arrivals.new.state c.acts.new.state c.args.told.now.items c.arrivals.new.told.items c.acts.new.told.items
+    c.arrivals.new.state c.acts.new.state c.args.reported.now.items c.arrivals.new.reported.items c.acts.new.reported.items
     (c.in_ok-arrivals.ensures.arrived c.args.setting.code.now (sym c.requires.same))
     (went c.in_ok-acted.acted) c.in_ok-acted.ensures.led
 

@@ -2,7 +2,7 @@ use Rattle.std.specs.Prelude.{List, OnOk}
 use Rattle.std.proofs.Common.{◌≡◌, arith, subst, sym}
 use Rattle.region_heap.specs.OpenAreas.{open_areas}
 use Rattle.area_tables.specs.declared.rows.NeedRow.{NeedRow}
-use Rattle.area_tables.proofs.Telling.{newest_none, newest_some, none_newer}
+use Rattle.area_tables.proofs.Reporting.{newest_none, newest_some, none_newer}
 use Rattle.area_tables.proofs.tables.AreaTable.note_newest.Goals as goal
 
 pub returns-then-count-self-clause-rows : goal.returns-then-count-self-clause-rows

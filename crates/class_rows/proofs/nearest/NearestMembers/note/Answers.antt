@@ -11,8 +11,8 @@ returns-clause-now c = λ other.
     ap latest (c.in_ok-put.ensures other)
     ∙ latest_now (changes_under c.args.self.now.changes other) change (is_same c.args.name.now other)
 
-pub returns-clause-told : goal.returns-clause-told
-returns-clause-told c = λ kind a.
+pub returns-clause-reported : goal.returns-clause-reported
+returns-clause-reported c = λ kind a.
     let change : Change = change_of c.args.self.now.count c.args.nearest.now in
     noted kind c.args.program.now c.args.self.now _ c.args.name.now change refl refl refl c.in_ok-put.ensures
     (rw c.if_abstract.ensures at c.in_ok-keep.ensures) a

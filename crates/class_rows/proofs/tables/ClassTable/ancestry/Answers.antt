@@ -5,4 +5,4 @@ use Rattle.class_rows.proofs.tables.ClassTable.ancestry.Goals as goal
 pub returns-in-Some-Some : goal.returns-in-Some-Some
 returns-in-Some-Some c =
     rw (← c.self.view_is)
-    (c.self.invariant.ancestries c.args.class c.in-Some-Some.told (grind (arith, common_steps)))
+    (c.self.invariant.ancestries c.args.class c.in-Some-Some.reported (grind (arith, common_steps)))

@@ -14,7 +14,7 @@ invariant_of-result c =
       ancestries = search rules;
       fields = search rules;
       methods = search rules;
-      fields_above = (c.new-2.ensures Field c.in_ok-headers.headers).told;
-      methods_above = (c.new-3.ensures Method c.in_ok-headers.headers).told;
+      fields_above = (c.new-2.ensures Field c.in_ok-headers.headers).reported;
+      methods_above = (c.new-3.ensures Method c.in_ok-headers.headers).reported;
       inherited = search rules;
     }

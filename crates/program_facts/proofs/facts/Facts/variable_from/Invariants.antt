@@ -1,5 +1,5 @@
 use Rattle.std.proofs.Common.{◌≡◌, length, Some}
-use Rattle.program_facts.specs.Told.{seek}
+use Rattle.program_facts.specs.Reported.{seek}
 use Rattle.program_facts.proofs.facts.Facts.variable_from.Given as goal
 
 -- the rest of the variables has the one of the name

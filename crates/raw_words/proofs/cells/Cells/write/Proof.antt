@@ -46,7 +46,7 @@ use Rattle.std.specs.Prelude.{Some, None}
 use Rattle.core.proofs.mem.Param.{El, R, args, elτ}
 use Rattle.core.proofs.ptr.Rows.{times_below, one_below}
 use Rattle.raw_words.specs.Ownership.{slot, slots, cells_own}
-use Rattle.raw_words.proofs.Memory.{Cr, Bs, sz, word_had, value_in, tells, emptied, Besides, slot_out, slot_in}
+use Rattle.raw_words.proofs.Memory.{Cr, Bs, sz, word_had, value_in, reports, emptied, Besides, slot_out, slot_in}
 use Rattle.raw_words.specs.contracts.cells.Cells.write.Key.{name as #self}
 use Rattle.raw_words.proofs.cells.Cells.write.Statement as stated
 use Rattle.raw_words.proofs.cells.Cells.write.Code as code
@@ -211,7 +211,7 @@ module _ (E : El) {M : Type 1} {𝓤 : Ura M} (𝓛 : Logic 𝓤) (C : Calls �
       fsplit ! $
       fsplit ! $ feq_l ! (λ e2. flt_l ! (λ fits_index.
       fsplit ! $
-      tells E.row E.laws ! item us3 (λ v_item e3 good_item.
+      reports E.row E.laws ! item us3 (λ v_item e3 good_item.
       keep ! (2 ∷ 3 ∷ 4 ∷ 0 ∷ []) $
       by ! (subst (λ (ws : List Val × List Val × List Val × List Val). ent 𝓤 (⋆ 𝓛 (Had v_item)) (WpFn 𝓤 H C Λ
       (function E) (ws.0 ++ (ws.1 ++ (ws.2 ++ (ws.3 ++ [])))) Post)) (λ j. (

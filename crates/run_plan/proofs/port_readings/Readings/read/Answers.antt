@@ -9,9 +9,9 @@ pub returns-in-Some : goal.returns-in-Some
 returns-in-Some c =
     let index : AreByPort c.args.self.now c.as_slice.result.now = rw (← c.self.view_is, c.as_slice.ensures.value) c.self.invariant.1 in
     let found : row_at c.args.self.now c.args.port c.args.unit ≡ Some c.in-Some.row = sym (sorted_row _ _ index c.args.port c.args.unit) ∙ sym c.row_at.ensures ∙ c.in-Some.is in
-    let told : c.in-Some.row.value ≡ reading c.args.self.now c.args.port c.args.unit = sym (value_read _ _ _ _ found) in
+    let reported : c.in-Some.row.value ≡ reading c.args.self.now c.args.port c.args.unit = sym (value_read _ _ _ _ found) in
     let fits : SFits w32 c.in-Some.row.value = search rules in
-    to_z-of_z fits ∙ told
+    to_z-of_z fits ∙ reported
 
 pub returns-in-None : goal.returns-in-None
 returns-in-None c =

@@ -1,7 +1,7 @@
 use Rattle.std.specs.Prelude.{slice_index}
 use Rattle.std.proofs.Common.{◌≡◌, ◌∙◌, ◌+◌, [], ◌∷◌, ◌++◌, ap, arith, subst, sym}
 use Rattle.scj_model.specs.declared.events.Event.TheVariants.{Arrive, Lost}
-use Rattle.scj_model.specs.Steps.{telling}
+use Rattle.scj_model.specs.Steps.{reporting}
 use Rattle.scj_model.specs.Apply.{release_taken}
 use Rattle.run_releases.specs.Rows.{StoredReleases, with_releases}
 use Rattle.run_releases.specs.Releases.{count_of, waiting_row, waiting_count}
@@ -16,7 +16,7 @@ returns-then-waiting-ge-MOST_WAITING-clause-seen c = λ code s.
     c.args.handler =
     c.number_at-waiting.ensures ∙ rw c.deref.ensures.value (c.self.invariant.each_waiting c.args.handler) in
     let P : StoredReleases → Type 0 = λ rs.
-    release_taken (with_releases code s rs) c.args.handler ≡ telling (with_releases code s rs)
+    release_taken (with_releases code s rs) c.args.handler ≡ reporting (with_releases code s rs)
     (Lost s.unit c.args.handler ∷ []) in
     subst P c.self.view_is (full_seen code s was c.args.handler c.number_at-waiting.result waiting (omega arith))
 
@@ -51,7 +51,7 @@ returns-clause-seen c = λ code s.
     (c.number_at.ensures ∙ rw c.deref-2.ensures.value (c.self.invariant.each_taken c.args.handler)) in
     let P : StoredReleases → Type 0 = λ rs.
     release_taken (with_releases code s rs) c.args.handler
-    ≡ telling
+    ≡ reporting
     (with_releases code s
     (record was { rows = was.rows ++ waiting_row c.args.handler c.in_ok-number.number ∷ [] }))
     (Arrive s.unit c.args.handler c.in_ok-number.number ∷ []) in

@@ -1,7 +1,7 @@
 use Rattle.std.proofs.Common.{◌≡◌, true}
 use Rattle.std.proofs.lemmas.List.Elements.{All-nil}
 use Rattle.class_rows.specs.declared.members.MemberKind.TheVariants.{Field, Method}
-use Rattle.symbol_table.specs.Scopes.{is_told}
+use Rattle.symbol_table.specs.Scopes.{is_reported}
 use Rattle.symbol_table.proofs.LevelLemmas.{object_under}
 use Rattle.symbol_table.proofs.scopes.Scope.new.Goals as goal
 
@@ -15,7 +15,7 @@ returns-clause-scope c = λ forest.
         path = tt;
         fields = fields;
         methods = methods;
-        fields_told = All-nil (λ class. is_told c.new-2.result class ≡ true);
-        methods_told = All-nil (λ class. is_told c.new-3.result class ≡ true);
+        fields_reported = All-nil (λ class. is_reported c.new-2.result class ≡ true);
+        methods_reported = All-nil (λ class. is_reported c.new-3.result class ≡ true);
       };
     }
