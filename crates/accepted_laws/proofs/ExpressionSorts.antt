@@ -4,8 +4,8 @@ use Rattle.std.proofs.Common.{refl}
 use Rattle.scj_base.specs.declared.positions.Position.{Position}
 use Rattle.scj_tree.specs.declared.nodes.Node.{Node}
 use Rattle.scj_tree.specs.declared.nodes.Node.TheVariants.{IntType, BooleanType, ClassType, SimpleName}
-use Rattle.scj_tree.specs.declared.readings.PostKind.{PostKind}
-use Rattle.scj_tree.specs.declared.readings.PostKind.TheVariants.{Variable, Invocation}
+use Rattle.scj_tree.specs.declared.parsed_parts.PostKind.{PostKind}
+use Rattle.scj_tree.specs.declared.parsed_parts.PostKind.TheVariants.{Variable, Invocation}
 use Rattle.scj_tree.specs.Lexemes.{Lexeme}
 use Rattle.scj_tree.specs.Nodes.{put}
 use Rattle.scj_tree.specs.Shape.{children}

@@ -6,7 +6,7 @@ use Rattle.scj_rules.proofs.ChainLemmas.{or_left, is_same_number}
 use Rattle.scj_base.specs.declared.positions.Position.{Position}
 use Rattle.scj_tree.specs.declared.nodes.Node.{Node}
 use Rattle.scj_tree.specs.declared.nodes.Node.TheVariants.{Flags, DefineScope, TypeArgument}
-use Rattle.scj_tree.specs.declared.readings.FlagSet.{FlagSet}
+use Rattle.scj_tree.specs.declared.parsed_parts.FlagSet.{FlagSet}
 use Rattle.scj_tree.specs.Lexemes.{Lexeme}
 use Rattle.scj_tree.specs.Nodes.{put, next}
 use Rattle.scj_tree.specs.Shape.{children, optional}

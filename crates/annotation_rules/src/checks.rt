@@ -11,14 +11,14 @@ ghost use Rattle.scj_rules.specs.AnnotationRules.{broken_value, a3_to_a5_of, a6_
 use crate::overrides::note_method;
 use crate::things::{note_class, note_field, note_variable};
 use node_views::field_at;
-use program_facts::Facts;
+use program_facts::ProgramFacts;
 use scj_base::{Found, Memory, NodeId};
 use scj_tree::Node;
 use static_scopes::method_at;
 
 /// Notes what is broken at the field that a node declares.
 #[tactic(auto, unfolding(scj_rules::specs::Contexts::declarations_of))]
-fn note_field_at(found: &mut Vec<Found>, facts: &Facts, id: NodeId) -> Result<(), Memory>
+fn note_field_at(found: &mut Vec<Found>, facts: &ProgramFacts, id: NodeId) -> Result<(), Memory>
     ensures { let p = declarations_of facts.now in
         let thing = in_class p id (λ class. option_map (scoped_field p class) (field_at p.nodes id)) in
         OnOk result (found.new.items ≡ found.old.items
@@ -35,7 +35,7 @@ fn note_field_at(found: &mut Vec<Found>, facts: &Facts, id: NodeId) -> Result<()
 
 /// Notes what is broken at the method that a node declares.
 #[tactic(auto, unfolding(scj_rules::specs::Contexts::declarations_of))]
-fn note_method_at(found: &mut Vec<Found>, facts: &Facts, id: NodeId) -> Result<(), Memory>
+fn note_method_at(found: &mut Vec<Found>, facts: &ProgramFacts, id: NodeId) -> Result<(), Memory>
     ensures { let p = declarations_of facts.now in
         let thing = in_class p id (λ class. option_map (scoped_result p class) (method_at p.nodes id)) in
         OnOk result (found.new.items ≡ found.old.items
@@ -58,7 +58,7 @@ fn note_method_at(found: &mut Vec<Found>, facts: &Facts, id: NodeId) -> Result<(
 #[tactic(auto, unfolding(scj_rules::specs::AnnotationRules::annotation_breaks, scj_rules::specs::AnnotationRules::a1, scj_rules::specs::AnnotationRules::a2, scj_rules::specs::AnnotationRules::a3_to_a5, scj_rules::specs::AnnotationRules::a6_to_a8, scj_rules::specs::AnnotationRules::a9, scj_rules::specs::AnnotationRules::scoped_declaration_at, scj_rules::specs::Contexts::declarations_of))]
 pub fn note_annotation(
     found: &mut Vec<Found>,
-    facts: &Facts,
+    facts: &ProgramFacts,
     id: NodeId,
     node: &Node,
 ) -> Result<(), Memory>

@@ -11,7 +11,7 @@ ghost use Rattle.annotation_rules.specs.Parts.{parameters_differ_at};
 
 use crate::things::{note_contradiction, note_unknown};
 use method_rows::{MethodRef, declared, parameter, parameter_count};
-use program_facts::Facts;
+use program_facts::ProgramFacts;
 use scj_base::{ClassId, Found, Memory, Rule};
 use scj_builtins::FRAMEWORK_CLASS_COUNT;
 use scj_rules::{Scope, report_if};
@@ -22,7 +22,7 @@ use static_scopes::{
 
 /// Whether a scope and the one above are there and aren't the same, as a class sees them.
 #[tactic(auto, unfolding(scj_rules::specs::AnnotationRules::seen_in, scj_rules::specs::StaticScopes::are_same_scope))]
-fn differ(facts: &Facts, class: ClassId, own: &Option<Scope>, above: &Option<Scope>) -> bool
+fn differ(facts: &ProgramFacts, class: ClassId, own: &Option<Scope>, above: &Option<Scope>) -> bool
     ensures { result ≡ differ own.now (seen_in (declarations_of facts.now) class above.now) }
 {
     let above = match above {
@@ -37,7 +37,7 @@ fn differ(facts: &Facts, class: ClassId, own: &Option<Scope>, above: &Option<Sco
 
 /// Whether the parameters of a number have other scopes, where both methods have one.
 #[tactic(auto, unfolding(method_rows::specs::Methods::found_method))]
-fn parameters_differ_at(facts: &Facts, method: &MethodRef, above: &MethodRef, i: usize) -> bool
+fn parameters_differ_at(facts: &ProgramFacts, method: &MethodRef, above: &MethodRef, i: usize) -> bool
     ensures { let f = found_method facts.now.nodes method.now in let g = found_method facts.now.nodes above.now in
         result ≡ parameters_differ_at (declarations_of facts.now) f g i }
 {
@@ -57,7 +57,7 @@ fn parameters_differ_at(facts: &Facts, method: &MethodRef, above: &MethodRef, i:
 
 /// Whether parameters have other scopes than those above.
 #[tactic(auto, using(crate::proofs::ParameterLemmas::differs_found, crate::proofs::ParameterLemmas::none_differs))]
-fn parameters_differ(facts: &Facts, method: &MethodRef, above: &MethodRef) -> bool
+fn parameters_differ(facts: &ProgramFacts, method: &MethodRef, above: &MethodRef) -> bool
     ensures { let f = found_method facts.now.nodes method.now in let g = found_method facts.now.nodes above.now in
         result ≡ parameters_differ (declarations_of facts.now) f.on f.method g.on g.method f.method.parameters
         g.method.parameters }
@@ -72,7 +72,7 @@ fn parameters_differ(facts: &Facts, method: &MethodRef, above: &MethodRef) -> bo
 
 /// Whether a method has other scopes than the one above.
 #[tactic(auto, unfolding(scj_rules::specs::AnnotationRules::scopes_differ, method_rows::specs::Methods::found_method))]
-fn scopes_differ(facts: &Facts, method: &MethodRef, above: &MethodRef) -> bool
+fn scopes_differ(facts: &ProgramFacts, method: &MethodRef, above: &MethodRef) -> bool
     ensures { let f = found_method facts.now.nodes method.now in let g = found_method facts.now.nodes above.now in
         result ≡ scopes_differ (declarations_of facts.now) f.on f.method g.on g.method }
 {
@@ -87,7 +87,7 @@ fn scopes_differ(facts: &Facts, method: &MethodRef, above: &MethodRef) -> bool
 
 /// Whether a method that isn't static has other scopes than the one of a user class that it overrides.
 #[tactic(auto, unfolding(method_rows::specs::Methods::found_method))]
-fn overrides_scopes(facts: &Facts, method: &MethodRef) -> bool
+fn overrides_scopes(facts: &ProgramFacts, method: &MethodRef) -> bool
     ensures { let f = found_method facts.now.nodes method.now in
         result ≡ overrides_scopes (declarations_of facts.now) f.on f.method }
 {
@@ -106,7 +106,7 @@ fn overrides_scopes(facts: &Facts, method: &MethodRef) -> bool
 
 /// Notes A6 at a method.
 #[tactic(auto, unfolding(scj_rules::specs::AnnotationRules::a6_of, method_rows::specs::Methods::found_method))]
-fn note_override(found: &mut Vec<Found>, facts: &Facts, method: &MethodRef) -> Result<(), Memory>
+fn note_override(found: &mut Vec<Found>, facts: &ProgramFacts, method: &MethodRef) -> Result<(), Memory>
     ensures { let f = found_method facts.now.nodes method.now in
         OnOk result (found.new.items ≡ found.old.items ++ a6_of (declarations_of facts.now) f.on f.method) }
 {
@@ -119,7 +119,7 @@ fn note_override(found: &mut Vec<Found>, facts: &Facts, method: &MethodRef) -> R
 
 /// Notes A1, A6 to A8 and A9 at a method before which something may be written.
 #[tactic(auto, unfolding(scj_rules::specs::AnnotationRules::a7_and_a8_of, method_rows::specs::Methods::found_method))]
-fn note_written(found: &mut Vec<Found>, facts: &Facts, method: &MethodRef) -> Result<(), Memory>
+fn note_written(found: &mut Vec<Found>, facts: &ProgramFacts, method: &MethodRef) -> Result<(), Memory>
     ensures { let f = found_method facts.now.nodes method.now in let p = declarations_of facts.now in
         let t = scoped_result p f.on f.method in
         OnOk result (found.new.items ≡ found.old.items ++ (broken_value t.scope (is_unknown_scope p t) A1
@@ -144,7 +144,7 @@ fn note_written(found: &mut Vec<Found>, facts: &Facts, method: &MethodRef) -> Re
 
 /// Notes A1, A6 to A8 and A9 at a method. Before most nothing is written, and A6 alone may be broken.
 #[tactic(auto, unfolding(scj_rules::specs::AnnotationRules::a7_and_a8_of))]
-pub fn note_method(found: &mut Vec<Found>, facts: &Facts, method: &MethodRef) -> Result<(), Memory>
+pub fn note_method(found: &mut Vec<Found>, facts: &ProgramFacts, method: &MethodRef) -> Result<(), Memory>
     ensures { let f = found_method facts.now.nodes method.now in let p = declarations_of facts.now in
         let t = scoped_result p f.on f.method in
         OnOk result (found.new.items ≡ found.old.items ++ (broken_value t.scope (is_unknown_scope p t) A1

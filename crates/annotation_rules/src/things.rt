@@ -8,7 +8,7 @@ ghost use Rattle.scj_rules.specs.ScopeRules.{scope_written_in};
 ghost use Rattle.scj_rules.specs.StaticScopes.{is_unknown_scope, contradicts, scoped_field};
 ghost use Rattle.scj_rules.specs.AnnotationRules.{a1_of_class, has_other_scope, a2_position, broken_value, field_rule, a3_to_a5_of, scoped_variable_at};
 
-use program_facts::Facts;
+use program_facts::ProgramFacts;
 use scj_base::{ClassId, Found, Memory, NodeId, Position, Rule};
 use scj_rules::{ClassScope, Declared, ScopedDeclaration, report_if};
 use scj_tree::Node;
@@ -22,7 +22,7 @@ use static_scopes::{
 /// Notes A1 at the value that is written at a thing, if there is one.
 pub fn note_unknown(
     found: &mut Vec<Found>,
-    facts: &Facts,
+    facts: &ProgramFacts,
     thing: &ScopedDeclaration,
 ) -> Result<(), Memory>
     ensures { let p = declarations_of facts.now in
@@ -41,7 +41,7 @@ pub fn note_unknown(
 /// Notes A9 at the value that is written at a thing, if there is one.
 pub fn note_contradiction(
     found: &mut Vec<Found>,
-    facts: &Facts,
+    facts: &ProgramFacts,
     thing: &ScopedDeclaration,
 ) -> Result<(), Memory>
     ensures { let p = declarations_of facts.now in
@@ -57,7 +57,7 @@ pub fn note_contradiction(
 }
 
 /// Notes A1 and A9 at the parameter or local that a node declares.
-fn note_flagged(found: &mut Vec<Found>, facts: &Facts, id: NodeId) -> Result<(), Memory>
+fn note_flagged(found: &mut Vec<Found>, facts: &ProgramFacts, id: NodeId) -> Result<(), Memory>
     ensures { let p = declarations_of facts.now in let variable = scoped_variable_at p id in
         OnOk result (found.new.items ≡ found.old.items
         ++ (found_at variable (λ t. broken_value t.scope (is_unknown_scope p t) A1)
@@ -75,7 +75,7 @@ fn note_flagged(found: &mut Vec<Found>, facts: &Facts, id: NodeId) -> Result<(),
 
 /// Notes A1 and A9 at the parameter or local that a node declares. Most have nothing written before them.
 #[tactic(auto, unfolding(scj_rules::specs::AnnotationRules::scoped_variable_at, scj_rules::specs::Views::variable_of, scj_rules::specs::Contexts::declarations_of))]
-pub fn note_variable(found: &mut Vec<Found>, facts: &Facts, id: NodeId) -> Result<(), Memory>
+pub fn note_variable(found: &mut Vec<Found>, facts: &ProgramFacts, id: NodeId) -> Result<(), Memory>
     ensures { let p = declarations_of facts.now in let variable = scoped_variable_at p id in
         OnOk result (found.new.items ≡ found.old.items
         ++ (found_at variable (λ t. broken_value t.scope (is_unknown_scope p t) A1)
@@ -100,7 +100,7 @@ pub fn note_variable(found: &mut Vec<Found>, facts: &Facts, id: NodeId) -> Resul
 #[tactic(auto, unfolding(scj_rules::specs::AnnotationRules::a2_position))]
 pub fn note_class(
     found: &mut Vec<Found>,
-    facts: &Facts,
+    facts: &ProgramFacts,
     class: ClassId,
     position: Position,
 ) -> Result<(), Memory>
@@ -142,7 +142,7 @@ fn field_rule(class: &ClassScope, is_static: bool) -> Rule
 #[tactic(auto, unfolding(scj_rules::specs::StaticScopes::misfits_field))]
 pub fn note_field(
     found: &mut Vec<Found>,
-    facts: &Facts,
+    facts: &ProgramFacts,
     class: ClassId,
     field: &Declared,
 ) -> Result<(), Memory>

@@ -10,7 +10,7 @@ use Rattle.scj_rules.specs.Bodies.{body_of, constructor_body}
 use Rattle.scj_model.specs.Code.{Code, binding, code_of, part}
 use Rattle.scj_model.specs.Memory.{literal_value}
 use Rattle.scj_model.specs.Operations.{argument_count, assigned, bound_class, bound_field, bound_local, bound_method, bound_static, bound_static_method, first_argument, operator_of, super_count}
-use Rattle.scj_model.specs.Ops.{if_parts, node_of, ops_of, optional_ops, put_in_front, right_operand, turn_ops}
+use Rattle.scj_model.specs.Ops.{if_parts, node_of, ops_of, optional_ops, put_in_front, right_operand, iteration_ops}
 use Rattle.op_list.specs.declared.instructions.Instruction.{Instruction}
 use Rattle.op_list.specs.declared.instructions.Instruction.TheVariants as instruction
 use Rattle.op_list.specs.declared.rows.Row.{Row}
@@ -133,7 +133,7 @@ chosen_is code (IF id) other h =
     (λ (parts : ℕ × Option ℕ) condition. if condition then ops_of code parts.0 else optional_ops code parts.1)
     refl (λ condition. refl) h
 chosen_is code (LOOP id) other h =
-    some_of code (LOOP id) other instruction.Loop id (part code (turn_ops code id) id)
+    some_of code (LOOP id) other instruction.Loop id (part code (iteration_ops code id) id)
     (λ turn condition. if condition then turn else []) refl (λ condition. refl) h
 chosen_is code (LEAVEWITH id) other h = absurd (cc (h))
 chosen_is code LEAVE other h = absurd (cc (h))

@@ -89,7 +89,7 @@ fn follow(
         Instruction::PutStatic(place) => Ok(value_operations::put_static(frame, *place)),
         Instruction::PutElem => Ok(value_operations::put_elem(memory, frame)),
         Instruction::If => Ok(value_operations::choose(frame, row)),
-        Instruction::Loop => Ok(value_operations::turn(frame, row)),
+        Instruction::Loop => Ok(value_operations::iterate(frame, row)),
         Instruction::LeaveWith => Ok(value_operations::leave_with(frame)),
         Instruction::Leave => Ok(value_operations::leave(frame)),
         Instruction::Drop => Ok(value_operations::drop(frame)),

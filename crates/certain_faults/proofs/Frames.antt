@@ -24,7 +24,7 @@ use Rattle.scj_model.specs.Code.{Code, binding, part}
 use Rattle.scj_model.specs.State.{Object, Frame}
 use Rattle.scj_model.specs.Memory.{literal_value, default_value, new_slots, new_elements}
 use Rattle.scj_model.specs.Arithmetic.{binary_value, divides_by_zero, unary_value}
-use Rattle.scj_model.specs.Ops.{ops_of, body_ops, leaves_value, put_in_front, right_operand, if_parts, turn_ops, optional_ops}
+use Rattle.scj_model.specs.Ops.{ops_of, body_ops, leaves_value, put_in_front, right_operand, if_parts, iteration_ops, optional_ops}
 use Rattle.scj_model.specs.Effects.{as_reference, Effect, Goes, Prints, Makes, Stores, StoresStatic, SetsHidden, SetsCeiling, Calls, Opens, Leaves, AsksRegistration, AsksRelease, AsksTermination, Faults, Stuck, given, pop, pop_from, pop_all, pushes, as_object, new_frame}
 use Rattle.scj_model.specs.Operations.{Environment, effect_of, bound_local, bound_field, bound_static, bound_class, bound_method, bound_static_method, operator_of, assigned, argument_count, first_argument, super_count, with_field, with_run, with_area, are_one_area, index_in, is_port, is_priority, periodic_parameters, right_parameters, times_of, constructs}
 use Rattle.priority_laws.proofs.OperationCases.{on_given, on_if, on_int, on_reference, on_object, on_truth}
@@ -413,21 +413,21 @@ module _ (code : Code) (G : Body → Bool → Type 0) (P : List Op → Stack →
       any_option None = any_none code
       any_option (Some x) = nodes_run_anywhere code bare x
 
-      any_turn : (id : ℕ) (node : Node) (turn : List Op) → turn_ops code id node ≡ Some turn → Any code turn
-      unfolding turn_ops asked
-      any_turn id (While place condition body) turn e =
+      any_iteration : (id : ℕ) (node : Node) (turn : List Op) → iteration_ops code id node ≡ Some turn → Any code turn
+      unfolding iteration_ops asked
+      any_iteration id (While place condition body) turn e =
           subst (Any code) (some_is _ turn e)
           (any_then code (ops_of code body) (ops_of code condition ++ LOOP id ∷ []) (nodes_run_anywhere code bare body)
           (any_then code (ops_of code condition) (LOOP id ∷ []) (nodes_run_anywhere code bare condition)
           (any_op code (LOOP id) refl (λ r. tt))))
-      any_turn id (For place first condition step body) turn e =
+      any_iteration id (For place first condition step body) turn e =
           subst (Any code) (some_is _ turn e)
           (any_then code (ops_of code body) (ops_of code step ++ (ops_of code condition ++ LOOP id ∷ []))
           (nodes_run_anywhere code bare body)
           (any_then code (ops_of code step) (ops_of code condition ++ LOOP id ∷ []) (nodes_run_anywhere code bare step)
           (any_then code (ops_of code condition) (LOOP id ∷ []) (nodes_run_anywhere code bare condition)
           (any_op code (LOOP id) refl (λ r. tt)))))
-      any_turn id node turn e = absurd (cc (e))
+      any_iteration id node turn e = absurd (cc (e))
 
       -- ---- the operations
 
@@ -557,9 +557,9 @@ module _ (code : Code) (G : Body → Bool → Type 0) (P : List Op → Stack →
         unfolding effect_of put_in_front
         loop_fine id p any = on_pop s f _ x (λ v k holds y. on_truth Fine stuck faults v _ (λ b. front b k y))
           where
-            of_node : (o : Option Node) (turn : List Op) → (o >>= turn_ops code id) ≡ Some turn → Any code turn
+            of_node : (o : Option Node) (turn : List Op) → (o >>= iteration_ops code id) ≡ Some turn → Any code turn
             of_node None turn e = absurd (cc (e))
-            of_node (Some node) turn e = any_turn id node turn e
+            of_node (Some node) turn e = any_iteration id node turn e
 
             any_chosen : (b : Bool) (o : Option (List Op)) → ((turn : List Op) → o ≡ Some turn → Any code turn) →
                 (ops : List Op) → option_map (λ turn. if b then turn else []) o ≡ Some ops → Any code ops
@@ -571,9 +571,9 @@ module _ (code : Code) (G : Body → Bool → Type 0) (P : List Op → Stack →
                 Fine (given (put_in_front code (LOOP id) b) (λ ops. Goes (record k { rest = ops ++ k.rest })))
             front b k y =
                 on_given Fine stuck faults
-                (option_map (λ turn. if b then turn else []) (part code (turn_ops code id) id)) _
+                (option_map (λ turn. if b then turn else []) (part code (iteration_ops code id) id)) _
                 (λ ops e. in_front any ops k y.same
-                (any_chosen b (part code (turn_ops code id) id)
+                (any_chosen b (part code (iteration_ops code id) id)
                 (λ turn q. of_node (slice_get code.program.nodes id) turn q) ops e) p)
 
         construct_fine : (id : ℕ) → IsLeft (CONSTRUCT id) → GivesAsBound code G world f (CONSTRUCT id) →

@@ -21,7 +21,7 @@ use Rattle.accepted_laws.proofs.Tools.{some_inj}
 use Rattle.scj_model.specs.declared.operations.Op.{Op}
 use Rattle.scj_model.specs.declared.operations.Op.TheVariants.{Loop as LOOP}
 use Rattle.scj_model.specs.Code.{Code}
-use Rattle.scj_model.specs.Ops.{right_operand, if_parts, turn_ops, ops_of}
+use Rattle.scj_model.specs.Ops.{right_operand, if_parts, iteration_ops, ops_of}
 use Rattle.scope_flow.specs.Flow.{AreLoopParts}
 use Rattle.scope_flow.specs.GuardFacts.{GuardFacts}
 use Rattle.scope_flow.specs.Guards.{IsPlain, StandsIn, Adds}
@@ -137,8 +137,8 @@ module _ (forest : Forest) (accepted : IsAccepted forest) (whole : IsForest fore
       go (Some _) there e = absurd (cc (e))
 
   turn_adds : (b c id : ℕ) (known : List ℕ) (node : Node) (turn : List Op) → slice_get forest.nodes id ≡ Some node →
-      AreLoopParts p b c known node → turn_ops code id node ≡ Some turn → Adds code (Written b) (around id) turn
-  unfolding AreLoopParts turn_ops children is_first_part HasRightChildren IsPlain StandsIn declarations_of
+      AreLoopParts p b c known node → iteration_ops code id node ≡ Some turn → Adds code (Written b) (around id) turn
+  unfolding AreLoopParts iteration_ops children is_first_part HasRightChildren IsPlain StandsIn declarations_of
   turn_adds b c id known (While position condition body) turn there parts e =
       let node : Node = While position condition body in
       let sorts = sorted.each id node there in

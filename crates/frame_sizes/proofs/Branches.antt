@@ -10,13 +10,13 @@ use Rattle.scj_model.specs.declared.operations.Op.{Op}
 use Rattle.scj_model.specs.declared.operations.Op.TheVariants.{And as AND, Or as OR, If as IF, Loop as LOOP}
 use Rattle.scj_model.specs.Code.{Code, part}
 use Rattle.scj_model.specs.State.{Frame}
-use Rattle.scj_model.specs.Ops.{ops_of, put_in_front, right_operand, if_parts, turn_ops, optional_ops}
+use Rattle.scj_model.specs.Ops.{ops_of, put_in_front, right_operand, if_parts, iteration_ops, optional_ops}
 use Rattle.scj_model.specs.Effects.{Effect, Goes, Faults, Stuck, pushes}
 use Rattle.scj_model.specs.Operations.{Environment, effect_of}
 use Rattle.priority_laws.proofs.OperationCases.{on_given, on_truth}
 use Rattle.frame_sizes.proofs.Counts.{fewer, Asked, Fits, Brings, brings_none}
 use Rattle.frame_sizes.proofs.Frames.{BodiesFit, some_is, Fine as FineOf, stuck as stuck_of, faults as faults_of}
-use Rattle.frame_sizes.proofs.Steps.{Stands, on_pop, pushed, in_front, option_brings, turn_brings}
+use Rattle.frame_sizes.proofs.Steps.{Stands, on_pop, pushed, in_front, option_brings, iteration_brings}
 
 module _ (code : Code) (G : Body → Bool → Type 0) (static : BodiesFit code) (rest : List Op) (world : Environment)
     (f : Frame) (d : ℕ) (x : Stands code G static rest d f) where
@@ -104,15 +104,15 @@ module _ (code : Code) (G : Body → Bool → Type 0) (static : BodiesFit code) 
   loop_fine id a l p =
       on_pop code G static rest d f _ x (λ v k y. on_truth Fine stuck faults v _ (λ b.
       on_given Fine stuck faults
-      (option_map (λ turn. if b then turn else []) (part code (turn_ops code id) id)) _
+      (option_map (λ turn. if b then turn else []) (part code (iteration_ops code id) id)) _
       (λ ops e. in_front code G static rest ops (fewer d) (fewer d) k y
-      (chosen b (part code (turn_ops code id) id)
+      (chosen b (part code (iteration_ops code id) id)
       (λ turn q. of_node (slice_get code.program.nodes id) refl turn q) ops e) p)))
     where
       of_node : (o : Option Node) → slice_get code.program.nodes id ≡ o → (turn : List Op) →
-          (o >>= turn_ops code id) ≡ Some turn → Brings code turn (fewer d) (fewer d)
+          (o >>= iteration_ops code id) ≡ Some turn → Brings code turn (fewer d) (fewer d)
       of_node None there turn e = absurd (cc (e))
-      of_node (Some node) there turn e = turn_brings code G static rest id node turn d (a node there) a l e
+      of_node (Some node) there turn e = iteration_brings code G static rest id node turn d (a node there) a l e
 
       chosen : (b : Bool) (o : Option (List Op)) →
           ((turn : List Op) → o ≡ Some turn → Brings code turn (fewer d) (fewer d)) → (ops : List Op) →

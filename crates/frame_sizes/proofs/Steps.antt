@@ -12,7 +12,7 @@ use Rattle.scj_model.specs.declared.operations.Op.{Op}
 use Rattle.scj_model.specs.declared.operations.Op.TheVariants.{Loop as LOOP}
 use Rattle.scj_model.specs.Code.{Code}
 use Rattle.scj_model.specs.State.{Frame}
-use Rattle.scj_model.specs.Ops.{ops_of, turn_ops, optional_ops}
+use Rattle.scj_model.specs.Ops.{ops_of, iteration_ops, optional_ops}
 use Rattle.scj_model.specs.Effects.{Effect, Goes, Makes, Calls, Opens, Faults, Stuck, pop, pop_from, pop_all, pushes, as_object, new_frame}
 use Rattle.frame_sizes.proofs.Counts.{fewer, dropped, with_result, after, OptionStatement, LoopParts, Fits, Brings, brings_none, brings_then, behind}
 use Rattle.frame_sizes.proofs.Frames.{Explained, Waits, BodiesFit, few_left, given_few, some_is, Fine as FineOf, stuck as stuck_of, faults as faults_of}
@@ -171,20 +171,20 @@ module _ (code : Code) (G : Body → Bool → Type 0) (static : BodiesFit code) 
   option_brings (Some x) d h = static.statements x d h
 
   -- a turn of a loop begins and ends with as many operands
-  pub turn_brings : (id : ℕ) (node : Node) (turn : List Op) (d : ℕ) → LoopParts code node (fewer d) →
+  pub iteration_brings : (id : ℕ) (node : Node) (turn : List Op) (d : ℕ) → LoopParts code node (fewer d) →
       ((n : Node) → slice_get code.program.nodes id ≡ Some n → LoopParts code n (fewer d)) →
-      suc (fewer d) ≤ 640 → turn_ops code id node ≡ Some turn → Brings code turn (fewer d) (fewer d)
-  unfolding turn_ops after
-  turn_brings id (While position condition body) turn d h a l e =
+      suc (fewer d) ≤ 640 → iteration_ops code id node ≡ Some turn → Brings code turn (fewer d) (fewer d)
+  unfolding iteration_ops after
+  iteration_brings id (While position condition body) turn d h a l e =
       subst (λ (xs : List Op). Brings code xs (fewer d) (fewer d)) (some_is _ turn e)
       (brings_then code (ops_of code body) (ops_of code condition ++ LOOP id ∷ []) (fewer d) (fewer d) (fewer d)
       (static.statements body (fewer d) h.0)
       (behind code (ops_of code condition) (LOOP id) (fewer d) (suc (fewer d)) (static.values condition (fewer d) h.1) l a))
-  turn_brings id (For position first condition step body) turn d h a l e =
+  iteration_brings id (For position first condition step body) turn d h a l e =
       subst (λ (xs : List Op). Brings code xs (fewer d) (fewer d)) (some_is _ turn e)
       (brings_then code (ops_of code body) (ops_of code step ++ (ops_of code condition ++ LOOP id ∷ [])) (fewer d)
       (fewer d) (fewer d) (static.statements body (fewer d) h.0)
       (brings_then code (ops_of code step) (ops_of code condition ++ LOOP id ∷ []) (fewer d) (fewer d) (fewer d)
       (static.statements step (fewer d) h.1)
       (behind code (ops_of code condition) (LOOP id) (fewer d) (suc (fewer d)) (static.values condition (fewer d) h.2) l a)))
-  turn_brings id node turn d h a l e = absurd (cc (e))
+  iteration_brings id node turn d h a l e = absurd (cc (e))

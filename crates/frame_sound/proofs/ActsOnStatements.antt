@@ -24,7 +24,7 @@ use Rattle.scj_model.specs.declared.operations.Op.{Op}
 use Rattle.scj_model.specs.declared.operations.Op.TheVariants.{And as AND, Or as OR, If as IF, Loop as LOOP, Zero as ZERO, Store as STORE, Drop as DROP, LeaveWith as LEAVEWITH, Leave as LEAVE}
 use Rattle.scj_model.specs.Code.{part}
 use Rattle.scj_model.specs.Memory.{default_value}
-use Rattle.scj_model.specs.Ops.{if_parts, ops_of, optional_ops, turn_ops, put_in_front}
+use Rattle.scj_model.specs.Ops.{if_parts, ops_of, optional_ops, iteration_ops, put_in_front}
 use Rattle.scj_model.specs.Effects.{Goes, given, pushes}
 use Rattle.scj_model.specs.Operations.{effect_of}
 use Rattle.scope_flow.specs.Signatures.{IsBody, Runs, variables_in}
@@ -349,8 +349,8 @@ module _ (m : Scene) where
   -- ---- loops
 
   turn_is : (b id : ℕ) (node : Node) → AreLoopParts m.code.program b m.class m.known node →
-      (turn : List Op) × (turn_ops m.code id node ≡ Some turn)
-  unfolding turn_ops AreLoopParts
+      (turn : List Op) × (iteration_ops m.code id node ≡ Some turn)
+  unfolding iteration_ops AreLoopParts
   turn_is b id (While position condition body) parts = (_, refl)
   turn_is b id (For position first condition step body) parts = (_, refl)
   turn_is b id _ parts = absurd parts
@@ -383,11 +383,11 @@ module _ (m : Scene) where
     loop_goes st true y =
         let turn = turn_is q.b id l.node l.parts in
         given_fine m _ _ turn.0
-        (ap (option_map (λ (x : List Op). x)) (ap (λ (o : Option Node). o >>= turn_ops m.code id) l.is ∙ turn.1))
+        (ap (option_map (λ (x : List Op). x)) (ap (λ (o : Option Node). o >>= iteration_ops m.code id) l.is ∙ turn.1))
         (front_fine turn.0 rest l.others have
         (at_body q.b q.is _ m.known l.others
         (front_stood (LOOP id) true turn.0 l.condition.kind l.others l.condition.takes st refl
-        (ap (option_map (λ (x : List Op). x)) (ap (λ (o : Option Node). o >>= turn_ops m.code id) l.is ∙ turn.1)))
+        (ap (option_map (λ (x : List Op). x)) (ap (λ (o : Option Node). o >>= iteration_ops m.code id) l.is ∙ turn.1)))
         (turn_flow m.code m.facts q.b m.class m.sig q.body id l.node l.is m.known l.parts m.frame.rest l.others
         (again l.goes) turn.0 turn.1))
         (in_front g turn.0
@@ -396,7 +396,7 @@ module _ (m : Scene) where
     loop_goes st false y =
         let turn = turn_is q.b id l.node l.parts in
         given_fine m _ _ []
-        (ap (option_map (λ (x : List Op). [])) (ap (λ (o : Option Node). o >>= turn_ops m.code id) l.is ∙ turn.1))
+        (ap (option_map (λ (x : List Op). [])) (ap (λ (o : Option Node). o >>= iteration_ops m.code id) l.is ∙ turn.1))
         (front_fine [] rest l.others have (ends y l.goes) g)
 
   pub loop_fine : (id : ℕ) → DoesStanding m (LOOP id)

@@ -9,7 +9,7 @@ use Rattle.scj_tree.specs.Expressions.{Level, PostRead, Unary1Read, UnaryRead, b
 use Rattle.scj_tree.specs.Lexemes.{Lexeme, a_name, a_number, a_sign, a_text, a_word, the_end}
 use Rattle.scj_tree.specs.Terminals.{compound, is_unary1_start, level, stepping}
 use Rattle.scj_tree.specs.declared.nodes.Node.{Node}
-use Rattle.scj_tree.specs.declared.readings.PostKind.{PostKind}
+use Rattle.scj_tree.specs.declared.parsed_parts.PostKind.{PostKind}
 use mathlib.Core.Bool.{true≢false}
 
 -- ---- truth values and numbers

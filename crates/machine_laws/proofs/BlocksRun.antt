@@ -24,7 +24,7 @@ use Rattle.scj_tree.specs.Statements.{AssignmentRead, LocalTypeRead, StatementRe
 use Rattle.scj_tree.specs.Terminals.{begins_local_flags, begins_with_word, is_unary1_start, no_flags}
 use Rattle.scj_tree.specs.declared.nodes.Node.{Node}
 use Rattle.scj_tree.specs.declared.nodes.Node.TheVariants.{ExpressionStatement, For, If, While}
-use Rattle.scj_tree.specs.declared.readings.PostKind.TheVariants.{Invocation}
+use Rattle.scj_tree.specs.declared.parsed_parts.PostKind.TheVariants.{Invocation}
 
 -- ---- locals
 

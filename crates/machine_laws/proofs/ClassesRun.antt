@@ -24,7 +24,7 @@ use Rattle.scj_tree.specs.Statements.{StatementsRead, no_statement, one_statemen
 use Rattle.scj_tree.specs.Terminals.{add_modifier, begins_with_sign, begins_with_word, flags_number, no_flags, with_flags, with_modifier}
 use Rattle.scj_tree.specs.declared.nodes.Node.{Node}
 use Rattle.scj_tree.specs.declared.nodes.Node.TheVariants.{Block, Constructor, Method}
-use Rattle.scj_tree.specs.declared.readings.FlagSet.{FlagSet}
+use Rattle.scj_tree.specs.declared.parsed_parts.FlagSet.{FlagSet}
 use mathlib.Core.Bool.{true≢false}
 
 -- ---- what a declaration begins with

@@ -22,8 +22,8 @@ use Rattle.scj_base.specs.declared.positions.Position.{Position}
 use Rattle.scj_tree.specs.Lexemes.{Lexeme, the_end}
 use Rattle.scj_tree.specs.Terminals.{is_unary1_start, level, no_flags}
 use Rattle.scj_tree.specs.declared.nodes.Node.{Node}
-use Rattle.scj_tree.specs.declared.readings.FlagSet.{FlagSet}
-use Rattle.scj_tree.specs.declared.readings.PostKind.{PostKind}
+use Rattle.scj_tree.specs.declared.parsed_parts.FlagSet.{FlagSet}
+use Rattle.scj_tree.specs.declared.parsed_parts.PostKind.{PostKind}
 
 -- there is no state, or a file was read
 pub data Final : Option State → Type 0 where

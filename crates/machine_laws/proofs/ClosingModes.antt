@@ -14,7 +14,7 @@ use Rattle.scj_base.specs.Vocabulary.{sign_assign, sign_comma, sign_dot, sign_gr
 use Rattle.scj_base.specs.declared.positions.Position.{Position}
 use Rattle.scj_tree.specs.Lexemes.{a_name, a_word, the_end}
 use Rattle.scj_tree.specs.declared.nodes.Node.{Node}
-use Rattle.scj_tree.specs.declared.readings.FlagSet.{FlagSet}
+use Rattle.scj_tree.specs.declared.parsed_parts.FlagSet.{FlagSet}
 
 -- ---- heads of classes
 

@@ -18,7 +18,7 @@ use Rattle.scj_base.specs.declared.positions.Position.{Position}
 use Rattle.scj_tree.specs.Lexemes.{Lexeme, a_name, a_number, a_sign, a_text, the_end}
 use Rattle.scj_tree.specs.Terminals.{level}
 use Rattle.scj_tree.specs.declared.nodes.Node.{Node}
-use Rattle.scj_tree.specs.declared.readings.PostKind.{PostKind}
+use Rattle.scj_tree.specs.declared.parsed_parts.PostKind.{PostKind}
 
 -- from a state, if there is one, some lexemes lead to the end
 pub record Closes (r : Option State) : Type 0 where

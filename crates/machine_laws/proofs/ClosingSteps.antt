@@ -20,9 +20,9 @@ use Rattle.scj_tree.specs.Lexemes.{Lexeme, a_name, a_number, a_sign, a_text, a_w
 use Rattle.scj_base.specs.Bytes.{is_same}
 use Rattle.scj_tree.specs.Terminals.{compound, indexable, is_effectless, is_unary1_start, stepping, has_type_argument}
 use Rattle.scj_tree.specs.declared.nodes.Node.{Node}
-use Rattle.scj_tree.specs.declared.readings.FlagSet.{FlagSet}
-use Rattle.scj_tree.specs.declared.readings.PostKind.{PostKind}
-use Rattle.scj_tree.specs.declared.readings.PostKind.TheVariants.{Invocation, Variable}
+use Rattle.scj_tree.specs.declared.parsed_parts.FlagSet.{FlagSet}
+use Rattle.scj_tree.specs.declared.parsed_parts.PostKind.{PostKind}
+use Rattle.scj_tree.specs.declared.parsed_parts.PostKind.TheVariants.{Invocation, Variable}
 
 -- ---- where statements, assignments, arguments and targets end
 

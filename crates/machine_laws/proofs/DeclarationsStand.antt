@@ -19,7 +19,7 @@ use Rattle.scj_tree.specs.Lexemes.{Lexeme, a_name, a_number, a_sign, a_text, a_w
 use Rattle.scj_base.specs.Lexeme.{is_name}
 use Rattle.scj_tree.specs.Terminals.{add_modifier, is_effectless, has_type_argument}
 use Rattle.scj_tree.specs.declared.nodes.Node.{Node}
-use Rattle.scj_tree.specs.declared.readings.FlagSet.{FlagSet}
+use Rattle.scj_tree.specs.declared.parsed_parts.FlagSet.{FlagSet}
 
 -- ---- types
 

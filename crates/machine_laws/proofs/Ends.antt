@@ -14,8 +14,8 @@ use Rattle.scj_base.specs.declared.positions.Position.{Position}
 use Rattle.scj_tree.specs.Lexemes.{the_end}
 use Rattle.scj_tree.specs.Terminals.{flags_number, level, with_flags}
 use Rattle.scj_tree.specs.declared.nodes.Node.{Node}
-use Rattle.scj_tree.specs.declared.readings.FlagSet.{FlagSet}
-use Rattle.scj_tree.specs.declared.readings.PostKind.{PostKind}
+use Rattle.scj_tree.specs.declared.parsed_parts.FlagSet.{FlagSet}
+use Rattle.scj_tree.specs.declared.parsed_parts.PostKind.{PostKind}
 
 end_assigned : (id : ℕ) (N : List Node) (s : List Entry) (p : Position) → assigned id N s (the_end p) ≡ None
 unfolding assigned

@@ -19,8 +19,8 @@ use Rattle.scj_tree.specs.Lexemes.{Lexeme, a_name, a_number, a_sign, a_text, a_w
 use Rattle.scj_tree.specs.Terminals.{begins_unary1, begins_with_minimum, closes_name, compound, indexable, is_unary1_start, level, stepping}
 use Rattle.scj_tree.specs.declared.nodes.Node.{Node}
 use Rattle.scj_tree.specs.declared.nodes.Node.TheVariants.{Binary, FieldAccess, Parenthesized, SimpleName}
-use Rattle.scj_tree.specs.declared.readings.PostKind.{PostKind}
-use Rattle.scj_tree.specs.declared.readings.PostKind.TheVariants.{Value, Variable}
+use Rattle.scj_tree.specs.declared.parsed_parts.PostKind.{PostKind}
+use Rattle.scj_tree.specs.declared.parsed_parts.PostKind.TheVariants.{Value, Variable}
 use mathlib.Core.Bool.{true≢false}
 
 -- ---- single steps

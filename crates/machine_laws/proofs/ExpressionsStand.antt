@@ -21,10 +21,10 @@ use Rattle.scj_tree.specs.Statements.{AssignmentRead, StatementRead, assign_stat
 use Rattle.scj_tree.specs.Terminals.{begins_unary1, compound, indexable, is_minimum, is_unary1_start, level, stepping}
 use Rattle.scj_tree.specs.declared.nodes.Node.{Node}
 use Rattle.scj_tree.specs.declared.nodes.Node.TheVariants.{Call, NewArray, Number, Parenthesized, SimpleName, SuperCall, Unary}
-use Rattle.scj_tree.specs.declared.readings.PostKind.{PostKind}
-use Rattle.scj_tree.specs.declared.readings.PostKind.TheVariants.{Invocation, Value, Variable}
+use Rattle.scj_tree.specs.declared.parsed_parts.PostKind.{PostKind}
+use Rattle.scj_tree.specs.declared.parsed_parts.PostKind.TheVariants.{Invocation, Value, Variable}
 use mathlib.Core.Bool.{true≢false}
-use Rattle.scj_tree.specs.declared.readings.PostKind.TheVariants.{NewArray as NewArrayKind}
+use Rattle.scj_tree.specs.declared.parsed_parts.PostKind.TheVariants.{NewArray as NewArrayKind}
 
 -- ---- what an operand may be a part of
 

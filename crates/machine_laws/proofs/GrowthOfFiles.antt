@@ -17,8 +17,8 @@ use Rattle.scj_tree.specs.Shape.{children, optional}
 use Rattle.scj_tree.specs.Statements.{AssignmentRead, LocalTypeRead, StatementRead, StatementsRead, assign_statement, assignment, block, call_statement, compound_assignment, empty, flagged_local, for_assignment, for_local, if_alone, if_else, local, local_with_value, no_statement, one_statement_more, plain_local, return_alone, return_value, step_assignment, while_statement}
 use Rattle.scj_tree.specs.Terminals.{add_modifier, flags_at, flags_node, flags_number, has_effect, placed, with_define_scope, with_flags, with_modifier, with_runs_in, with_scope}
 use Rattle.scj_tree.specs.declared.nodes.Node.{Node}
-use Rattle.scj_tree.specs.declared.readings.FlagSet.{FlagSet}
-use Rattle.scj_tree.specs.declared.readings.PostKind.{PostKind}
+use Rattle.scj_tree.specs.declared.parsed_parts.FlagSet.{FlagSet}
+use Rattle.scj_tree.specs.declared.parsed_parts.PostKind.{PostKind}
 use mathlib.Core.Bool.{true≢false}
 
 -- ---- flags

@@ -18,7 +18,7 @@ use Rattle.scj_base.specs.Bytes.{is_same}
 use Rattle.scj_tree.specs.Terminals.{add_modifier, begins_with_sign, flags_number, is_effectless, no_flags, placed, has_type_argument, with_define_scope, with_flags, with_runs_in, with_scope}
 use Rattle.scj_tree.specs.declared.nodes.Node.{Node}
 use Rattle.scj_tree.specs.declared.nodes.Node.TheVariants.{DefineScope, Parameter, ScopeName}
-use Rattle.scj_tree.specs.declared.readings.FlagSet.{FlagSet}
+use Rattle.scj_tree.specs.declared.parsed_parts.FlagSet.{FlagSet}
 
 -- ---- packages and imports
 

@@ -23,7 +23,7 @@ use Rattle.scj_base.specs.declared.positions.Position.{Position}
 use Rattle.scj_tree.specs.Grammar.{Tree}
 use Rattle.scj_tree.specs.Lexemes.{Lexeme, the_end}
 use Rattle.scj_tree.specs.declared.nodes.Node.{Node}
-use Rattle.scj_tree.specs.declared.readings.FlagSet.{FlagSet}
+use Rattle.scj_tree.specs.declared.parsed_parts.FlagSet.{FlagSet}
 
 at_imports : (r : Source) (N : List Node) (s : List Entry) (t : Lexeme) (o : List Lexeme) →
     Stands r InImports s N (t ∷ o) → Leads r (imports_step N s t) o

@@ -19,8 +19,8 @@ use Rattle.scj_tree.specs.Statements.{AssignmentRead, StatementRead, StatementsR
 use Rattle.scj_tree.specs.Terminals.{begins_local_flags, begins_unary1, begins_with_minimum, closes_name, compound, flags_number, indexable, level, placed, has_type_argument, with_flags}
 use Rattle.scj_tree.specs.declared.nodes.Node.{Node}
 use Rattle.scj_tree.specs.declared.nodes.Node.TheVariants.{Block, BooleanType, ClassType, IntType, LocalWithValue, SimpleName, SuperCall, TypeArgument}
-use Rattle.scj_tree.specs.declared.readings.FlagSet.{FlagSet}
-use Rattle.scj_tree.specs.declared.readings.PostKind.TheVariants.{Variable}
+use Rattle.scj_tree.specs.declared.parsed_parts.FlagSet.{FlagSet}
+use Rattle.scj_tree.specs.declared.parsed_parts.PostKind.TheVariants.{Variable}
 
 -- ---- parts of productions
 

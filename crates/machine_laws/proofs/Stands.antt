@@ -21,8 +21,8 @@ use Rattle.scj_base.specs.Bytes.{is_same}
 use Rattle.scj_tree.specs.Statements.{StatementRead}
 use Rattle.scj_tree.specs.Terminals.{is_effectless, has_type_argument}
 use Rattle.scj_tree.specs.declared.nodes.Node.{Node}
-use Rattle.scj_tree.specs.declared.readings.FlagSet.{FlagSet}
-use Rattle.scj_tree.specs.declared.readings.PostKind.{PostKind}
+use Rattle.scj_tree.specs.declared.parsed_parts.FlagSet.{FlagSet}
+use Rattle.scj_tree.specs.declared.parsed_parts.PostKind.{PostKind}
 
 -- a part that was read, and where it was due
 pub data Behind (D : List Node → List Lexeme → Type 0) (R : List Node → List Lexeme → Type 0) : Type 0 where

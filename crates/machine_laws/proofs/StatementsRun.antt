@@ -22,7 +22,7 @@ use Rattle.scj_tree.specs.Statements.{AssignmentRead, assignment, compound_assig
 use Rattle.scj_tree.specs.Terminals.{begins_with_sign, compound, is_unary1_start, level, stepping, has_type_argument}
 use Rattle.scj_tree.specs.declared.nodes.Node.{Node}
 use Rattle.scj_tree.specs.declared.nodes.Node.TheVariants.{Assign, SimpleName}
-use Rattle.scj_tree.specs.declared.readings.PostKind.{PostKind}
+use Rattle.scj_tree.specs.declared.parsed_parts.PostKind.{PostKind}
 
 -- ---- what a target begins with
 

@@ -27,11 +27,11 @@ use Rattle.accepted_laws.proofs.Tools.{some_inj}
 use Rattle.scj_model.specs.declared.operations.Op.{Op}
 use Rattle.scj_model.specs.declared.operations.Op.TheVariants.{This as THIS, Get as GET, Length as LENGTH, Elem as ELEM, Unary as UNARY, Bin as BIN, And as AND, Or as OR, Alloc as ALLOC, Construct as CONSTRUCT, AllocArray as ALLOCARRAY, Call as CALL, CallStatic as CALLSTATIC, Cast as CAST, Enter as ENTER, ExecuteIn as EXECUTEIN, Same as SAME, SetCeiling as SETCEILING, Print as PRINT, Read as READ, Register as REGISTER, Release as RELEASE, Terminate as TERMINATE, Store as STORE, Put as PUT, PutStatic as PUTSTATIC, PutElem as PUTELEM, If as IF, Loop as LOOP, LeaveWith as LEAVEWITH, Leave as LEAVE, Drop as DROP, Init as INIT, Super as SUPER, Params as PARAMS}
 use Rattle.scj_model.specs.Code.{Code, binding, part}
-use Rattle.scj_model.specs.Ops.{name_ops, access_ops, binary_ops, new_ops, receiver_ops, builtin_ops, call_ops, leaves_value, assign_ops, return_ops, method_ops, super_ops, unwritten_super_ops, literal_ops, constructor_ops, node_ops, next_ops, ops_of, right_operand, if_parts, turn_ops, optional_ops, put_in_front}
+use Rattle.scj_model.specs.Ops.{name_ops, access_ops, binary_ops, new_ops, receiver_ops, builtin_ops, call_ops, leaves_value, assign_ops, return_ops, method_ops, super_ops, unwritten_super_ops, literal_ops, constructor_ops, node_ops, next_ops, ops_of, right_operand, if_parts, iteration_ops, optional_ops, put_in_front}
 use Rattle.scope_flow.proofs.Flows.{ops_at}
 use Rattle.memory_needs.specs.Targets.{constructor_targets, call_targets}
 use Rattle.memory_needs.specs.Need.{Table, greatest, object_bytes, sum_of, too_much}
-use Rattle.memory_bounds.specs.Weights.{array_weight, entered_weight, executed_weight, call_weight, new_weight, super_weight, unwritten_super_weight, loop_weight, number_or, node_weight, next_weight, weight, turn_weight, op_weight, ops_weight}
+use Rattle.memory_bounds.specs.Weights.{array_weight, entered_weight, executed_weight, call_weight, new_weight, super_weight, unwritten_super_weight, loop_weight, number_or, node_weight, next_weight, weight, iteration_weight, op_weight, ops_weight}
 use Rattle.memory_needs.proofs.Agree.{below_lt}
 
 -- what an assignment evaluates of its target
@@ -431,19 +431,19 @@ module _ (code : Code) (table : Table) where
           slice_get code.program.nodes id ≡ Some (While position condition body) →
           AllBelow id (condition ∷ body ∷ []) →
           op_weight code table (LOOP id) ≡ loop_weight (sub condition + sub body)
-      unfolding op_weight turn_weight AllBelow
+      unfolding op_weight iteration_weight AllBelow
       while_weight position condition body there h =
           let a = same condition h.0 in
           let b = same body h.1.0 in
           let e : op_weight code table (LOOP id) ≡ loop_weight (weight code table condition + weight code table body) =
-          ap (λ (o : Option ℕ). loop_weight (number_or 0 o)) (part_at (turn_weight code table) (While position condition body) there) in
+          ap (λ (o : Option ℕ). loop_weight (number_or 0 o)) (part_at (iteration_weight code table) (While position condition body) there) in
           e ∙ ap loop_weight (omega (arith, a, b))
 
       for_weight : (position : Position) (begins condition step body : ℕ) →
           slice_get code.program.nodes id ≡ Some (For position begins condition step body) →
           AllBelow id (begins ∷ condition ∷ step ∷ body ∷ []) →
           op_weight code table (LOOP id) ≡ loop_weight (sub condition + (sub step + sub body))
-      unfolding op_weight turn_weight AllBelow
+      unfolding op_weight iteration_weight AllBelow
       for_weight position begins condition step body there h =
           let a = same condition h.1.0 in
           let b = same step h.1.1.0 in
@@ -451,7 +451,7 @@ module _ (code : Code) (table : Table) where
           let e : op_weight code table (LOOP id)
           ≡ loop_weight (weight code table condition + (weight code table step + weight code table body)) =
           ap (λ (o : Option ℕ). loop_weight (number_or 0 o))
-          (part_at (turn_weight code table) (For position begins condition step body) there) in
+          (part_at (iteration_weight code table) (For position begins condition step body) there) in
           e ∙ ap loop_weight (omega (arith, a, b, c))
 
       node_covered : (n : Node) → slice_get code.program.nodes id ≡ Some n → AllBelow id (children n) →
@@ -584,13 +584,13 @@ module _ (code : Code) (table : Table) where
         of true e h = grind (arith, nat_tests)
         of false e h = absurd (omega (arith, h))
 
-    turn_covered : (id : ℕ) (node : Node) (turn : List Op) → slice_get code.program.nodes id ≡ Some node →
-        turn_ops code id node ≡ Some turn → op_weight code table (LOOP id) < too_much →
+    iteration_covered : (id : ℕ) (node : Node) (turn : List Op) → slice_get code.program.nodes id ≡ Some node →
+        iteration_ops code id node ≡ Some turn → op_weight code table (LOOP id) < too_much →
         ops_weight code table turn ≤ op_weight code table (LOOP id)
-    unfolding turn_ops op_weight turn_weight ops_weight
-    turn_covered id (While position condition body) turn there e h =
+    unfolding iteration_ops op_weight iteration_weight ops_weight
+    iteration_covered id (While position condition body) turn there e h =
         let is : op_weight code table (LOOP id) ≡ loop_weight (weight code table condition + weight code table body) =
-        ap (λ (o : Option Node). loop_weight (number_or 0 (elim o [ None ↦ None | Some n ↦ turn_weight code table n ]))) there in
+        ap (λ (o : Option Node). loop_weight (number_or 0 (elim o [ None ↦ None | Some n ↦ iteration_weight code table n ]))) there in
         let none = turn_is (weight code table condition + weight code table body) (omega (arith, is, h)) in
         let t = ap (λ (o : Option (List Op)). ops_weight code table (elim o [ None ↦ [] | Some x ↦ x ])) e in
         let a = append_weight (ops_of code body) (ops_of code condition ++ LOOP id ∷ []) in
@@ -598,10 +598,10 @@ module _ (code : Code) (table : Table) where
         let c = ops_covered body in
         let d = ops_covered condition in
         omega (arith, none, t, a, b, c, d)
-    turn_covered id (For position begins condition step body) turn there e h =
+    iteration_covered id (For position begins condition step body) turn there e h =
         let is : op_weight code table (LOOP id)
         ≡ loop_weight (weight code table condition + (weight code table step + weight code table body)) =
-        ap (λ (o : Option Node). loop_weight (number_or 0 (elim o [ None ↦ None | Some n ↦ turn_weight code table n ]))) there in
+        ap (λ (o : Option Node). loop_weight (number_or 0 (elim o [ None ↦ None | Some n ↦ iteration_weight code table n ]))) there in
         let none = turn_is (weight code table condition + (weight code table step + weight code table body)) (omega (arith, is, h)) in
         let t = ap (λ (o : Option (List Op)). ops_weight code table (elim o [ None ↦ [] | Some x ↦ x ])) e in
         let a = append_weight (ops_of code body) (ops_of code step ++ (ops_of code condition ++ LOOP id ∷ [])) in
@@ -611,7 +611,7 @@ module _ (code : Code) (table : Table) where
         let f = ops_covered condition in
         let g = ops_covered step in
         omega (arith, none, t, a, b, c, d, f, g)
-    turn_covered id _ turn there e h = absurd (cc (e))
+    iteration_covered id _ turn there e h = absurd (cc (e))
 
     short_covered : (o : Option ℕ) (b : Bool) (ops : List Op) →
         option_map (λ right. if b then ops_of code right else []) o ≡ Some ops →
@@ -648,7 +648,7 @@ module _ (code : Code) (table : Table) where
         let a = optional_covered parts.1 in
         let s = ap (ops_weight code table) (some_inj (optional_ops code parts.1) ops e) in omega (arith, a, s)
 
-    again_covered : (id : ℕ) (o : Option (List Op)) → part code (turn_ops code id) id ≡ o → (b : Bool) (ops : List Op) →
+    again_covered : (id : ℕ) (o : Option (List Op)) → part code (iteration_ops code id) id ≡ o → (b : Bool) (ops : List Op) →
         option_map (λ turn. if b then turn else []) o ≡ Some ops → op_weight code table (LOOP id) < too_much →
         ops_weight code table ops ≤ op_weight code table (LOOP id)
     unfolding ops_weight
@@ -658,11 +658,11 @@ module _ (code : Code) (table : Table) where
     again_covered id (Some turn) p true ops e h = of (slice_get code.program.nodes id) refl p
       where
         of : (n : Option Node) → slice_get code.program.nodes id ≡ n →
-            (elim n [ None ↦ None | Some node ↦ turn_ops code id node ]) ≡ Some turn →
+            (elim n [ None ↦ None | Some node ↦ iteration_ops code id node ]) ≡ Some turn →
             ops_weight code table ops ≤ op_weight code table (LOOP id)
         of None there q = absurd (cc (q))
         of (Some node) there q =
-            let a = turn_covered id node turn there q h in
+            let a = iteration_covered id node turn there q h in
             let s = ap (ops_weight code table) (some_inj turn ops e) in
             omega (arith, a, s)
 
@@ -673,5 +673,5 @@ module _ (code : Code) (table : Table) where
     front_covered (AND id) b ops e h = short_covered (part code right_operand id) b ops e
     front_covered (OR id) b ops e h = other_covered (part code right_operand id) b ops e
     front_covered (IF id) b ops e h = either_covered (part code if_parts id) b ops e
-    front_covered (LOOP id) b ops e h = again_covered id (part code (turn_ops code id) id) refl b ops e h
+    front_covered (LOOP id) b ops e h = again_covered id (part code (iteration_ops code id) id) refl b ops e h
     front_covered _ b ops e h = absurd (cc (e))

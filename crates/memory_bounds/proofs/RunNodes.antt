@@ -21,7 +21,7 @@ use Rattle.accepted_laws.proofs.Tools.{some_inj}
 use Rattle.scj_model.specs.declared.operations.Op.{Op}
 use Rattle.scj_model.specs.declared.operations.Op.TheVariants.{Push as PUSH, This as THIS, Elem as ELEM, Unary as UNARY, And as AND, Or as OR, Alloc as ALLOC, Construct as CONSTRUCT, AllocArray as ALLOCARRAY, Call as CALL, CallStatic as CALLSTATIC, Cast as CAST, Enter as ENTER, ExecuteIn as EXECUTEIN, Same as SAME, SetCeiling as SETCEILING, Print as PRINT, Read as READ, Register as REGISTER, Release as RELEASE, Terminate as TERMINATE, Zero as ZERO, Store as STORE, If as IF, Loop as LOOP, Leave as LEAVE, Drop as DROP}
 use Rattle.scj_model.specs.Code.{Code, binding, part}
-use Rattle.scj_model.specs.Ops.{assign_ops, body_ops, builtin_ops, call_ops, if_parts, leaves_value, new_ops, next_ops, node_ops, ops_of, optional_ops, put_in_front, receiver_ops, right_operand, turn_ops}
+use Rattle.scj_model.specs.Ops.{assign_ops, body_ops, builtin_ops, call_ops, if_parts, leaves_value, new_ops, next_ops, node_ops, ops_of, optional_ops, put_in_front, receiver_ops, right_operand, iteration_ops}
 use Rattle.scope_flow.specs.Pushers.{Pusher}
 use Rattle.scope_flow.specs.Ways.{Comes, at_entry, behind, into}
 use Rattle.memory_needs.specs.Targets.{entered_targets, memory_targets, enters_memory, targets_here, targets_entered, targets}
@@ -295,8 +295,8 @@ module _ (code : Code) where
         AllRun code whole (ops_of code k)
     part_runs node is k c = all_in code whole k (in_part id k node inside is c) (ops_of code k) (all_run k)
 
-    of_turn : (node : Node) → slice_get code.program.nodes id ≡ Some node → Fronts whole (turn_ops code id node)
-    unfolding turn_ops run_parts children branches_at op_targets
+    of_turn : (node : Node) → slice_get code.program.nodes id ≡ Some node → Fronts whole (iteration_ops code id node)
+    unfolding iteration_ops run_parts children branches_at op_targets
     of_turn (While position condition body) is =
         fronts whole _
         (both code whole _ _ (part_runs (While position condition body) is body (1, omega arith, refl))
@@ -365,8 +365,8 @@ module _ (code : Code) where
   of_front whole (IF id) condition r =
       by_node whole id (r.branches id refl) if_parts _ (λ node is. of_if whole id (r.branches id refl) node is condition)
   of_front whole (LOOP id) condition r =
-      by_node whole id (r.branches id refl) (turn_ops code id) _ (λ node is.
-      turned whole id (r.branches id refl) condition (turn_ops code id node)
+      by_node whole id (r.branches id refl) (iteration_ops code id) _ (λ node is.
+      turned whole id (r.branches id refl) condition (iteration_ops code id node)
       (of_turn whole id (r.branches id refl) node is))
   of_front whole _ condition r = no_front whole
 

@@ -68,14 +68,14 @@ module _ (code : Code) (facts : HasFacts code) (plan : Plan) (choices : List ℕ
               (ap (λ (o : Option Release). o >>= release_op_of code plan.readings (with_turn s (TurnOf index)) index) e ∙ x);
         }
 
-    any_turn : (turn : Turn) → is_exec s.phase ≡ true →
+    any_iteration : (turn : Turn) → is_exec s.phase ≡ true →
         Gives P (then_try (turn_taken s turn) (turn_acts code plan.readings turn))
     unfolding turn_taken turn_acts
-    any_turn IdleTurn exec =
+    any_iteration IdleTurn exec =
         gives_reported P (turn_taken s IdleTurn) (Some (silently (with_turn s IdleTurn)))
         (λ second e. subst (λ (x : Step). P x.state) (some_inj (silently (with_turn s IdleTurn)) second e)
         (still s (with_turn s IdleTurn) (still_turn s IdleTurn) b))
-    any_turn (TurnOf index) exec =
+    any_iteration (TurnOf index) exec =
         gives_reported P (turn_taken s (TurnOf index)) (ref_op code plan.readings (with_turn s (TurnOf index)) (ReleaseAt index))
         (λ second e. (chosen exec index).is second e)
 
@@ -91,7 +91,7 @@ module _ (code : Code) (facts : HasFacts code) (plan : Plan) (choices : List ℕ
 
         of : (b : Bool) → is_exec s.phase ≡ b → P step.state
         of true exec =
-            (gives_bind P (by_list choices s) _ (λ turn k. any_turn turn exec)).is step (sym (ap either exec) ∙ e)
+            (gives_bind P (by_list choices s) _ (λ turn k. any_iteration turn exec)).is step (sym (ap either exec) ∙ e)
         of false quiet =
             none_started step.state step.state
             ((sound Operated step.state (on_operation s step h e)).after.invariant.handlers.none_started

@@ -122,11 +122,11 @@ weight code table id = by_smaller 0 (next_weight code table) id
 -- ---- lists of operations
 
 -- what a loop puts at most in one turn
-unfoldable pub turn_weight : Code → Table → Node → Option ℕ
-turn_weight code table (While position condition body) = Some (weight code table condition + weight code table body)
-turn_weight code table (For position first condition step body) =
+unfoldable pub iteration_weight : Code → Table → Node → Option ℕ
+iteration_weight code table (While position condition body) = Some (weight code table condition + weight code table body)
+iteration_weight code table (For position first condition step body) =
     Some (weight code table condition + (weight code table step + weight code table body))
-turn_weight code table _ = None
+iteration_weight code table _ = None
 
 abbrev pub number_or : ℕ → Option ℕ → ℕ
 number_or default o = elim o [ None ↦ default | Some n ↦ n ]
@@ -139,7 +139,7 @@ op_weight code table (IF id) =
       | None ↦ 0
       | Some parts ↦ max (weight code table parts.0) (sum_of (weight code table) (optional parts.1))
     ]
-op_weight code table (LOOP id) = loop_weight (number_or 0 (part code (turn_weight code table) id))
+op_weight code table (LOOP id) = loop_weight (number_or 0 (part code (iteration_weight code table) id))
 op_weight code table (ALLOC id) = object_bytes code.program (binding code id)
 op_weight code table (ALLOCARRAY id) = array_weight code id
 op_weight code table (CONSTRUCT id) = greatest table (constructor_targets code.program (binding code id))

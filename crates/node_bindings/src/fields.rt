@@ -11,7 +11,7 @@ ghost use Rattle.program_facts.specs.Reported.{declared, types};
 
 use class_rows::fields::is_static_field;
 use class_rows::{ClassTable, FieldRef};
-use program_facts::{At, Facts};
+use program_facts::{At, ProgramFacts};
 use scj_base::{ClassId, Memory, Name, NodeId};
 use scj_rules::{Binding, Receiver, Ty};
 use type_rules::names::{field_accessed, receiver};
@@ -46,7 +46,7 @@ pub fn field_binding(classes: &ClassTable<'_>, field: &FieldRef) -> Binding
 
 /// The field of a name in the class where a node stands.
 #[tactic(auto, unfolding(scj_rules::specs::Types::class_of_receiver))]
-pub fn field_here(facts: &Facts<'_>, id: NodeId, name: &Name) -> Binding
+pub fn field_here(facts: &ProgramFacts<'_>, id: NodeId, name: &Name) -> Binding
     ensures { let p = declarations_of facts.now in result ≡ plain_or (λ (row : FoundField). field_binding p row.field)
         (option_and_then (λ class. accessed_field p (the_class class) name.now) (context p id).class) }
 {

@@ -15,7 +15,7 @@ ghost use Rattle.node_bindings.specs.Kinds.{is_bound_kind};
 use crate::calls::call_binding;
 use crate::fields::{access_at, array_class, class_binding, field_binding, field_here};
 use crate::numbers::variable_binding;
-use program_facts::{At, Facts, NameMeaning};
+use program_facts::{At, ProgramFacts, NameMeaning};
 use scj_base::{ClassId, Memory, Name, NodeId};
 use scj_rules::{Binding, Ty};
 use scj_tree::NodeKind::{
@@ -29,7 +29,7 @@ use type_rules::names::{array_written, meaning_there};
 /// What a name stands for.
 #[tactic(auto, unfolding(program_facts::specs::Meanings::meant, scj_rules::specs::Bindings::meaning_binding))]
 fn meaning_binding(
-    facts: &Facts<'_>,
+    facts: &ProgramFacts<'_>,
     numbers: &[u32],
     id: NodeId,
     meaning: &NameMeaning,
@@ -47,7 +47,7 @@ fn meaning_binding(
 }
 
 /// What a simple name stands for.
-fn name_binding(facts: &Facts, numbers: &[u32], id: NodeId, name: &Name) -> Result<Binding, Memory>
+fn name_binding(facts: &ProgramFacts, numbers: &[u32], id: NodeId, name: &Name) -> Result<Binding, Memory>
     requires numbers { numbers.now ≡ numbers_before (declarations_of facts.now) }
     requires there { read facts.now.nodes simply_named id ≡ Some name.now }
     ensures { IfOk result (λ b. b ≡ meaning_binding (declarations_of facts.now) id
@@ -58,7 +58,7 @@ fn name_binding(facts: &Facts, numbers: &[u32], id: NodeId, name: &Name) -> Resu
 }
 
 /// The superclass of a class.
-fn superclass_binding(facts: &Facts<'_>, class: Option<ClassId>) -> Binding
+fn superclass_binding(facts: &ProgramFacts<'_>, class: Option<ClassId>) -> Binding
     ensures { result ≡ class_binding (option_and_then (superclass_in (declarations_of facts.now).classes) class) }
 {
     match class {
@@ -68,7 +68,7 @@ fn superclass_binding(facts: &Facts<'_>, class: Option<ClassId>) -> Binding
 }
 
 /// A new array.
-fn new_array(facts: &Facts<'_>, element: NodeId) -> Result<Binding, Memory>
+fn new_array(facts: &ProgramFacts<'_>, element: NodeId) -> Result<Binding, Memory>
     ensures { let p = declarations_of facts.now in IfOk result (λ b. b
         ≡ class_binding (option_and_then (array_class p) (option_and_then array_of (written_type p element)))) }
 {
@@ -82,7 +82,7 @@ fn new_array(facts: &Facts<'_>, element: NodeId) -> Result<Binding, Memory>
 /// What a node stands for, by its kind.
 #[tactic(auto, unfolding(program_facts::specs::Meanings::simply_named, scj_rules::specs::Bindings::binding_of))]
 fn binding_of(
-    facts: &Facts<'_>,
+    facts: &ProgramFacts<'_>,
     numbers: &[u32],
     types: &[Option<Ty>],
     id: NodeId,
@@ -152,7 +152,7 @@ fn is_bound_kind(kind: &Option<NodeKind>) -> bool
 /// What a node stands for. Its kind is looked at first, since most nodes stand for nothing but themselves.
 #[tactic(auto, unfolding(scj_rules::specs::Bindings::binding_at, scj_rules::specs::Contexts::declarations_of), using(crate::proofs::KindLemmas::unbound))]
 pub fn binding_at(
-    facts: &Facts<'_>,
+    facts: &ProgramFacts<'_>,
     numbers: &[u32],
     types: &[Option<Ty>],
     id: NodeId,

@@ -7,21 +7,21 @@ ghost use Rattle.scj_rules.specs.LimitRules.{is_variable_of, variables_of};
 ghost use Rattle.node_contexts.specs.Numbers.{numbers_before};
 
 use node_views::is_variable;
-use program_facts::Facts;
+use program_facts::ProgramFacts;
 use scj_base::{Memory, NodeId};
 use scj_rules::Binding;
 use scj_tree::row_or;
 
 /// Whether a node declares a variable of a member.
 #[tactic(auto, unfolding(scj_rules::specs::Contexts::declarations_of))]
-fn is_variable_of(facts: &Facts<'_>, member: NodeId, id: NodeId) -> bool
+fn is_variable_of(facts: &ProgramFacts<'_>, member: NodeId, id: NodeId) -> bool
     ensures { result ≡ is_variable_of (declarations_of facts.now) member id }
 {
     is_variable(facts.program(), id) && facts.context(id).member == Some(member)
 }
 
 /// The place of a variable among those of a member.
-fn index_of(facts: &Facts<'_>, numbers: &[u32], member: NodeId, variable: NodeId) -> Option<u32>
+fn index_of(facts: &ProgramFacts<'_>, numbers: &[u32], member: NodeId, variable: NodeId) -> Option<u32>
     requires { numbers.now ≡ numbers_before (declarations_of facts.now) }
     ensures { result ≡ position (λ v. v == variable) (variables_of (declarations_of facts.now) member) }
 {
@@ -36,7 +36,7 @@ fn index_of(facts: &Facts<'_>, numbers: &[u32], member: NodeId, variable: NodeId
 /// breaks a limit; of those behind these there is no number, and the answer is that of want of memory.
 #[tactic(auto, unfolding(scj_rules::specs::Bindings::variable_binding))]
 pub fn variable_binding(
-    facts: &Facts<'_>,
+    facts: &ProgramFacts<'_>,
     numbers: &[u32],
     id: NodeId,
     variable: NodeId,

@@ -7,7 +7,7 @@ ghost use Rattle.scj_rules.specs.TypeRules.{types_in};
 ghost use Rattle.scj_rules.specs.Bindings.{bindings_in};
 
 use crate::kinds::binding_at;
-use program_facts::Facts;
+use program_facts::ProgramFacts;
 use scj_base::{Memory, NodeId};
 use scj_rules::{Bindings, Ty};
 use std::alloc::Global;
@@ -18,7 +18,7 @@ use std::alloc::Global;
 #[tactic(auto, unfolding(scj_tree::specs::Recursion::listed))]
 pub fn bindings_of(
     alloc: Global,
-    facts: &Facts<'_>,
+    facts: &ProgramFacts<'_>,
     numbers: &[u32],
     types: &[Option<Ty>],
 ) -> Result<Bindings, Memory>

@@ -9,7 +9,7 @@ use Rattle.scj_rules.specs.declared.views.Declared.{Declared}
 use Rattle.scj_rules.specs.Layout.{element_kind, kind_of_type, literal_written, static_index}
 use Rattle.scj_rules.specs.Views.{variable_at}
 use Rattle.scj_model.specs.Memory.{literal_value}
-use Rattle.scj_model.specs.Ops.{right_operand, if_parts, turn_ops}
+use Rattle.scj_model.specs.Ops.{right_operand, if_parts, iteration_ops}
 use Rattle.accepted_laws.specs.Programs.{IsAcceptedProgram}
 use Rattle.scj_model.specs.declared.operations.Op.{Op}
 use Rattle.scj_model.specs.declared.operations.Op.TheVariants.{Push as PUSH, This as THIS, Load as LOAD, Get as GET, GetStatic as GETSTATIC, Length as LENGTH, Elem as ELEM, Unary as UNARY, Bin as BIN, And as AND, Or as OR, Alloc as ALLOC, Construct as CONSTRUCT, AllocArray as ALLOCARRAY, Call as CALL, CallStatic as CALLSTATIC, Cast as CAST, Enter as ENTER, ExecuteIn as EXECUTEIN, Same as SAME, SetCeiling as SETCEILING, Print as PRINT, Read as READ, Register as REGISTER, Release as RELEASE, Terminate as TERMINATE, Zero as ZERO, Store as STORE, Put as PUT, PutStatic as PUTSTATIC, PutElem as PUTELEM, If as IF, Loop as LOOP, LeaveWith as LEAVEWITH, Leave as LEAVE, Drop as DROP, Init as INIT, Super as SUPER, Params as PARAMS}
@@ -112,7 +112,7 @@ module _ (forest : Forest) (accepted : IsAcceptedProgram forest) where
   callee_among (PUTSTATIC id) body e = absurd (none (assigned code id >>= bound_static >>= static_index code.program) instruction.PutStatic (λ _. refl) body e)
   callee_among (PUTELEM id) body e = absurd (cc (e))
   callee_among (IF id) body e = absurd (none (part code if_parts id) (λ _. instruction.If) (λ _. refl) body e)
-  callee_among (LOOP id) body e = absurd (none (part code (turn_ops code id) id) (λ _. instruction.Loop) (λ _. refl) body e)
+  callee_among (LOOP id) body e = absurd (none (part code (iteration_ops code id) id) (λ _. instruction.Loop) (λ _. refl) body e)
   callee_among (LEAVEWITH id) body e = absurd (cc (e))
   callee_among LEAVE body e = absurd (cc (e))
   callee_among (DROP id) body e = absurd (cc (e))

@@ -7,7 +7,7 @@ use Rattle.scj_tree.specs.Forest.{Forest}
 use Rattle.scj_model.specs.declared.operations.Op.{Op}
 use Rattle.scj_model.specs.declared.operations.Op.TheVariants.{And as AND, Or as OR, If as IF, Loop as LOOP}
 use Rattle.scj_model.specs.Code.{Code, code_of}
-use Rattle.scj_model.specs.Ops.{ops_of, right_operand, if_parts, optional_ops, turn_ops, put_in_front}
+use Rattle.scj_model.specs.Ops.{ops_of, right_operand, if_parts, optional_ops, iteration_ops, put_in_front}
 use Rattle.op_list.proofs.CodeLemmas.{nodes_are}
 use Rattle.op_list.specs.declared.choices.TwoParts.{TwoParts}
 use Rattle.op_list.specs.declared.choices.TurnParts.{TurnParts}
@@ -54,9 +54,9 @@ module _ (code : Code) where
   if_front op condition (Some _) = refl
 
   loop_front : (id : ℕ) (condition : Bool) (o : Option Node) →
-      option_map (λ turn. if condition then turn else []) (o >>= turn_ops code id)
+      option_map (λ turn. if condition then turn else []) (o >>= iteration_ops code id)
       ≡ front_of (LOOP id) (elim o [ None ↦ Plain | Some node ↦ loop_choice node ]) condition
-  unfolding turn_ops loop_choice front_of optional_ops
+  unfolding iteration_ops loop_choice front_of optional_ops
   loop_front id condition None = refl
   loop_front id true (Some (While position test body)) = refl
   loop_front id false (Some (While position test body)) = refl

@@ -14,7 +14,7 @@ use Rattle.scj_model.specs.State.{Frame}
 use Rattle.scj_model.specs.Memory.{literal_value}
 use Rattle.scj_model.specs.Effects.{Effect, Goes, Stuck, given, pop, as_truth, pushes}
 use Rattle.scj_model.specs.Operations.{Environment, effect_of, argument_count, assigned, bound_class, bound_field, bound_local, bound_method, bound_static, bound_static_method, super_count}
-use Rattle.scj_model.specs.Ops.{node_of, ops_of, right_operand, if_parts, optional_ops, turn_ops, put_in_front}
+use Rattle.scj_model.specs.Ops.{node_of, ops_of, right_operand, if_parts, optional_ops, iteration_ops, put_in_front}
 use Rattle.op_list.specs.declared.instructions.Instruction.{Instruction}
 use Rattle.op_list.specs.declared.instructions.Instruction.TheVariants as instruction
 use Rattle.op_list.specs.Instructions.{asked, chosen, instruction_of}
@@ -144,7 +144,7 @@ means code world f (IF id) =
     choice code world f id (part code if_parts id) instruction.If
     (λ (parts : ℕ × Option ℕ) b. if b then ops_of code parts.0 else optional_ops code parts.1) (λ b f. Goes f) refl
 means code world f (LOOP id) =
-    choice code world f id (part code (turn_ops code id) id) instruction.Loop (λ turn b. if b then turn else [])
+    choice code world f id (part code (iteration_ops code id) id) instruction.Loop (λ turn b. if b then turn else [])
     (λ b f. Goes f) refl
 means code world f (LEAVEWITH id) = refl
 means code world f LEAVE = refl

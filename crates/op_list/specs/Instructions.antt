@@ -12,7 +12,7 @@ use Rattle.scj_model.specs.declared.operations.Op.TheVariants.{Push as PUSH, Thi
 use Rattle.scj_model.specs.Code.{Code, binding, part}
 use Rattle.scj_model.specs.Memory.{literal_value}
 use Rattle.scj_model.specs.Operations.{argument_count, assigned, bound_class, bound_field, bound_local, bound_method, bound_static, bound_static_method, first_argument, operator_of, super_count}
-use Rattle.scj_model.specs.Ops.{right_operand, if_parts, turn_ops}
+use Rattle.scj_model.specs.Ops.{right_operand, if_parts, iteration_ops}
 use Rattle.op_list.specs.declared.instructions.Instruction.{Instruction}
 use Rattle.op_list.specs.declared.instructions.Instruction.TheVariants as instruction
 
@@ -72,7 +72,7 @@ instruction_of code (PUTSTATIC id) =
     asked (assigned code id >>= bound_static >>= static_index code.program) instruction.PutStatic
 instruction_of code (PUTELEM id) = instruction.PutElem
 instruction_of code (IF id) = chosen (part code if_parts id) instruction.If
-instruction_of code (LOOP id) = chosen (part code (turn_ops code id) id) instruction.Loop
+instruction_of code (LOOP id) = chosen (part code (iteration_ops code id) id) instruction.Loop
 instruction_of code (LEAVEWITH id) = instruction.LeaveWith
 instruction_of code LEAVE = instruction.Leave
 instruction_of code (DROP id) = instruction.Drop

@@ -215,7 +215,7 @@ pub fn choose(code: &Code<'_>, id: NodeId) -> Instruction
 }
 
 /// A loop.
-#[tactic(auto, using(crate::proofs::CodeLemmas::nodes_are, crate::proofs::CodeLemmas::program_is), unfolding(crate::specs::Instructions::instruction_of, scj_model::specs::Ops::turn_ops))]
+#[tactic(auto, using(crate::proofs::CodeLemmas::nodes_are, crate::proofs::CodeLemmas::program_is), unfolding(crate::specs::Instructions::instruction_of, scj_model::specs::Ops::iteration_ops))]
 pub fn turn(code: &Code<'_>, id: NodeId) -> Instruction
     ensures { result ≡ instruction_of (code_of code.now) (op.Loop id) }
 {

@@ -12,8 +12,8 @@ use Rattle.scj_tree.specs.Statements.{operated}
 use Rattle.scj_tree.specs.Terminals.{level}
 use Rattle.scj_tree.specs.declared.nodes.Node.{Node}
 use Rattle.scj_tree.specs.declared.nodes.Node.TheVariants.{Assign, Binary, Call, Cast, Element, ExpressionStatement, LocalWithValue, New, NewArray, Parenthesized, Return, SuperCall, Unary}
-use Rattle.scj_tree.specs.declared.readings.PostKind.{PostKind}
-use Rattle.scj_tree.specs.declared.readings.PostKind.TheVariants.{Variable, Invocation, NewArray as NewArrayKind, Value}
+use Rattle.scj_tree.specs.declared.parsed_parts.PostKind.{PostKind}
+use Rattle.scj_tree.specs.declared.parsed_parts.PostKind.TheVariants.{Variable, Invocation, NewArray as NewArrayKind, Value}
 
 -- ---- where an assignment, the arguments of a call or a target end
 

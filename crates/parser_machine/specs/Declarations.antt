@@ -15,7 +15,7 @@ use Rattle.scj_base.specs.Bytes.{is_same}
 use Rattle.scj_tree.specs.Terminals.{add_modifier, flags_number, is_effectless, placed, has_type_argument, with_define_scope, with_flags, with_runs_in, with_scope}
 use Rattle.scj_tree.specs.declared.nodes.Node.{Node}
 use Rattle.scj_tree.specs.declared.nodes.Node.TheVariants.{BooleanType, ClassType, DefineScope, IntType, LongType, Parameter, ScopeName, TypeArgument, VoidType}
-use Rattle.scj_tree.specs.declared.readings.FlagSet.{FlagSet}
+use Rattle.scj_tree.specs.declared.parsed_parts.FlagSet.{FlagSet}
 
 -- ---- types
 

@@ -13,8 +13,8 @@ use Rattle.scj_tree.specs.Statements.{name_twice, operated}
 use Rattle.scj_tree.specs.Terminals.{compound, indexable, is_minimum, is_unary1_start, stepping}
 use Rattle.scj_tree.specs.declared.nodes.Node.{Node}
 use Rattle.scj_tree.specs.declared.nodes.Node.TheVariants.{Binary, BooleanType, ClassType, False, FieldAccess, IntType, Null, Number, Parenthesized, SimpleName, Text, This, True}
-use Rattle.scj_tree.specs.declared.readings.PostKind.{PostKind}
-use Rattle.scj_tree.specs.declared.readings.PostKind.TheVariants.{Value, Variable}
+use Rattle.scj_tree.specs.declared.parsed_parts.PostKind.{PostKind}
+use Rattle.scj_tree.specs.declared.parsed_parts.PostKind.TheVariants.{Value, Variable}
 
 -- ---- behind an expression of names, calls and brackets
 

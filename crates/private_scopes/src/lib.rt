@@ -8,7 +8,7 @@ ghost use Rattle.program_facts.specs.Tables.{IsNaming};
 
 use class_rows::ClassTable;
 use node_contexts::Contexts;
-use program_facts::{Facts, ScopeNames};
+use program_facts::{ProgramFacts, ScopeNames};
 use scj_base::{ClassId, Memory, ScopeId};
 use scope_tree::scopes::defined_by_chain;
 use scope_tree::{build, names_of};
@@ -16,7 +16,7 @@ use std::alloc::Global;
 
 /// The scope that the chain of each class defines, from what is known of the program.
 #[tactic(auto, unfolding(scj_tree::specs::Recursion::listed))]
-fn chained(alloc: Global, facts: &Facts) -> Result<Vec<Option<ScopeId>>, Memory>
+fn chained(alloc: Global, facts: &ProgramFacts) -> Result<Vec<Option<ScopeId>>, Memory>
     ensures { IfOk result (λ scopes. AreChainedScopes facts.now scopes.items) }
 {
     let mut scopes = Vec::new(alloc);
@@ -37,7 +37,7 @@ fn scopes_by_tree(
     requires names { IsNaming (declarations_of classes.now) names.now }
     ensures { IfOk result (λ scopes. AreChainedScopes classes.now scopes.items) }
 {
-    let facts = Facts::new(classes, contexts, names);
+    let facts = ProgramFacts::new(classes, contexts, names);
     let (tree, _found) = build(alloc, &facts)?;
     chained(alloc, &facts.with_tree(&tree))
 }

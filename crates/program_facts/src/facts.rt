@@ -22,7 +22,7 @@ use std::marker::Model;
 /// A program with its classes, the contexts of its nodes and the names of its scopes, and with the tables that are made
 /// later, as far as they are there. A contract sees the program.
 #[derive(Drop)]
-pub struct Facts<'a> {
+pub struct ProgramFacts<'a> {
     classes: &'a ClassTable<'a>,
     contexts: &'a Contexts,
     names: &'a ScopeNames,
@@ -32,7 +32,7 @@ pub struct Facts<'a> {
     variables: Option<&'a Variables>,
 }
 
-impl<'a> Model for Facts<'a> {
+impl<'a> Model for ProgramFacts<'a> {
     ghost use Rattle.scj_tree.specs.Forest.{Forest};
 
     ghost Value = { Forest };
@@ -46,19 +46,19 @@ impl<'a> Model for Facts<'a> {
         (option_copied a.runs) (option_copied a.variables) };
 }
 
-impl<'a> Facts<'a> {
+impl<'a> ProgramFacts<'a> {
     /// What is told of a program first.
     #[tactic(auto, using(crate::proofs::MeaningLemmas::no_meanings))]
     pub fn new(
         classes: &'a ClassTable<'a>,
         contexts: &'a Contexts,
         names: &'a ScopeNames,
-    ) -> Facts<'a>
+    ) -> ProgramFacts<'a>
         requires contexts { contexts.now ≡ contexts_in classes.now }
         requires names { IsNaming (declarations_of classes.now) names.now }
         ensures { result ≡ classes.now }
     {
-        Facts {
+        ProgramFacts {
             classes,
             contexts,
             names,
@@ -70,10 +70,10 @@ impl<'a> Facts<'a> {
     }
 
     /// The same once more, so that another part may be put to it.
-    pub fn again(&self) -> Facts<'a>
+    pub fn again(&self) -> ProgramFacts<'a>
         ensures { result ≡ self.now }
     {
-        Facts {
+        ProgramFacts {
             classes: self.classes,
             contexts: self.contexts,
             names: self.names,
@@ -85,7 +85,7 @@ impl<'a> Facts<'a> {
     }
 
     /// The same, with what the first nodes stand for.
-    pub fn with_meanings(self, meanings: &'a [NodeMeaning]) -> Facts<'a>
+    pub fn with_meanings(self, meanings: &'a [NodeMeaning]) -> ProgramFacts<'a>
         requires { AreMeanings self meanings.now }
         ensures { result ≡ self.entry }
     {
@@ -95,7 +95,7 @@ impl<'a> Facts<'a> {
     }
 
     /// The same, with what is told of classes, which may be the first ones alone.
-    pub fn with_tree(self, tree: &'a ScopeTree) -> Facts<'a>
+    pub fn with_tree(self, tree: &'a ScopeTree) -> ProgramFacts<'a>
         requires { IsTreeOf self tree.now }
         ensures { result ≡ self.entry }
     {
@@ -105,7 +105,7 @@ impl<'a> Facts<'a> {
     }
 
     /// The same, with where methods run and fields lie.
-    pub fn with_runs(self, runs: &'a Runs) -> Facts<'a>
+    pub fn with_runs(self, runs: &'a Runs) -> ProgramFacts<'a>
         requires { AreRuns self runs.now }
         ensures { result ≡ self.entry }
     {
@@ -115,7 +115,7 @@ impl<'a> Facts<'a> {
     }
 
     /// The same, with the scopes of variables.
-    pub fn with_variables(self, variables: &'a Variables) -> Facts<'a>
+    pub fn with_variables(self, variables: &'a Variables) -> ProgramFacts<'a>
         requires { AreVariables self variables.now }
         ensures { result ≡ self.entry }
     {

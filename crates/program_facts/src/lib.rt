@@ -7,7 +7,7 @@ pub mod tables;
 pub mod reported;
 mod variables;
 
-pub use facts::Facts;
+pub use facts::ProgramFacts;
 pub use meanings::{NameMeaning, NodeMeaning};
 pub use tables::{Runs, ScopeNames, ScopeRow, ScopeTree, Variables};
 pub use reported::At;

@@ -3,14 +3,14 @@
 ghost use Rattle.std.specs.Prelude.{◌≡◌, None};
 ghost use Rattle.scj_tree.specs.Recursion.{lookup};
 
-use crate::facts::Facts;
+use crate::facts::ProgramFacts;
 use scj_base::NodeId;
 use scj_rules::{Scope, Ty};
 
 /// A node with the facts of its program, and the types and scopes of nodes as far as they are told.
 #[derive(Clone, Copy)]
 pub struct At<'a> {
-    pub facts: &'a Facts<'a>,
+    pub facts: &'a ProgramFacts<'a>,
     /// The types of the nodes: of those before it, or of all.
     pub types: &'a [Option<Ty>],
     /// The scopes of the nodes before it, where they are asked.

@@ -4,7 +4,7 @@ ghost use Rattle.std.specs.Prelude.{◌≡◌, length};
 ghost use Rattle.scj_rules.specs.Contexts.{declarations_of, variable_named, has_object};
 ghost use Rattle.program_facts.specs.Reported.{declares, seek};
 
-use crate::facts::Facts;
+use crate::facts::ProgramFacts;
 use node_contexts::is_static_member;
 use scj_base::{Name, NodeId};
 use scj_tree::{Node, Program};
@@ -24,7 +24,7 @@ fn declares(program: &Program, id: NodeId, name: &Name) -> bool
     }
 }
 
-impl<'a> Facts<'a> {
+impl<'a> ProgramFacts<'a> {
     /// The variable of a name that is known at a node: the last one that is declared.
     #[tactic(auto, using(crate::proofs::VariableLemmas::first))]
     pub fn variable_named(&self, id: NodeId, name: &Name) -> Option<NodeId>

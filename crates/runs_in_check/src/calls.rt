@@ -14,7 +14,7 @@ ghost use Rattle.runs_in_check.specs.Phase.{parameters_of, seen_scope, argument_
 use crate::scopes::{is_other, misfit_scope, receiver_scope, scope_of_call};
 use method_rows::{MethodRef, builtin};
 use node_views::position_at;
-use program_facts::{At, Facts};
+use program_facts::{At, ProgramFacts};
 use scj_base::ids::{MANAGED_MEMORY_ENTER_PRIVATE_MEMORY, MANAGED_MEMORY_EXECUTE_IN_AREA_OF};
 use scj_base::{ClassId, Found, Memory, MethodId, Name, NodeId, Position, Rule, ScopeId};
 use scj_builtins::FRAMEWORK_CLASS_COUNT;
@@ -35,7 +35,7 @@ pub enum Callee {
 
 /// The parameter of a number of what is called.
 #[tactic(auto, unfolding(crate::specs::Phase::parameters_of, type_rules::specs::Parameters::taken))]
-fn parameter(facts: &Facts<'_>, callee: &Callee, i: usize) -> Option<Declared>
+fn parameter(facts: &ProgramFacts<'_>, callee: &Callee, i: usize) -> Option<Declared>
     ensures { result ≡ slice_get (parameters_of facts.now callee.now) i }
 {
     let program = facts.program();
@@ -152,7 +152,7 @@ fn note_user_method(
 }
 
 /// The user's `run` of a class.
-fn run_of(facts: &Facts<'_>, class: ClassId) -> Option<MethodRef>
+fn run_of(facts: &ProgramFacts<'_>, class: ClassId) -> Option<MethodRef>
     ensures { option_map (found_method facts.now.nodes) result ≡ run_of (declarations_of facts.now) class }
 {
     let classes = facts.classes();
@@ -164,7 +164,7 @@ fn run_of(facts: &Facts<'_>, class: ClassId) -> Option<MethodRef>
 }
 
 /// Whether the parent of a scope isn't the current one.
-fn isnt_in_parent(facts: &Facts<'_>, id: NodeId, scope: ScopeId) -> bool
+fn isnt_in_parent(facts: &ProgramFacts<'_>, id: NodeId, scope: ScopeId) -> bool
     ensures { result ≡ isnt_in_parent (declarations_of facts.now) id scope }
 {
     match parent_scope(facts, scope) {
@@ -175,7 +175,7 @@ fn isnt_in_parent(facts: &Facts<'_>, id: NodeId, scope: ScopeId) -> bool
 
 /// Whether private memory may not be entered here with a value of a type.
 #[tactic(auto, unfolding(scj_rules::specs::UseRules::misfits_enter, scj_rules::specs::UseRules::misfits_entered))]
-fn misfits_enter(facts: &Facts<'_>, id: NodeId, t: &Option<Ty>) -> bool
+fn misfits_enter(facts: &ProgramFacts<'_>, id: NodeId, t: &Option<Ty>) -> bool
     ensures { result ≡ holds t.now (misfits_enter (declarations_of facts.now) id) }
 {
     match t {
@@ -204,7 +204,7 @@ fn misfits_enter(facts: &Facts<'_>, id: NodeId, t: &Option<Ty>) -> bool
 
 /// Whether a value of a type may not be run in the area of an object of this scope.
 #[tactic(auto, unfolding(scj_rules::specs::UseRules::misfits_execute, scj_rules::specs::UseRules::is_named_scope))]
-fn misfits_execute(facts: &Facts<'_>, area: &Option<Scope>, t: &Option<Ty>) -> bool
+fn misfits_execute(facts: &ProgramFacts<'_>, area: &Option<Scope>, t: &Option<Ty>) -> bool
     ensures { result ≡ holds t.now (misfits_execute (declarations_of facts.now) area.now) }
 {
     match t {

@@ -21,7 +21,7 @@ use crate::nodes::{
 };
 use crate::scopes::{scope_of_access, scope_of_element, scope_of_name};
 use annotation_rules::note_annotation;
-use program_facts::{At, Facts};
+use program_facts::{At, ProgramFacts};
 use scj_base::{Found, Memory, NodeId, Rule};
 use scj_rules::{Scope, Ty, put_in_order, report_if};
 use scj_tree::NodeKind::{
@@ -146,7 +146,7 @@ fn is_asked(program: &Program, types: &[Option<Ty>], id: NodeId) -> bool
 #[tactic(auto, using(crate::proofs::NodeLemmas::no_break, crate::proofs::NodeLemmas::no_scope_there), unfolding(scj_rules::specs::UseRules::scope_of_next, scj_rules::specs::Contexts::declarations_of, crate::specs::Phase::breaks_at))]
 fn next_scope<'a>(
     found: &mut Vec<Found>,
-    facts: &'a Facts<'a>,
+    facts: &'a ProgramFacts<'a>,
     types: &'a [Option<Ty>],
     scopes: &'a [Option<Scope>],
     guards: &Guards,
@@ -181,7 +181,7 @@ fn next_scope<'a>(
 #[tactic(auto, unfolding(scj_tree::specs::Recursion::joined_below, scj_tree::specs::Recursion::bottom_up))]
 pub fn check_uses<'a>(
     alloc: Global,
-    facts: &'a Facts<'a>,
+    facts: &'a ProgramFacts<'a>,
     types: &'a [Option<Ty>],
 ) -> Result<Vec<Found>, Memory>
     requires { types.now ≡ types_in (declarations_of facts.now) }

@@ -11,7 +11,7 @@ ghost use Rattle.runs_in_check.specs.Guards.{guards_both, ifs_at, left_by, left_
 
 use crate::parents::parents_of;
 use crate::subjects::{are_subjects, asked_at, assigned_at, is_first_part, is_subject};
-use program_facts::{At, Facts};
+use program_facts::{At, ProgramFacts};
 use scj_base::{Memory, NodeId};
 use scj_rules::{Guard, Subject, Ty};
 use scj_tree::{Program, row_or};
@@ -27,7 +27,7 @@ pub struct Guards {
 }
 
 /// Whether some `if` asks whether two objects lie in one area. In most programs none does.
-fn is_any_asked<'a>(facts: &'a Facts<'a>, types: &'a [Option<Ty>]) -> bool
+fn is_any_asked<'a>(facts: &'a ProgramFacts<'a>, types: &'a [Option<Ty>]) -> bool
     ensures { result ≡ false → (number : ℕ) →
         asked_at (declarations_of facts.now) (lookup None types.now) number ≡ None }
 {
@@ -51,7 +51,7 @@ fn is_any_asked<'a>(facts: &'a Facts<'a>, types: &'a [Option<Ty>]) -> bool
 #[tactic(auto, using(crate::proofs::Walks::none_below, crate::proofs::Walks::one_below))]
 fn asked<'a>(
     alloc: Global,
-    facts: &'a Facts<'a>,
+    facts: &'a ProgramFacts<'a>,
     types: &'a [Option<Ty>],
 ) -> Result<HashMap<usize, Guard>, Memory>
     ensures { IfOk result (λ rows. (number : ℕ) →
@@ -139,7 +139,7 @@ fn undo(
 /// Undoes the guards that a node undoes.
 fn undo_by(
     rows: &mut HashMap<usize, Guard>,
-    facts: &Facts<'_>,
+    facts: &ProgramFacts<'_>,
     parents: &[Option<NodeId>],
     id: NodeId,
 )
@@ -156,7 +156,7 @@ fn undo_by(
 }
 
 /// Undoes the guards that some node undoes.
-fn undo_all(rows: &mut HashMap<usize, Guard>, facts: &Facts<'_>, parents: &[Option<NodeId>])
+fn undo_all(rows: &mut HashMap<usize, Guard>, facts: &ProgramFacts<'_>, parents: &[Option<NodeId>])
     requires { (n : ℕ) → lookup None parents.now n ≡ parent_in facts.now.nodes n }
     ensures { (number : ℕ) → get ◌==◌ rows.new number
         ≡ left_from (declarations_of facts.now) 0 number (get ◌==◌ rows.old number) }
@@ -171,7 +171,7 @@ fn undo_all(rows: &mut HashMap<usize, Guard>, facts: &Facts<'_>, parents: &[Opti
 /// The guards of a program, by the types of its nodes.
 pub fn guards_of<'a>(
     alloc: Global,
-    facts: &'a Facts<'a>,
+    facts: &'a ProgramFacts<'a>,
     types: &'a [Option<Ty>],
 ) -> Result<Guards, Memory>
     ensures { IfOk result (AreGuards (declarations_of facts.now) (lookup None types.now)) }

@@ -16,7 +16,7 @@ use crate::calls::{Callee, note_arguments};
 use crate::guards::Guards;
 use crate::scopes::{is_other, misfit_scope, scope_in_class, scope_of_new};
 use crate::stores::is_guarded_store;
-use program_facts::{At, Facts, NameMeaning};
+use program_facts::{At, ProgramFacts, NameMeaning};
 use scj_base::{ClassId, Found, Memory, Name, NodeId, Position, Rule, ScopeId};
 use scj_rules::{ClassScope, Scope, Ty, report_if};
 use scj_tree::Node;
@@ -25,7 +25,7 @@ use static_scopes::{current_at, method_at, result_scope, this_at, variable_scope
 use type_rules::names;
 
 /// Whether the objects of a class lie elsewhere than in the current scope.
-fn lies_elsewhere(facts: &Facts<'_>, id: NodeId, class: ClassId) -> bool
+fn lies_elsewhere(facts: &ProgramFacts<'_>, id: NodeId, class: ClassId) -> bool
     ensures { result ≡ lies_elsewhere (declarations_of facts.now) id class }
 {
     match class_scope(facts, class) {
@@ -81,7 +81,7 @@ pub fn note_super_call(found: &mut Vec<Found>, at: &At, arguments: &[NodeId]) ->
 
 /// The rule on an assignment to a node, if there is one of this number.
 #[tactic(auto, unfolding(scj_rules::specs::UseRules::target_rule, scj_rules::specs::UseRules::target_of_meaning, program_facts::specs::Meanings::meant, scj_rules::specs::Contexts::declarations_of))]
-fn target_rule(facts: &Facts<'_>, target: NodeId) -> Option<Rule>
+fn target_rule(facts: &ProgramFacts<'_>, target: NodeId) -> Option<Rule>
     ensures { let p = declarations_of facts.now in result ≡ read p.nodes (target_rule p target) target }
 {
     match facts.program().get(target)? {
@@ -145,7 +145,7 @@ pub fn misfits_local(at: &At<'_>, value: NodeId) -> bool
 
 /// The scope of the result of the method in which a node stands.
 #[tactic(auto, unfolding(scj_rules::specs::UseRules::result_scope_at, scj_rules::specs::Contexts::declarations_of))]
-fn result_scope_at(facts: &Facts<'_>, id: NodeId) -> Option<Scope>
+fn result_scope_at(facts: &ProgramFacts<'_>, id: NodeId) -> Option<Scope>
     ensures { result ≡ result_scope_at (declarations_of facts.now) id }
 {
     let context = facts.context(id);
@@ -165,7 +165,7 @@ pub fn misfits_result(at: &At<'_>, value: NodeId) -> bool
 }
 
 /// Whether a class is annotated with a scope that an operand's doesn't fit.
-fn lies_outside(facts: &Facts<'_>, operand: &Option<Scope>, class: ClassId) -> bool
+fn lies_outside(facts: &ProgramFacts<'_>, operand: &Option<Scope>, class: ClassId) -> bool
     ensures { result ≡ lies_outside (declarations_of facts.now) operand.now class }
 {
     match class_scope(facts, class) {
@@ -198,7 +198,7 @@ pub fn note_cast(
 
 /// Whether a scope is neither the current one, by name, nor lies outside it.
 #[tactic(auto, unfolding(scj_rules::specs::UseRules::is_outer_of_current))]
-fn isnt_around_current(facts: &Facts<'_>, id: NodeId, scope: ScopeId) -> bool
+fn isnt_around_current(facts: &ProgramFacts<'_>, id: NodeId, scope: ScopeId) -> bool
     ensures { result ≡ isnt_around_current (declarations_of facts.now) id scope }
 {
     match &current_at(facts, id) {

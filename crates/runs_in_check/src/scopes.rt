@@ -14,7 +14,7 @@ ghost use Rattle.program_facts.specs.Reported.{declared, types, scopes};
 
 use class_rows::FieldRef;
 use method_rows::MethodRef;
-use program_facts::{At, Facts, NameMeaning};
+use program_facts::{At, ProgramFacts, NameMeaning};
 use scj_base::{ClassId, Name, NodeId};
 use scj_rules::{Scope, Ty};
 use scope_tree::scopes::class_scope;
@@ -54,7 +54,7 @@ pub fn receiver_scope(at: &At<'_>, object: &Option<NodeId>) -> Option<Scope>
 
 /// A field's scope, with that of its object for THIS.
 #[tactic(auto, unfolding(scj_rules::specs::UseRules::scope_of_field))]
-fn scope_of_field(facts: &Facts<'_>, object: &Option<Scope>, field: &FieldRef) -> Option<Scope>
+fn scope_of_field(facts: &ProgramFacts<'_>, object: &Option<Scope>, field: &FieldRef) -> Option<Scope>
     ensures { result ≡ scope_of_field (declarations_of facts.now) object.now (found_field facts.now.nodes field.now) }
 {
     let scope = field_scope(facts, field)?;
@@ -63,7 +63,7 @@ fn scope_of_field(facts: &Facts<'_>, object: &Option<Scope>, field: &FieldRef) -
 
 /// The scope of a class's values, or this one where the class is unannotated.
 #[tactic(auto, unfolding(scj_rules::specs::UseRules::scope_in_class))]
-pub fn scope_in_class(facts: &Facts<'_>, class: ClassId, other: &Option<Scope>) -> Option<Scope>
+pub fn scope_in_class(facts: &ProgramFacts<'_>, class: ClassId, other: &Option<Scope>) -> Option<Scope>
     ensures { result ≡ scope_in_class (declarations_of facts.now) class other.now }
 {
     scope_or(&class_scope(facts, class), other)
@@ -71,7 +71,7 @@ pub fn scope_in_class(facts: &Facts<'_>, class: ClassId, other: &Option<Scope>) 
 
 /// The scope in which a new object of a class lies.
 #[tactic(auto, unfolding(scj_rules::specs::UseRules::scope_of_new, scj_rules::specs::UseRules::scope_in_class))]
-pub fn scope_of_new(facts: &Facts<'_>, id: NodeId, class: ClassId) -> Option<Scope>
+pub fn scope_of_new(facts: &ProgramFacts<'_>, id: NodeId, class: ClassId) -> Option<Scope>
     ensures { result ≡ scope_of_new (declarations_of facts.now) id class }
 {
     scope_in_class(facts, class, &current_at(facts, id))

@@ -10,7 +10,7 @@ ghost use Rattle.scj_builtins.specs.Framework.{managed_memory_alloc_in_same};
 ghost use Rattle.program_facts.specs.Reported.{declared, types};
 
 use crate::calls::called_builtin;
-use program_facts::{At, Facts, NameMeaning};
+use program_facts::{At, ProgramFacts, NameMeaning};
 use scj_base::ids::MANAGED_MEMORY_ALLOC_IN_SAME;
 use scj_base::{Name, NodeId};
 use scj_rules::{Guard, Subject};
@@ -19,7 +19,7 @@ use type_rules::names;
 
 /// The subject that a node is, if it is one.
 #[tactic(auto, unfolding(scj_rules::specs::Guards::subject_of, scj_rules::specs::Guards::subject_of_meaning, program_facts::specs::Meanings::meant, scj_rules::specs::Contexts::declarations_of))]
-pub fn subject_at(facts: &Facts<'_>, id: NodeId) -> Option<Subject>
+pub fn subject_at(facts: &ProgramFacts<'_>, id: NodeId) -> Option<Subject>
     ensures { result ≡ subject_at (declarations_of facts.now) id }
 {
     match facts.program().get(id)? {
@@ -71,7 +71,7 @@ fn asks(at: &At<'_>, name: &Name, object: &Option<NodeId>) -> bool
 }
 
 /// The guard of two nodes, if both are subjects.
-fn guard_of(facts: &Facts<'_>, first: NodeId, second: NodeId) -> Option<Guard>
+fn guard_of(facts: &ProgramFacts<'_>, first: NodeId, second: NodeId) -> Option<Guard>
     ensures { let p = declarations_of facts.now in result ≡ guard_of (subject_at p first) (subject_at p second) }
 {
     let first = subject_at(facts, first)?;
@@ -123,7 +123,7 @@ pub fn asked_at(at: &At<'_>) -> Option<Guard>
 
 /// The subject to which a node assigns, if it does.
 #[tactic(auto, unfolding(scj_rules::specs::Guards::assigned_by, scj_rules::specs::Contexts::declarations_of))]
-pub fn assigned_at(facts: &Facts<'_>, id: NodeId) -> Option<Subject>
+pub fn assigned_at(facts: &ProgramFacts<'_>, id: NodeId) -> Option<Subject>
     ensures { result ≡ assigned_at (declarations_of facts.now) id }
 {
     match facts.program().get(id)? {

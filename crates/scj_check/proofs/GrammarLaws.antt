@@ -19,9 +19,9 @@ found_of r p = record { rule = r; pos = p }
 pub same_found : (one other : Found) → one.rule ≡ other.rule → one.pos ≡ other.pos → one ≡ other
 same_found one other e f = ap (λ r. found_of r one.pos) e ∙ ap (λ p. found_of other.rule p) f
 
-pub one_reading : (before one other : Forest) (lexemes : List Lexeme) → FileRead before lexemes one →
+pub one_outcome : (before one other : Forest) (lexemes : List Lexeme) → FileRead before lexemes one →
     FileRead before lexemes other → one ≡ other
-one_reading before one other lexemes a b =
+one_outcome before one other lexemes a b =
     let nodes : one.nodes ≡ other.nodes = one_tree_nodes a.tree b.tree in
     let classes : a.classes ≡ b.classes = one_tree_classes a.tree b.tree in
     let files : one.files ≡ other.files =

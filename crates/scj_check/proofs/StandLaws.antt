@@ -14,9 +14,9 @@ use Rattle.scj_rules.specs.Syntax.FirstBreakOfLexemes.{in_this, in_another}
 use Rattle.scj_rules.specs.Syntax.FilesRead.{no_file, next_file}
 use Rattle.scj_rules.specs.Syntax.FirstBreakOfGrammar.{in_this_file, in_another_file}
 use Rattle.scj_rules.specs.Syntax.BreaksFrom.{in_lexemes, in_grammar}
-use Rattle.scj_check.specs.Readings.{IsReading, GoesOn, Goes, StandsRead, Stands}
-use Rattle.scj_check.specs.declared.readings.Reading.{Reading}
-use Rattle.scj_check.specs.declared.readings.Reading.TheVariants.{Read, Broken}
+use Rattle.scj_check.specs.ParseOutcomes.{IsParseOutcome, GoesOn, Goes, StandsRead, Stands}
+use Rattle.scj_check.specs.declared.parse_outcomes.ParseOutcome.{ParseOutcome}
+use Rattle.scj_check.specs.declared.parse_outcomes.ParseOutcome.TheVariants.{Read, Broken}
 
 -- what is left from a place on begins with what stands there
 rest_at : {X : Type 0} (xs : List X) (k : ℕ) (x : X) → slice_get xs k ≡ Some x → drop k xs ≡ x ∷ drop (k + 1) xs
@@ -51,7 +51,7 @@ reads_later file before between after text rest tokens lexed read r = record {
 }
 
 goes_on : (whole : List (List ℕ)) (file : ℕ) (text : List ℕ) (rest : List (List ℕ)) (tokens : List Token)
-    (before after : Reading) → Lex file text tokens → Goes (lexemes_of text tokens) before after →
+    (before after : ParseOutcome) → Lex file text tokens → Goes (lexemes_of text tokens) before after →
     Stands whole file (text ∷ rest) before → Stands whole (file + 1) rest after
 goes_on whole file text rest tokens (Read before) (Read after) lexed goes stands = record {
   reads = λ last r. stands.reads last (reads_later file before after last text rest tokens lexed goes r);
@@ -69,34 +69,34 @@ goes_on whole file text rest tokens (Broken found) (Broken again) lexed goes sta
 }
 
 -- the same, where the text is the next of the whole
-next_left : (whole : List (List ℕ)) (file : ℕ) (text : List ℕ) (before : Reading) → slice_get whole file ≡ Some text →
+next_left : (whole : List (List ℕ)) (file : ℕ) (text : List ℕ) (before : ParseOutcome) → slice_get whole file ≡ Some text →
     Stands whole file (drop file whole) before → Stands whole file (text ∷ drop (file + 1) whole) before
 next_left whole file text before there stands =
     subst (λ (left : List (List ℕ)). Stands whole file left before) (rest_at whole file text there) stands
 
-pub with_text : (whole : List (List ℕ)) (file : ℕ) (text : List ℕ) (before after : Reading) →
+pub with_text : (whole : List (List ℕ)) (file : ℕ) (text : List ℕ) (before after : ParseOutcome) →
     slice_get whole file ≡ Some text → Stands whole file (drop file whole) before → GoesOn file text before after →
     Stands whole (file + 1) (drop (file + 1) whole) after
 with_text whole file text before after there stands more =
     goes_on whole file text (drop (file + 1) whole) more.tokens before after more.lexed more.goes
     (next_left whole file text before there stands)
 
-pub at_a_break : (whole : List (List ℕ)) (file : ℕ) (text : List ℕ) (before : Reading) (found : Found) →
+pub at_a_break : (whole : List (List ℕ)) (file : ℕ) (text : List ℕ) (before : ParseOutcome) (found : Found) →
     slice_get whole file ≡ Some text → Stands whole file (drop file whole) before → BreaksLexemes file text found →
     BreaksSyntax whole found
 at_a_break whole file text before found there stands broken =
     go before (next_left whole file text before there stands)
   where
-    go : (before : Reading) → Stands whole file (text ∷ drop (file + 1) whole) before → BreaksSyntax whole found
+    go : (before : ParseOutcome) → Stands whole file (text ∷ drop (file + 1) whole) before → BreaksSyntax whole found
     go (Read program) left = left.breaks found (in_lexemes (in_this broken))
     go (Broken other) left = left.lexemes found (in_this broken)
 
-pub at_the_end : (whole : List (List ℕ)) (file : ℕ) (reading : Reading) → length whole ≤ file →
-    Stands whole file (drop file whole) reading → IsReading whole reading
-at_the_end whole file reading all stands =
-    go reading (subst (λ (left : List (List ℕ)). Stands whole file left reading) (drop_all file whole all) stands)
+pub at_the_end : (whole : List (List ℕ)) (file : ℕ) (outcome : ParseOutcome) → length whole ≤ file →
+    Stands whole file (drop file whole) outcome → IsParseOutcome whole outcome
+at_the_end whole file outcome all stands =
+    go outcome (subst (λ (left : List (List ℕ)). Stands whole file left outcome) (drop_all file whole all) stands)
   where
-    go : (reading : Reading) → Stands whole file [] reading → IsReading whole reading
+    go : (outcome : ParseOutcome) → Stands whole file [] outcome → IsParseOutcome whole outcome
     go (Read program) left =
         left.reads program (record { lexemes = []; have_lexemes = no_text; files_read = no_file })
     go (Broken found) left = left.grammar [] no_text

@@ -12,7 +12,7 @@ use Rattle.scj_rules.specs.Syntax.FirstBreakOfLexemes.{in_this, in_another}
 use Rattle.scj_rules.specs.Syntax.FilesRead.{no_file, next_file}
 use Rattle.scj_rules.specs.Syntax.FirstBreakOfGrammar.{in_this_file, in_another_file}
 use Rattle.scj_rules.specs.Syntax.BreaksFrom.{in_lexemes, in_grammar}
-use Rattle.scj_check.proofs.GrammarLaws.{same_found, one_reading, not_read_and_broken, one_break}
+use Rattle.scj_check.proofs.GrammarLaws.{same_found, one_outcome, not_read_and_broken, one_break}
 
 -- ---- lexemes
 
@@ -59,7 +59,7 @@ one_forest : {before one other : Forest} {rows : List (List Lexeme)} → FilesRe
 one_forest no_file no_file = refl
 one_forest {other = other} (next_file {more = more} read rest) (next_file read_again rest_again) =
     one_forest rest
-    (subst (λ (f : Forest). FilesRead f more other) (sym (one_reading _ _ _ _ read read_again)) rest_again)
+    (subst (λ (f : Forest). FilesRead f more other) (sym (one_outcome _ _ _ _ read read_again)) rest_again)
 
 forest_or_break : {before after : Forest} {rows : List (List Lexeme)} {found : Found} → FilesRead before rows after →
     FirstBreakOfGrammar before rows found → ⊥
@@ -67,7 +67,7 @@ forest_or_break no_file b = elim b [ ]
 forest_or_break (next_file read rest) (in_this_file broken) = not_read_and_broken _ _ _ _ read broken
 forest_or_break {found = found} (next_file {more = more} read rest) (in_another_file read_again later) =
     forest_or_break rest
-    (subst (λ (f : Forest). FirstBreakOfGrammar f more found) (sym (one_reading _ _ _ _ read read_again)) later)
+    (subst (λ (f : Forest). FirstBreakOfGrammar f more found) (sym (one_outcome _ _ _ _ read read_again)) later)
 
 one_break_of_grammar : {before : Forest} {rows : List (List Lexeme)} {one other : Found} →
     FirstBreakOfGrammar before rows one → FirstBreakOfGrammar before rows other → one ≡ other
@@ -79,7 +79,7 @@ one_break_of_grammar (in_another_file read later) (in_this_file broken) =
 one_break_of_grammar {other = other} (in_another_file {more = more} read later)
     (in_another_file read_again later_again) =
     one_break_of_grammar later
-    (subst (λ (f : Forest). FirstBreakOfGrammar f more other) (sym (one_reading _ _ _ _ read read_again))
+    (subst (λ (f : Forest). FirstBreakOfGrammar f more other) (sym (one_outcome _ _ _ _ read read_again))
     later_again)
 
 -- ---- texts

@@ -1,4 +1,4 @@
-pub mod Readings
+pub mod ParseOutcomes
 pub mod Samples
 pub mod Texts
 pub mod Verdicts

@@ -3,10 +3,10 @@
 
 pub mod laws;
 pub mod phases;
-pub mod readings;
+pub mod parse_outcomes;
 pub mod sources;
 pub mod verdicts;
 
-pub use readings::{Reading, read};
+pub use parse_outcomes::{ParseOutcome, read};
 pub use sources::Sources;
 pub use verdicts::{Report, Verdict, check};

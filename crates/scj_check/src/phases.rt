@@ -12,7 +12,7 @@ use class_table::build;
 use node_bindings::bindings_of;
 use node_contexts::Contexts;
 use node_contexts::numbers::number_variables;
-use program_facts::Facts;
+use program_facts::ProgramFacts;
 use runs_in_check::check_uses;
 use scj_base::{Found, Memory};
 use scj_rules::{Bindings, Ty};
@@ -43,12 +43,12 @@ pub fn judge(alloc: Global, program: &Program) -> Result<Judgement, Memory>
         return Ok(Judgement::Broken(found));
     }
     let names = names_of(alloc, &table)?;
-    Ok(judge_types(alloc, &Facts::new(&table, &contexts, &names), &numbers)?)
+    Ok(judge_types(alloc, &ProgramFacts::new(&table, &contexts, &names), &numbers)?)
 }
 
 /// Judges a program that breaks no rule on classes.
 #[tactic(auto, using(scj_rules::proofs::VerdictLemmas::reported_of_types, crate::proofs::VerdictLaws::accepted_of))]
-fn judge_types(alloc: Global, facts: &Facts<'_>, numbers: &[u32]) -> Result<Judgement, Memory>
+fn judge_types(alloc: Global, facts: &ProgramFacts<'_>, numbers: &[u32]) -> Result<Judgement, Memory>
     requires right { NothingBreaks (BreaksClassRules facts.now) }
     requires numbers { numbers.now ≡ numbers_before (declarations_of facts.now) }
     ensures { IfOk result (λ judgement. IsJudgement facts.now judgement) }
@@ -68,7 +68,7 @@ fn judge_types(alloc: Global, facts: &Facts<'_>, numbers: &[u32]) -> Result<Judg
 
 /// The report of a program that breaks no rule of the phases before the scopes.
 #[tactic(auto, using(scj_rules::proofs::VerdictLemmas::reported_of_scopes))]
-fn late_report(alloc: Global, facts: &Facts<'_>, types: &[Option<Ty>]) -> Result<Vec<Found>, Memory>
+fn late_report(alloc: Global, facts: &ProgramFacts<'_>, types: &[Option<Ty>]) -> Result<Vec<Found>, Memory>
     requires right_classes { NothingBreaks (BreaksClassRules facts.now) }
     requires right_types { NothingBreaks (BreaksTypeRules facts.now) }
     requires types { types.now ≡ types_in (declarations_of facts.now) }
@@ -84,7 +84,7 @@ fn late_report(alloc: Global, facts: &Facts<'_>, types: &[Option<Ty>]) -> Result
 /// The report of annotations and uses. What is made for it alone is given back at its end.
 fn report_of_uses(
     alloc: Global,
-    facts: &Facts<'_>,
+    facts: &ProgramFacts<'_>,
     types: &[Option<Ty>],
 ) -> Result<Vec<Found>, Memory>
     requires { types.now ≡ types_in (declarations_of facts.now) }

@@ -6,7 +6,7 @@ ghost use Rattle.scj_check.specs.Texts.{texts_of};
 ghost use Rattle.scj_check.specs.Verdicts.{IsVerdict, IsVerdictOn};
 
 use crate::phases::{Judgement, judge};
-use crate::readings::{Reading, read};
+use crate::parse_outcomes::{ParseOutcome, read};
 use crate::sources::Sources;
 use scj_base::{Found, Memory};
 use scj_rules::Checked;
@@ -58,8 +58,8 @@ pub fn check(alloc: Global, sources: &Sources) -> Result<Verdict, Memory>
     ensures { IfOk result (λ verdict. IsVerdict (texts_of sources.now) verdict) }
 {
     match read(alloc, sources)? {
-        Reading::Read(program) => Ok(check_program(alloc, program)?),
-        Reading::Broken(found) => Ok(Verdict::Refused(report_of_one(alloc, found)?)),
+        ParseOutcome::Read(program) => Ok(check_program(alloc, program)?),
+        ParseOutcome::Broken(found) => Ok(Verdict::Refused(report_of_one(alloc, found)?)),
     }
 }
 

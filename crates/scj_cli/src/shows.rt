@@ -12,7 +12,7 @@ use crate::loads::load_all;
 use crate::refusals::{Refusal, ModeError};
 use crate::reports::report;
 use scj_base::{Failed, Memory, Status};
-use scj_check::{Reading, Sources, read};
+use scj_check::{ParseOutcome, Sources, read};
 use scj_io::{Shelf, Sink, put_all};
 use scj_tree::Program;
 use std::alloc::Global;
@@ -57,14 +57,14 @@ fn showing_of(alloc: Global, names: &[String], sources: &Sources) -> Result<Show
         (λ refusal. RefusesForm (Show (map string_bytes names.now)) (texts_of sources.now) refusal) }
 {
     match read(alloc, sources)? {
-        Reading::Read(program) => {
+        ParseOutcome::Read(program) => {
             let texts = canonical_texts(alloc, &program)?;
             Ok(Showing {
                 status: Status::Done,
                 texts,
             })
         }
-        Reading::Broken(found) => {
+        ParseOutcome::Broken(found) => {
             let text = report(alloc, names, &[found])?;
             let texts = alone(alloc, text.as_bytes())?;
             Ok(Showing {

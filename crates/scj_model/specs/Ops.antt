@@ -206,11 +206,11 @@ optional_ops code None = []
 optional_ops code (Some id) = ops_of code id
 
 -- one more turn of a loop, up to its next LOOP (JLS 14.12.1, 14.14.1.2)
-unfoldable pub turn_ops : Code → ℕ → Node → Option (List Op)
-turn_ops code id (While position condition body) = Some (ops_of code body ++ (ops_of code condition ++ LOOP id ∷ []))
-turn_ops code id (For position first condition step body) =
+unfoldable pub iteration_ops : Code → ℕ → Node → Option (List Op)
+iteration_ops code id (While position condition body) = Some (ops_of code body ++ (ops_of code condition ++ LOOP id ∷ []))
+iteration_ops code id (For position first condition step body) =
     Some (ops_of code body ++ (ops_of code step ++ (ops_of code condition ++ LOOP id ∷ [])))
-turn_ops code id _ = None
+iteration_ops code id _ = None
 
 -- by the condition: AND goes on with its right operand where the left one is true, and OR where it is false
 unfoldable pub put_in_front : Code → Op → Bool → Option (List Op)
@@ -222,7 +222,7 @@ put_in_front code (IF id) condition =
     option_map (λ (parts : ℕ × Option ℕ). if condition then ops_of code parts.0 else optional_ops code parts.1)
     (part code if_parts id)
 put_in_front code (LOOP id) condition =
-    option_map (λ turn. if condition then turn else []) (part code (turn_ops code id) id)
+    option_map (λ turn. if condition then turn else []) (part code (iteration_ops code id) id)
 put_in_front code _ condition = None
 
 -- ---- the node whose operation it is

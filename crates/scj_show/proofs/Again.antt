@@ -4,7 +4,7 @@ use Rattle.scj_base.specs.Vocabulary.{word_implements, sign_right_parenthesis, s
 use Rattle.scj_base.specs.declared.positions.Position.{Position}
 use Rattle.scj_base.specs.Lex.{position_behind}
 use Rattle.scj_tree.specs.declared.nodes.Node.{Node}
-use Rattle.scj_tree.specs.declared.readings.PostKind.{PostKind}
+use Rattle.scj_tree.specs.declared.parsed_parts.PostKind.{PostKind}
 use Rattle.scj_tree.specs.Lexemes.{Lexeme, a_name as name_at, a_word as word_at, a_number as number_at, a_text as text_at, a_sign as sign_at, the_end}
 use Rattle.scj_tree.specs.Terminals.{closes_name, begins_unary1, is_unary1_start, begins_with_minimum, is_minimum}
 use Rattle.scj_tree.specs.Nodes.{put}

@@ -3,7 +3,7 @@ use Rattle.std.proofs.Common.{◌≡◌, ℕ, nat_lt, Bool, true, false, List, O
 use Rattle.scj_tree.specs.declared.nodes.Node.TheVariants.{DefineScope}
 use Rattle.scj_base.specs.Vocabulary.{words, word_abstract, word_static, word_synchronized}
 use Rattle.scj_tree.specs.declared.nodes.Node.{Node}
-use Rattle.scj_tree.specs.declared.readings.FlagSet.{FlagSet}
+use Rattle.scj_tree.specs.declared.parsed_parts.FlagSet.{FlagSet}
 use Rattle.scj_tree.specs.Lexemes.{Lexeme}
 use Rattle.scj_base.specs.Lexeme.{is_digit, is_letter, is_name, is_name_byte}
 use Rattle.scj_tree.specs.Terminals.{with_flags, flags_number, flags_node, flags_at}

@@ -7,7 +7,7 @@ use Rattle.scj_base.specs.declared.positions.Position.{Position}
 use Rattle.scj_base.specs.Lex.{position_behind}
 use Rattle.scj_tree.specs.declared.nodes.Node.{Node}
 use Rattle.scj_tree.specs.declared.nodes.Node.TheVariants.{Flags, DefineScope, ScopeName}
-use Rattle.scj_tree.specs.declared.readings.FlagSet.{FlagSet}
+use Rattle.scj_tree.specs.declared.parsed_parts.FlagSet.{FlagSet}
 use Rattle.scj_tree.specs.Lexemes.{Lexeme, a_name as name_at, a_sign as sign_at}
 use Rattle.scj_base.specs.Lexeme.{is_name}
 use Rattle.scj_tree.specs.Terminals.{no_flags, placed, with_define_scope, with_scope, with_runs_in, add_modifier, with_modifier, has_effect, flags_at, flags_node, with_flags, flags_number}

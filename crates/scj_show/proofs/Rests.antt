@@ -3,8 +3,8 @@ use Rattle.std.specs.Prelude.{ℕ, Bool, List, ◌∷◌, Option}
 use Rattle.scj_base.specs.Vocabulary.{word_package, sign_semicolon}
 use Rattle.scj_base.specs.declared.positions.Position.{Position}
 use Rattle.scj_tree.specs.declared.nodes.Node.{Node}
-use Rattle.scj_tree.specs.declared.readings.FlagSet.{FlagSet}
-use Rattle.scj_tree.specs.declared.readings.PostKind.{PostKind}
+use Rattle.scj_tree.specs.declared.parsed_parts.FlagSet.{FlagSet}
+use Rattle.scj_tree.specs.declared.parsed_parts.PostKind.{PostKind}
 use Rattle.scj_tree.specs.Lexemes.{Lexeme, a_word, a_sign}
 use Rattle.scj_tree.specs.Headers.{Dotted, dotted_name, dotted_longer, Imported, imported_name, imported_all, Imports, no_imports, plain_import, static_import, PlainValue, plain_text, plain_dotted, plain_true, plain_false, PlainPair, value_alone, named_value, PlainPairs, last_pair, more_pairs, PlainArguments, no_parentheses, empty_parentheses, pairs_in_parentheses, ScopeValue, quoted_scope, bare_scope, qualified_scope, FlagRow, no_flag, modifier, effectless, scope_flag, runs_in_flag, define_scope_flag, define_scope_flag_parent_first, TypeRead, int_type, int_array, boolean_type, boolean_array, class_type, class_array, argument_type, argument_array, ResultRead, typed_result, void_result, long_result, ParameterRead, parameter, ParametersBegun, no_parameter_yet, parameter_and_comma, ParametersRead, no_parameters, parameters, SuperRead, super_type, super_type_with_argument, InterfacesBegun, no_interface_yet, interface_and_comma, HeaderRead, no_header, extends_header, implements_header, extends_implements_header}
 use Rattle.scj_tree.specs.Expressions.{Level, UnaryRead, Unary1Read, PostRead, ArgumentRead, ArgumentsBegun, ArgumentsRead, operand, tighter, binary, minus, minimum_unary, plain_unary, negation, complement, cast, post_unary, simple_name, simple_call, field_of, call_of, element_of, number, minimum_number, true_value, false_value, null_value, this_value, parenthesized, parenthesized_name, new_object, new_ints, new_booleans, new_references, expression_argument, text_argument, no_argument_yet, argument_and_comma, no_arguments, arguments}

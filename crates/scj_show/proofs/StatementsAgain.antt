@@ -7,8 +7,8 @@ use Rattle.scj_base.specs.declared.positions.Position.{Position}
 use Rattle.scj_base.specs.Lex.{position_behind}
 use Rattle.scj_tree.specs.declared.nodes.Node.{Node}
 use Rattle.scj_tree.specs.declared.nodes.Node.TheVariants.{Block, Empty, Local, LocalWithValue, ExpressionStatement, If, While, For, Return}
-use Rattle.scj_tree.specs.declared.readings.FlagSet.{FlagSet}
-use Rattle.scj_tree.specs.declared.readings.PostKind.{PostKind}
+use Rattle.scj_tree.specs.declared.parsed_parts.FlagSet.{FlagSet}
+use Rattle.scj_tree.specs.declared.parsed_parts.PostKind.{PostKind}
 use Rattle.scj_tree.specs.Lexemes.{Lexeme, a_name as name_at, a_word as word_at, a_number as number_at, a_text as text_at, a_sign as sign_at, the_end}
 use Rattle.scj_tree.specs.Terminals.{no_flags, with_flags, flags_number, flags_node, has_effect, add_modifier, begins_with_word, begins_local_flags, begins_unary1, is_unary1_start}
 use Rattle.scj_tree.specs.Headers.{FlagRow, no_flag, modifier, effectless, scope_flag, runs_in_flag, define_scope_flag, define_scope_flag_parent_first, TypeRead, int_type, int_array, boolean_type, boolean_array, class_type, class_array, argument_type, argument_array}

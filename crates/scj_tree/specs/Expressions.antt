@@ -5,8 +5,8 @@ use Rattle.scj_base.specs.Lexeme.{greatest_number}
 use Rattle.scj_base.specs.Vocabulary.{word_boolean, word_false, word_int, word_new, word_null, word_this, word_true, sign_left_parenthesis, sign_right_parenthesis, sign_left_bracket, sign_right_bracket, sign_comma, sign_dot, sign_minus, sign_not, sign_tilde}
 use Rattle.scj_tree.specs.declared.nodes.Node.{Node}
 use Rattle.scj_tree.specs.declared.nodes.Node.TheVariants.{IntType, BooleanType, ClassType, Binary, Unary, Cast, Parenthesized, SimpleName, FieldAccess, Call, Element, New, NewArray, Text, Number, True, False, Null, This}
-use Rattle.scj_tree.specs.declared.readings.PostKind.{PostKind}
-use Rattle.scj_tree.specs.declared.readings.PostKind.TheVariants.{Variable, Invocation, NewArray as ArrayKind, Value}
+use Rattle.scj_tree.specs.declared.parsed_parts.PostKind.{PostKind}
+use Rattle.scj_tree.specs.declared.parsed_parts.PostKind.TheVariants.{Variable, Invocation, NewArray as ArrayKind, Value}
 use Rattle.scj_tree.specs.Lexemes.{Lexeme, a_name, a_word, a_number, a_text, a_sign}
 use Rattle.scj_tree.specs.Nodes.{put, next}
 use Rattle.scj_tree.specs.Terminals.{unary, loosest, level, is_binary, is_minimum, indexable, begins_unary1, closes_name, begins_with_minimum}

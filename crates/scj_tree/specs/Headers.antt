@@ -6,7 +6,7 @@ use Rattle.scj_base.specs.Lexeme.{is_name}
 use Rattle.scj_base.specs.Vocabulary.{word_boolean, word_extends, word_false, word_implements, word_import, word_int, word_long, word_static, word_true, word_void, sign_left_brace, sign_left_parenthesis, sign_right_parenthesis, sign_left_bracket, sign_right_bracket, sign_semicolon, sign_comma, sign_dot, sign_at, sign_assign, sign_less, sign_greater, sign_star}
 use Rattle.scj_tree.specs.declared.nodes.Node.{Node}
 use Rattle.scj_tree.specs.declared.nodes.Node.TheVariants.{DefineScope, ScopeName, Supers, SuperType, TypeArgument, IntType, BooleanType, ClassType, VoidType, LongType, Parameters, Parameter}
-use Rattle.scj_tree.specs.declared.readings.FlagSet.{FlagSet}
+use Rattle.scj_tree.specs.declared.parsed_parts.FlagSet.{FlagSet}
 use Rattle.scj_tree.specs.Lexemes.{Lexeme, a_name, a_word, a_text, a_sign}
 use Rattle.scj_tree.specs.Nodes.{put, next}
 use Rattle.scj_tree.specs.Terminals.{no_flags, placed, with_define_scope, with_scope, with_runs_in, add_modifier, with_flags, flags_number, is_effectless, has_type_argument}

@@ -4,7 +4,7 @@ use Rattle.scj_base.specs.declared.positions.Position.{Position}
 use Rattle.scj_base.specs.Vocabulary.{word_else, word_for, word_if, word_return, word_while, sign_left_brace, sign_right_brace, sign_left_parenthesis, sign_right_parenthesis, sign_semicolon, sign_assign}
 use Rattle.scj_tree.specs.declared.nodes.Node.{Node}
 use Rattle.scj_tree.specs.declared.nodes.Node.TheVariants.{Block, Empty, Local, LocalWithValue, Assign, ExpressionStatement, If, While, For, Return, Binary, Parenthesized, SimpleName, Number}
-use Rattle.scj_tree.specs.declared.readings.PostKind.TheVariants.{Variable, Invocation}
+use Rattle.scj_tree.specs.declared.parsed_parts.PostKind.TheVariants.{Variable, Invocation}
 use Rattle.scj_tree.specs.Lexemes.{Lexeme, a_name, a_word, a_sign}
 use Rattle.scj_tree.specs.Nodes.{put, next}
 use Rattle.scj_tree.specs.Terminals.{compound, stepping, begins_with_word, begins_local_flags, with_flags, flags_number}

@@ -6,9 +6,9 @@ use Rattle.scj_base.specs.Lexeme.{greatest_number}
 use Rattle.scj_base.specs.Vocabulary.{word_abstract, word_false, word_final, word_new, word_null, word_private, word_protected, word_public, word_static, word_synchronized, word_this, word_true, sign_left_parenthesis, sign_right_parenthesis, sign_at, sign_equal, sign_not_equal, sign_less, sign_greater, sign_less_equal, sign_greater_equal, sign_plus, sign_minus, sign_star, sign_slash, sign_percent, sign_not, sign_and_and, sign_or_or, sign_and, sign_or, sign_xor, sign_tilde, sign_shift_left, sign_shift_right, sign_shift_right_unsigned, sign_plus_plus, sign_minus_minus, sign_plus_assign, sign_minus_assign, sign_star_assign, sign_slash_assign, sign_percent_assign, sign_and_assign, sign_or_assign, sign_xor_assign, sign_shift_left_assign, sign_shift_right_assign, sign_shift_right_unsigned_assign}
 use Rattle.scj_tree.specs.declared.nodes.Node.{Node}
 use Rattle.scj_tree.specs.declared.nodes.Node.TheVariants.{Flags}
-use Rattle.scj_tree.specs.declared.readings.FlagSet.{FlagSet}
-use Rattle.scj_tree.specs.declared.readings.PostKind.{PostKind}
-use Rattle.scj_tree.specs.declared.readings.PostKind.TheVariants.{Variable, Invocation, NewArray, Value}
+use Rattle.scj_tree.specs.declared.parsed_parts.FlagSet.{FlagSet}
+use Rattle.scj_tree.specs.declared.parsed_parts.PostKind.{PostKind}
+use Rattle.scj_tree.specs.declared.parsed_parts.PostKind.TheVariants.{Variable, Invocation, NewArray, Value}
 use Rattle.scj_tree.specs.Nodes.{put, next}
 use Rattle.scj_tree.specs.Lexemes.{Lexeme, a_name, a_word, a_number, a_text, a_sign, the_end}
 

@@ -8,7 +8,7 @@ pub mod lists;
 pub mod nodes;
 pub mod parts;
 pub mod programs;
-pub mod readings;
+pub mod parsed_parts;
 pub mod rows;
 
 pub use arenas::Arena;
@@ -18,5 +18,5 @@ pub use lists::{NodeList, TextBytes};
 pub use nodes::Node;
 pub use parts::{Parts, parts_of};
 pub use programs::Program;
-pub use readings::{FlagSet, PostKind};
+pub use parsed_parts::{FlagSet, PostKind};
 pub use rows::row_or;

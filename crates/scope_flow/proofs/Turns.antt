@@ -12,7 +12,7 @@ use Rattle.accepted_laws.proofs.Tools.{some_inj}
 use Rattle.scj_model.specs.declared.operations.Op.{Op}
 use Rattle.scj_model.specs.declared.operations.Op.TheVariants.{Loop as LOOP}
 use Rattle.scj_model.specs.Code.{Code}
-use Rattle.scj_model.specs.Ops.{ops_of, turn_ops}
+use Rattle.scj_model.specs.Ops.{ops_of, iteration_ops}
 use Rattle.scope_flow.specs.Signatures.{Signature, IsBody}
 use Rattle.scope_flow.specs.Needs.{IsValuePart, IsStatementPart, pushed}
 use Rattle.scope_flow.specs.Flow.{Flow, AreLoopParts}
@@ -65,8 +65,8 @@ module _ (code : Code) (facts : Facts code) (b c : ℕ) (sig : Signature) (body 
   pub turn_flow : (id : ℕ) (node : Node) → slice_get code.program.nodes id ≡ Some node → (known : List ℕ) →
       AreLoopParts code.program b c known node → (os : List Op) (s : List Kind) →
       (always_returns code.program id ≡ true) ⊎ ((ms : List ℕ) → Among known ms → F os ms s) → (turn : List Op) →
-      turn_ops code id node ≡ Some turn → F (turn ++ os) known s
-  unfolding AreLoopParts turn_ops returns_of
+      iteration_ops code id node ≡ Some turn → F (turn ++ os) known s
+  unfolding AreLoopParts iteration_ops returns_of
   turn_flow id (While position condition x) there known parts os s k turn e =
       subst (λ ys. F (ys ++ os) known s) (some_inj _ turn e)
       (subst (λ ys. F ys known s)

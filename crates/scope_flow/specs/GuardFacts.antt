@@ -6,7 +6,7 @@ use Rattle.scj_rules.specs.Guards.{ifs_around}
 use Rattle.accepted_laws.specs.Judgements.{Inside}
 use Rattle.scj_model.specs.declared.operations.Op.{Op}
 use Rattle.scj_model.specs.Code.{Code, part}
-use Rattle.scj_model.specs.Ops.{right_operand, if_parts, turn_ops, ops_of}
+use Rattle.scj_model.specs.Ops.{right_operand, if_parts, iteration_ops, ops_of}
 use Rattle.scope_flow.specs.Flow.{AreLoopParts}
 use Rattle.scope_flow.specs.Guards.{Rest, Adds}
 use Rattle.scope_flow.specs.Signatures.{Signature, IsBody}
@@ -25,7 +25,7 @@ pub record GuardFacts (code : Code) : Type 0 where
       Inside code.program b c second → Adds code (Written b) (StandingIn code id) (ops_of code second)
   pub turns : (b c id : ℕ) (known : List ℕ) (node : Node) (turn : List Op) →
       slice_get code.program.nodes id ≡ Some node → AreLoopParts code.program b c known node →
-      turn_ops code id node ≡ Some turn → Adds code (Written b) (StandingIn code id) turn
+      iteration_ops code id node ≡ Some turn → Adds code (Written b) (StandingIn code id) turn
   -- the first part of an `if` stands in that too
   pub firsts : (b c id : ℕ) (parts : ℕ × Option ℕ) → part code if_parts id ≡ Some parts →
       Inside code.program b c parts.0 → Adds code (Written b) (id ∷ StandingIn code id) (ops_of code parts.0)

@@ -10,13 +10,13 @@ ghost use Rattle.program_facts.specs.Tables.{IsTreeOf, IsWholeTree, row_of};
 
 use crate::rules::report_of;
 use crate::scopes::{find_chained, find_class_scope, find_parent, is_implied_immortal};
-use program_facts::{Facts, ScopeRow, ScopeTree};
+use program_facts::{ProgramFacts, ScopeRow, ScopeTree};
 use scj_base::{ClassId, Found, Memory};
 use std::alloc::Global;
 
 /// Whether the instances of each class lie in `IMMORTAL` although it doesn't write so.
 #[tactic(auto, unfolding(scj_tree::specs::Recursion::listed))]
-fn implied_of(alloc: Global, facts: &Facts) -> Result<Vec<bool>, Memory>
+fn implied_of(alloc: Global, facts: &ProgramFacts) -> Result<Vec<bool>, Memory>
     ensures { IfOk result (λ implied. implied.items ≡ listed (is_implied_immortal (declarations_of facts.now))
         (length (declarations_of facts.now).classes)) }
 {
@@ -29,7 +29,7 @@ fn implied_of(alloc: Global, facts: &Facts) -> Result<Vec<bool>, Memory>
 
 /// What is said of each class.
 #[tactic(auto, unfolding(scj_tree::specs::Recursion::listed, program_facts::specs::Tables::row_of))]
-fn rows_of(alloc: Global, facts: &Facts) -> Result<Vec<ScopeRow>, Memory>
+fn rows_of(alloc: Global, facts: &ProgramFacts) -> Result<Vec<ScopeRow>, Memory>
     ensures { IfOk result (λ rows. rows.items ≡ listed (row_of (declarations_of facts.now))
         (length (declarations_of facts.now).classes)) }
 {
@@ -47,7 +47,7 @@ fn rows_of(alloc: Global, facts: &Facts) -> Result<Vec<ScopeRow>, Memory>
 
 /// The tree of the scopes of a program: first what is implied of classes, by which the rest is found.
 #[tactic(auto, using(crate::proofs::TreeLemmas::rows_listed, crate::proofs::TreeLemmas::no_rows))]
-fn tree_of(alloc: Global, facts: &Facts) -> Result<ScopeTree, Memory>
+fn tree_of(alloc: Global, facts: &ProgramFacts) -> Result<ScopeTree, Memory>
     ensures tree { IfOk result (λ tree. IsTreeOf facts.now tree) }
     ensures whole { IfOk result (λ tree. IsWholeTree facts.now tree) }
 {
@@ -62,7 +62,7 @@ fn tree_of(alloc: Global, facts: &Facts) -> Result<ScopeTree, Memory>
 }
 
 /// The tree of scopes of a program, and the breaks of the rules on it in the order of a report.
-pub fn build(alloc: Global, facts: &Facts) -> Result<(ScopeTree, Vec<Found>), Memory>
+pub fn build(alloc: Global, facts: &ProgramFacts) -> Result<(ScopeTree, Vec<Found>), Memory>
     ensures tree { IfOk result (λ built. IsTreeOf facts.now built.0) }
     ensures whole { IfOk result (λ built. IsWholeTree facts.now built.0) }
     ensures found { IfOk result (λ built. IsReport (BreaksScopeRules facts.now) built.1.items) }

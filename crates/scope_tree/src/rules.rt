@@ -13,7 +13,7 @@ use crate::names::{definition_in, is_reserved, modifiers_in, position_in};
 use crate::scopes::{is_cyclic, scope_written_in};
 use class_rows::ClassTable;
 use class_rows::chains::Chain;
-use program_facts::Facts;
+use program_facts::ProgramFacts;
 use scj_base::ids::{APERIODIC_EVENT_HANDLER, MISSION, PERIODIC_EVENT_HANDLER, RUNNABLE};
 use scj_base::{ClassId, Found, Memory, Rule, ScopeId};
 use scj_rules::{Definition, Written, put_in_order, report_if};
@@ -28,7 +28,7 @@ fn is_handler(classes: &ClassTable, class: ClassId) -> bool
 }
 
 /// Whether a class of the chain writes a definition.
-fn any_defines(facts: &Facts, chain: Chain<'_>) -> bool
+fn any_defines(facts: &ProgramFacts, chain: Chain<'_>) -> bool
     ensures { result ≡ list_any (λ class. is_some (definition_in (declarations_of facts.now) class)) chain.entry }
 {
     let mut rest = chain;
@@ -41,7 +41,7 @@ fn any_defines(facts: &Facts, chain: Chain<'_>) -> bool
 }
 
 /// Whether a definition's name is reserved, or another class makes its scope.
-fn is_defined_already(facts: &Facts, class: ClassId, definition: &Definition) -> bool
+fn is_defined_already(facts: &ProgramFacts, class: ClassId, definition: &Definition) -> bool
     ensures { result ≡ is_defined_already (declarations_of facts.now) class definition.now }
 {
     if is_reserved(&definition.scope.name) {
@@ -54,7 +54,7 @@ fn is_defined_already(facts: &Facts, class: ClassId, definition: &Definition) ->
 }
 
 /// Whether a definition makes the scope of its name.
-fn makes_scope(facts: &Facts, class: ClassId, definition: &Definition) -> bool
+fn makes_scope(facts: &ProgramFacts, class: ClassId, definition: &Definition) -> bool
     ensures { result ≡ makes_scope (declarations_of facts.now) class definition.now }
 {
     match facts.scope_number(&definition.scope.name) {
@@ -64,7 +64,7 @@ fn makes_scope(facts: &Facts, class: ClassId, definition: &Definition) -> bool
 }
 
 /// Whether a class must define no scope.
-fn is_wrong_class(facts: &Facts, class: ClassId) -> bool
+fn is_wrong_class(facts: &ProgramFacts, class: ClassId) -> bool
     ensures { result ≡ is_wrong_class (declarations_of facts.now) class }
 {
     let classes = facts.classes();
@@ -75,7 +75,7 @@ fn is_wrong_class(facts: &Facts, class: ClassId) -> bool
 
 /// The scope that a class of the chain writes for its instances, the first that does.
 #[tactic(auto, using(class_rows::proofs::WalkLemmas::along_front, class_rows::proofs::WalkLemmas::along_end), unfolding(scj_rules::specs::ScopeRules::scope_written_on_chain))]
-fn scope_written_on_chain(facts: &Facts, class: ClassId) -> Option<Written>
+fn scope_written_on_chain(facts: &ProgramFacts, class: ClassId) -> Option<Written>
     ensures { result ≡ scope_written_on_chain (declarations_of facts.now) class }
 {
     let mut chain = facts.classes().superclasses(class);
@@ -88,7 +88,7 @@ fn scope_written_on_chain(facts: &Facts, class: ClassId) -> Option<Written>
 }
 
 /// Whether the instances of a class lie in the parent of its scope.
-fn lies_in_parent(facts: &Facts, class: ClassId, definition: &Definition) -> bool
+fn lies_in_parent(facts: &ProgramFacts, class: ClassId, definition: &Definition) -> bool
     ensures { result ≡ lies_in_parent (declarations_of facts.now) class definition.now }
 {
     match scope_written_on_chain(facts, class) {
@@ -99,7 +99,7 @@ fn lies_in_parent(facts: &Facts, class: ClassId, definition: &Definition) -> boo
 
 /// Whether a parent doesn't suit the class that names it.
 #[tactic(auto, unfolding(scj_rules::specs::ScopeRules::misfits_parent))]
-fn misfits_parent(facts: &Facts, class: ClassId, definition: &Definition, parent: ScopeId) -> bool
+fn misfits_parent(facts: &ProgramFacts, class: ClassId, definition: &Definition, parent: ScopeId) -> bool
     ensures { result ≡ misfits_parent (declarations_of facts.now) class definition.now parent }
 {
     let classes = facts.classes();
@@ -114,7 +114,7 @@ fn misfits_parent(facts: &Facts, class: ClassId, definition: &Definition, parent
 }
 
 /// Whether the parent is a scope, and doesn't suit the class.
-fn has_wrong_parent(facts: &Facts, class: ClassId, definition: &Definition) -> bool
+fn has_wrong_parent(facts: &ProgramFacts, class: ClassId, definition: &Definition) -> bool
     ensures { result ≡ has_wrong_parent (declarations_of facts.now) class definition.now }
 {
     match facts.scope_number(&definition.parent.name) {
@@ -127,7 +127,7 @@ fn has_wrong_parent(facts: &Facts, class: ClassId, definition: &Definition) -> b
 #[tactic(auto, unfolding(scj_rules::specs::ScopeRules::s1, scj_rules::specs::ScopeRules::s2, scj_rules::specs::ScopeRules::s3, scj_rules::specs::ScopeRules::s4, scj_rules::specs::ScopeRules::s5))]
 fn note_definition(
     found: &mut Vec<Found>,
-    facts: &Facts,
+    facts: &ProgramFacts,
     class: ClassId,
     definition: &Definition,
 ) -> Result<(), Memory>
@@ -151,7 +151,7 @@ fn note_definition(
 
 /// Notes what is broken at the definition that a class writes.
 #[tactic(auto, unfolding(scj_rules::specs::ScopeRules::definition_breaks))]
-fn note_written(found: &mut Vec<Found>, facts: &Facts, class: ClassId) -> Result<(), Memory>
+fn note_written(found: &mut Vec<Found>, facts: &ProgramFacts, class: ClassId) -> Result<(), Memory>
     ensures { OnOk result (found.new.items ≡ found.old.items ++ definition_breaks (declarations_of facts.now) class) }
 {
     match definition_in(facts.classes(), class) {
@@ -168,7 +168,7 @@ fn needs_scope(classes: &ClassTable, class: ClassId) -> bool
 }
 
 /// Whether a class of the chain of a class writes a definition.
-fn chain_defines(facts: &Facts, class: ClassId) -> bool
+fn chain_defines(facts: &ProgramFacts, class: ClassId) -> bool
     ensures { let p = declarations_of facts.now in
         result ≡ list_any (λ class. is_some (definition_in p class)) (superclasses p.classes class) }
 {
@@ -176,7 +176,7 @@ fn chain_defines(facts: &Facts, class: ClassId) -> bool
 }
 
 /// Whether no class of the chain defines the scope that a class needs.
-fn lacks_scope(facts: &Facts, class: ClassId, is_abstract: bool) -> bool
+fn lacks_scope(facts: &ProgramFacts, class: ClassId, is_abstract: bool) -> bool
     ensures { result ≡ lacks_scope (declarations_of facts.now) class is_abstract }
 {
     !is_abstract && (needs_scope(facts.classes(), class) && !chain_defines(facts, class))
@@ -184,7 +184,7 @@ fn lacks_scope(facts: &Facts, class: ClassId, is_abstract: bool) -> bool
 
 /// Notes S6 at a class, if it is a user class.
 #[tactic(auto, using(crate::proofs::PhaseLemmas::missing_at), unfolding(scj_rules::specs::ScopeRules::s6))]
-fn note_missing(found: &mut Vec<Found>, facts: &Facts, class: ClassId) -> Result<(), Memory>
+fn note_missing(found: &mut Vec<Found>, facts: &ProgramFacts, class: ClassId) -> Result<(), Memory>
     ensures { let p = declarations_of facts.now in
         OnOk result (found.new.items ≡ found.old.items ++ found_at (user_class_in p.classes class) (s6 p class)) }
 {
@@ -199,7 +199,7 @@ fn note_missing(found: &mut Vec<Found>, facts: &Facts, class: ClassId) -> Result
 }
 
 /// Notes what is broken at a class.
-fn note_class(found: &mut Vec<Found>, facts: &Facts, class: ClassId) -> Result<(), Memory>
+fn note_class(found: &mut Vec<Found>, facts: &ProgramFacts, class: ClassId) -> Result<(), Memory>
     ensures { let p = declarations_of facts.now in
         OnOk result (found.new.items ≡ found.old.items ++ at_class p (λ class row c. scope_breaks p class c) class) }
 {
@@ -210,7 +210,7 @@ fn note_class(found: &mut Vec<Found>, facts: &Facts, class: ClassId) -> Result<(
 
 /// What is broken at the classes.
 #[tactic(auto, using(crate::proofs::PhaseLemmas::classes_joined), unfolding(scj_tree::specs::Recursion::joined_below, scj_rules::specs::Phases::scope_phase))]
-fn broken_classes(alloc: Global, facts: &Facts) -> Result<Vec<Found>, Memory>
+fn broken_classes(alloc: Global, facts: &ProgramFacts) -> Result<Vec<Found>, Memory>
     ensures { IfOk result (λ found. found.items ≡ scope_phase (declarations_of facts.now)) }
 {
     let mut found = Vec::new(alloc);
@@ -221,7 +221,7 @@ fn broken_classes(alloc: Global, facts: &Facts) -> Result<Vec<Found>, Memory>
 }
 
 /// What is broken at the classes, in the order of a report.
-pub fn report_of(alloc: Global, facts: &Facts) -> Result<Vec<Found>, Memory>
+pub fn report_of(alloc: Global, facts: &ProgramFacts) -> Result<Vec<Found>, Memory>
     ensures { IfOk result (λ found. IsReport (BreaksScopeRules facts.now) found.items) }
 {
     let mut found = broken_classes(alloc, facts)?;

@@ -11,7 +11,7 @@ ghost use Rattle.class_rows.specs.Walks.{chain_from};
 
 use crate::names::{definition_in, modifiers_in};
 use class_rows::chains::Chain;
-use program_facts::Facts;
+use program_facts::ProgramFacts;
 use scj_base::ids::{MISSION, MISSION_SEQUENCER, SAFELET};
 use scj_base::{ClassId, ScopeId};
 use scj_builtins::FRAMEWORK_CLASS_COUNT;
@@ -26,7 +26,7 @@ fn is_other_than_implied(scope: ScopeId, implied: bool) -> bool
 
 /// The scope that a class defines.
 #[tactic(auto, unfolding(scj_rules::specs::ScopeRules::defined_by))]
-fn defined_by(facts: &Facts, class: ClassId) -> Option<ScopeId>
+fn defined_by(facts: &ProgramFacts, class: ClassId) -> Option<ScopeId>
     ensures { result ≡ defined_by (declarations_of facts.now) class }
 {
     let definition = definition_in(facts.classes(), class)?;
@@ -35,7 +35,7 @@ fn defined_by(facts: &Facts, class: ClassId) -> Option<ScopeId>
 
 /// The scope that the chain of a class defines, the first class that does; found anew.
 #[tactic(auto, using(class_rows::proofs::WalkLemmas::along_front, class_rows::proofs::WalkLemmas::along_end), unfolding(scj_rules::specs::ScopeRules::defined_by_chain))]
-pub(crate) fn find_chained(facts: &Facts, class: ClassId) -> Option<ScopeId>
+pub(crate) fn find_chained(facts: &ProgramFacts, class: ClassId) -> Option<ScopeId>
     ensures { result ≡ defined_by_chain (declarations_of facts.now) class }
 {
     let mut chain = facts.classes().superclasses(class);
@@ -49,7 +49,7 @@ pub(crate) fn find_chained(facts: &Facts, class: ClassId) -> Option<ScopeId>
 
 /// The parent of the scope that a class is the first to define; found anew.
 #[tactic(auto, unfolding(scj_rules::specs::ScopeRules::parent_scope))]
-pub(crate) fn find_parent(facts: &Facts, class: ClassId) -> Option<ScopeId>
+pub(crate) fn find_parent(facts: &ProgramFacts, class: ClassId) -> Option<ScopeId>
     ensures { result ≡ parent_scope (declarations_of facts.now) class }
 {
     let definition = definition_in(facts.classes(), class)?;
@@ -58,7 +58,7 @@ pub(crate) fn find_parent(facts: &Facts, class: ClassId) -> Option<ScopeId>
 
 /// The scope that the chain of a class defines.
 #[tactic(auto, unfolding(program_facts::specs::Tables::row_of))]
-pub fn defined_by_chain(facts: &Facts, class: ClassId) -> Option<ScopeId>
+pub fn defined_by_chain(facts: &ProgramFacts, class: ClassId) -> Option<ScopeId>
     ensures { result ≡ defined_by_chain (declarations_of facts.now) class }
 {
     match facts.class_reported(class.number()) {
@@ -69,7 +69,7 @@ pub fn defined_by_chain(facts: &Facts, class: ClassId) -> Option<ScopeId>
 
 /// The parent of a scope.
 #[tactic(auto, unfolding(program_facts::specs::Tables::row_of))]
-pub fn parent_scope(facts: &Facts, scope: ScopeId) -> Option<ScopeId>
+pub fn parent_scope(facts: &ProgramFacts, scope: ScopeId) -> Option<ScopeId>
     ensures { result ≡ parent_scope (declarations_of facts.now) scope }
 {
     match facts.class_reported(scope.number()) {
@@ -80,7 +80,7 @@ pub fn parent_scope(facts: &Facts, scope: ScopeId) -> Option<ScopeId>
 
 /// Where the instances of a class lie.
 #[tactic(auto, unfolding(program_facts::specs::Tables::row_of))]
-pub fn class_scope(facts: &Facts, class: ClassId) -> ClassScope
+pub fn class_scope(facts: &ProgramFacts, class: ClassId) -> ClassScope
     ensures { result ≡ class_scope (declarations_of facts.now) class }
 {
     match facts.class_reported(class.number()) {
@@ -91,7 +91,7 @@ pub fn class_scope(facts: &Facts, class: ClassId) -> ClassScope
 
 /// Whether the instances of a class lie in `IMMORTAL` although it doesn't write so.
 #[tactic(auto, unfolding(scj_rules::specs::StaticScopes::is_implied_immortal))]
-pub fn is_implied_immortal(facts: &Facts, class: ClassId) -> bool
+pub fn is_implied_immortal(facts: &ProgramFacts, class: ClassId) -> bool
     ensures { result ≡ is_implied_immortal (declarations_of facts.now) class }
 {
     if let Some(mark) = facts.implied_reported(class) {
@@ -106,7 +106,7 @@ pub fn is_implied_immortal(facts: &Facts, class: ClassId) -> bool
 
 /// Whether a scope stands on a chain of parents.
 #[tactic(auto, using(class_rows::proofs::WalkLemmas::chain_here, crate::proofs::TreeLemmas::passed_here, class_rows::proofs::WalkLemmas::chain_ended))]
-fn is_reached(facts: &Facts, a: ScopeId, from: Option<ScopeId>) -> bool
+fn is_reached(facts: &ProgramFacts, a: ScopeId, from: Option<ScopeId>) -> bool
     ensures { let p = declarations_of facts.now in
         result ≡ is_among a (chain_from (parent_scope p) (length p.classes) from) }
 {
@@ -127,7 +127,7 @@ fn is_reached(facts: &Facts, a: ScopeId, from: Option<ScopeId>) -> bool
 
 /// Whether the first scope is the second one, or lies outside it.
 #[tactic(auto, unfolding(scj_rules::specs::ScopeRules::is_outer))]
-pub fn is_outer(facts: &Facts, a: ScopeId, b: ScopeId) -> bool
+pub fn is_outer(facts: &ProgramFacts, a: ScopeId, b: ScopeId) -> bool
     ensures { result ≡ is_outer (declarations_of facts.now) a b }
 {
     a == ScopeId::IMMORTAL || is_reached(facts, a, Some(b))
@@ -135,7 +135,7 @@ pub fn is_outer(facts: &Facts, a: ScopeId, b: ScopeId) -> bool
 
 /// Whether the parents of the scope that a class is the first to define lead back to it.
 #[tactic(auto, unfolding(scj_rules::specs::Words::chain_behind))]
-pub(crate) fn is_cyclic(facts: &Facts, class: ClassId) -> bool
+pub(crate) fn is_cyclic(facts: &ProgramFacts, class: ClassId) -> bool
     ensures { result ≡ is_cyclic_scope (declarations_of facts.now) class }
 {
     let scope = ScopeId::at(class.number());
@@ -144,14 +144,14 @@ pub(crate) fn is_cyclic(facts: &Facts, class: ClassId) -> bool
 
 /// The scope that a class writes for its instances.
 #[tactic(auto, unfolding(scj_rules::specs::ScopeRules::scope_written_in))]
-pub fn scope_written_in(facts: &Facts, class: ClassId) -> Option<Written>
+pub fn scope_written_in(facts: &ProgramFacts, class: ClassId) -> Option<Written>
     ensures { result ≡ scope_written_in (declarations_of facts.now) class }
 {
     modifiers_in(facts.classes(), class)?.scope
 }
 
 /// Whether a value is written that names no scope.
-pub fn has_unknown_scope(facts: &Facts, written: &Option<Written>) -> bool
+pub fn has_unknown_scope(facts: &ProgramFacts, written: &Option<Written>) -> bool
     ensures { result ≡ has_unknown_scope (declarations_of facts.now) written.now }
 {
     match written {
@@ -161,7 +161,7 @@ pub fn has_unknown_scope(facts: &Facts, written: &Option<Written>) -> bool
 }
 
 /// Whether an annotation names another scope than this one, or none.
-fn is_not_scope(facts: &Facts, written: &Written, scope: ScopeId) -> bool
+fn is_not_scope(facts: &ProgramFacts, written: &Written, scope: ScopeId) -> bool
     ensures { result ≡ is_not_scope (declarations_of facts.now) written.now scope }
 {
     match facts.scope_number(&written.name) {
@@ -171,7 +171,7 @@ fn is_not_scope(facts: &Facts, written: &Written, scope: ScopeId) -> bool
 }
 
 /// Whether an annotation names another scope than the implied one, if one is.
-fn isnt_implied(facts: &Facts, written: &Written, implied: bool) -> bool
+fn isnt_implied(facts: &ProgramFacts, written: &Written, implied: bool) -> bool
     ensures { result ≡ list_any (is_not_scope (declarations_of facts.now) written.now) (implied_scopes implied) }
 {
     implied && is_not_scope(facts, written, ScopeId::IMMORTAL)
@@ -180,7 +180,7 @@ fn isnt_implied(facts: &Facts, written: &Written, implied: bool) -> bool
 /// Whether the scope that a class names, or else inherits, differs from its superclass's or from the implied one.
 #[tactic(auto, unfolding(scj_rules::specs::StaticScopes::differs_from_above))]
 pub fn differs_from_above(
-    facts: &Facts,
+    facts: &ProgramFacts,
     written: &Option<Written>,
     above: &ClassScope,
     implied: bool,
@@ -200,7 +200,7 @@ pub fn differs_from_above(
 /// The scope of a class whose annotation is right: as written, else as the superclass's, else as implied.
 #[tactic(auto, unfolding(scj_rules::specs::StaticScopes::scope_of_right_class))]
 fn scope_of_right_class(
-    facts: &Facts,
+    facts: &ProgramFacts,
     written: &Option<Written>,
     above: &ClassScope,
     implied: bool,
@@ -225,7 +225,7 @@ fn scope_of_right_class(
 
 /// The scope of a class, from that of its superclass.
 #[tactic(auto, unfolding(scj_rules::specs::StaticScopes::class_scope_under))]
-fn class_scope_under(facts: &Facts, above: &ClassScope, class: ClassId) -> ClassScope
+fn class_scope_under(facts: &ProgramFacts, above: &ClassScope, class: ClassId) -> ClassScope
     ensures { result ≡ class_scope_under (declarations_of facts.now) above.now class }
 {
     let written = scope_written_in(facts, class);
@@ -241,7 +241,7 @@ fn class_scope_under(facts: &Facts, above: &ClassScope, class: ClassId) -> Class
 
 /// The scope of the first class of a chain.
 #[tactic(auto, unfolding(scj_rules::specs::StaticScopes::class_scope_on))]
-fn class_scope_on(facts: &Facts, chain: Chain<'_>) -> ClassScope
+fn class_scope_on(facts: &ProgramFacts, chain: Chain<'_>) -> ClassScope
     ensures { result ≡ class_scope_on (declarations_of facts.now) chain.entry }
 {
     let mut rest = chain;
@@ -256,7 +256,7 @@ fn class_scope_on(facts: &Facts, chain: Chain<'_>) -> ClassScope
 
 /// Where the instances of a class lie; found anew.
 #[tactic(auto, unfolding(scj_rules::specs::StaticScopes::class_scope))]
-pub(crate) fn find_class_scope(facts: &Facts, class: ClassId) -> ClassScope
+pub(crate) fn find_class_scope(facts: &ProgramFacts, class: ClassId) -> ClassScope
     ensures { result ≡ class_scope (declarations_of facts.now) class }
 {
     class_scope_on(facts, facts.classes().superclasses(class))

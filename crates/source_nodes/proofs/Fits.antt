@@ -6,7 +6,7 @@ use Rattle.accepted_laws.proofs.Lists.{get_either}
 use Rattle.scj_base.specs.declared.positions.Position.{Position}
 use Rattle.scj_base.specs.Lexeme.{AllOf, greatest_number, is_name, is_text_byte}
 use Rattle.scj_tree.specs.declared.nodes.Node.{Node}
-use Rattle.scj_tree.specs.declared.readings.FlagSet.{FlagSet}
+use Rattle.scj_tree.specs.declared.parsed_parts.FlagSet.{FlagSet}
 use Rattle.scj_tree.specs.Lexemes.{Lexeme, a_name, a_word, a_number, a_text, a_sign, the_end}
 use Rattle.scj_tree.specs.Nodes.{put}
 use Rattle.scj_tree.specs.Shape.{position_of}

@@ -10,7 +10,7 @@ ghost use Rattle.method_rows.specs.Methods.{found_method};
 use crate::scopes::{is_other_scope, resolve_name, scope_or, written_scope};
 use method_rows::{MethodRef, MethodSource, builtin, declared};
 use node_views::is_method;
-use program_facts::Facts;
+use program_facts::ProgramFacts;
 use scj_base::{ClassId, Name, NodeId, ScopeId};
 use scj_builtins::{RunsInKind, framework_method};
 use scj_rules::{Scope, Written};
@@ -19,7 +19,7 @@ use scope_tree::scopes::{class_scope, defined_by_chain};
 
 /// Where a method of the name runs in a class, if the framework fixes that.
 #[tactic(auto, unfolding(scj_rules::specs::StaticScopes::fixed_for, scj_rules::specs::StaticScopes::fixed_runs_in, scj_rules::specs::StaticScopes::fixed_scope))]
-fn fixed_for(facts: &Facts, class: ClassId, name: &Name) -> Option<Scope>
+fn fixed_for(facts: &ProgramFacts, class: ClassId, name: &Name) -> Option<Scope>
     ensures { result ≡ fixed_for (declarations_of facts.now) class name.now }
 {
     let number = match &facts.classes().framework_row_named(class, name) {
@@ -59,7 +59,7 @@ pub fn method_at(program: &Program, class: ClassId, id: NodeId) -> Option<Method
 
 /// Whether `@RunsIn` of a method names no scope; of a static method, another than `CALLER`.
 #[tactic(auto, unfolding(scj_rules::specs::StaticScopes::has_unknown_runs_in))]
-pub fn has_unknown_runs_in(facts: &Facts, method: &MethodRef, written: &Written) -> bool
+pub fn has_unknown_runs_in(facts: &ProgramFacts, method: &MethodRef, written: &Written) -> bool
     ensures { result ≡ has_unknown_runs_in (declarations_of facts.now)
         (found_method facts.now.nodes method.now).method written.now }
 {
@@ -74,7 +74,7 @@ pub fn has_unknown_runs_in(facts: &Facts, method: &MethodRef, written: &Written)
 /// Whether `@RunsIn` of a method contradicts what the framework fixes.
 #[tactic(auto, unfolding(scj_rules::specs::StaticScopes::has_other_runs_in, scj_rules::specs::StaticScopes::differs_from, scj_rules::specs::StaticScopes::is_inherited_by_safelet))]
 pub fn has_other_runs_in(
-    facts: &Facts,
+    facts: &ProgramFacts,
     class: ClassId,
     method: &MethodRef,
     written: &Written,
@@ -115,7 +115,7 @@ pub fn is_plain(program: &Program, method: &MethodRef) -> bool
 /// Where a method of the name runs in a class that isn't static, where this is written of it.
 #[tactic(auto, unfolding(scj_rules::specs::StaticScopes::free_runs_in, scj_rules::specs::StaticScopes::default_runs_in))]
 fn instance_runs_in(
-    facts: &Facts,
+    facts: &ProgramFacts,
     class: ClassId,
     name: &Name,
     written: &Option<Written>,
@@ -134,7 +134,7 @@ fn instance_runs_in(
 
 /// Where a method runs before which something may be written, found anew.
 #[tactic(auto, unfolding(scj_rules::specs::StaticScopes::runs_in))]
-fn written_runs_in(facts: &Facts, class: ClassId, method: &MethodRef) -> Option<Scope>
+fn written_runs_in(facts: &ProgramFacts, class: ClassId, method: &MethodRef) -> Option<Scope>
     ensures { result ≡ runs_in (declarations_of facts.now) class (found_method facts.now.nodes method.now).method }
 {
     let declared = declared(facts.program(), method);
@@ -155,7 +155,7 @@ fn written_runs_in(facts: &Facts, class: ClassId, method: &MethodRef) -> Option<
 
 /// Where a method runs, found anew.
 #[tactic(auto, unfolding(scj_rules::specs::StaticScopes::runs_in))]
-pub fn find_runs_in(facts: &Facts, class: ClassId, method: &MethodRef) -> Option<Scope>
+pub fn find_runs_in(facts: &ProgramFacts, class: ClassId, method: &MethodRef) -> Option<Scope>
     ensures { result ≡ runs_in (declarations_of facts.now) class (found_method facts.now.nodes method.now).method }
 {
     let program = facts.program();

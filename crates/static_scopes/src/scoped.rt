@@ -18,7 +18,7 @@ use class_rows::fields::found_field;
 use method_rows::{MethodRef, MethodSource, declared, result_type};
 use node_contexts::is_static_member;
 use node_views::{field_at, is_field, is_method, is_variable, variable_at, variable_type};
-use program_facts::{Facts, Runs, Variables};
+use program_facts::{ProgramFacts, Runs, Variables};
 use scj_base::{ClassId, Memory, NodeId};
 use scj_rules::{Declared, Scope, ScopedDeclaration};
 use std::alloc::Global;
@@ -26,7 +26,7 @@ use std::collections::BTreeMap;
 
 /// The scope in which a method runs.
 #[tactic(auto, unfolding(program_facts::specs::Tables::scope_of_member, method_rows::specs::Methods::found_method, method_rows::specs::Methods::method_from, scj_rules::specs::Contexts::declarations_of))]
-pub fn runs_in(facts: &Facts, method: &MethodRef) -> Option<Scope>
+pub fn runs_in(facts: &ProgramFacts, method: &MethodRef) -> Option<Scope>
     ensures { result ≡ runs_in (declarations_of facts.now) (found_method facts.now.nodes method.now).on
         (found_method facts.now.nodes method.now).method }
 {
@@ -42,7 +42,7 @@ pub fn runs_in(facts: &Facts, method: &MethodRef) -> Option<Scope>
 
 /// The scope that is current in a member of a class.
 #[tactic(auto, unfolding(scj_rules::specs::StaticScopes::current_in, scj_rules::specs::Contexts::declarations_of))]
-fn current_in(facts: &Facts, class: ClassId, member: NodeId) -> Option<Scope>
+fn current_in(facts: &ProgramFacts, class: ClassId, member: NodeId) -> Option<Scope>
     ensures { result ≡ current_in (declarations_of facts.now) class member }
 {
     match &method_at(facts.program(), class, member) {
@@ -52,7 +52,7 @@ fn current_in(facts: &Facts, class: ClassId, member: NodeId) -> Option<Scope>
 }
 
 /// THIS where a node stands.
-pub fn this_at(facts: &Facts, id: NodeId) -> Option<Scope>
+pub fn this_at(facts: &ProgramFacts, id: NodeId) -> Option<Scope>
     ensures { result ≡ this_at (declarations_of facts.now) id }
 {
     let context = facts.context(id);
@@ -61,7 +61,7 @@ pub fn this_at(facts: &Facts, id: NodeId) -> Option<Scope>
 
 /// The scope that is current where a node stands.
 #[tactic(auto, unfolding(scj_rules::specs::UseRules::current_at))]
-pub fn current_at(facts: &Facts, id: NodeId) -> Option<Scope>
+pub fn current_at(facts: &ProgramFacts, id: NodeId) -> Option<Scope>
     ensures { result ≡ current_at (declarations_of facts.now) id }
 {
     let context = facts.context(id);
@@ -70,7 +70,7 @@ pub fn current_at(facts: &Facts, id: NodeId) -> Option<Scope>
 
 /// The scope of a method's result. Most are no references, which the type tells.
 #[tactic(auto, unfolding(method_rows::specs::Methods::found_method, scj_rules::specs::StaticScopes::declaration_scope))]
-pub fn result_scope(facts: &Facts, method: &MethodRef) -> Option<Scope>
+pub fn result_scope(facts: &ProgramFacts, method: &MethodRef) -> Option<Scope>
     ensures { result ≡ result_scope (declarations_of facts.now) (found_method facts.now.nodes method.now).on
         (found_method facts.now.nodes method.now).method }
 {
@@ -86,7 +86,7 @@ pub fn result_scope(facts: &Facts, method: &MethodRef) -> Option<Scope>
 
 /// The scope of a parameter of a member of a class, where this scope is current.
 pub fn scope_in(
-    facts: &Facts,
+    facts: &ProgramFacts,
     class: ClassId,
     current: &Option<Scope>,
     is_static: bool,
@@ -101,7 +101,7 @@ pub fn scope_in(
 
 /// The scope of a method's parameter. Most are no references, which the type tells.
 #[tactic(auto, unfolding(method_rows::specs::Methods::found_method, scj_rules::specs::StaticScopes::declaration_scope))]
-pub fn parameter_scope(facts: &Facts, method: &MethodRef, parameter: &Declared) -> Option<Scope>
+pub fn parameter_scope(facts: &ProgramFacts, method: &MethodRef, parameter: &Declared) -> Option<Scope>
     ensures { result ≡ parameter_scope (declarations_of facts.now) (found_method facts.now.nodes method.now).on
         (found_method facts.now.nodes method.now).method parameter.now }
 {
@@ -115,7 +115,7 @@ pub fn parameter_scope(facts: &Facts, method: &MethodRef, parameter: &Declared) 
 
 /// The scope of the field for which a row stands.
 #[tactic(auto, unfolding(program_facts::specs::Tables::scope_of_member, class_rows::specs::Fields::found_field, scj_rules::specs::Contexts::declarations_of))]
-pub fn field_scope(facts: &Facts, field: &FieldRef) -> Option<Scope>
+pub fn field_scope(facts: &ProgramFacts, field: &FieldRef) -> Option<Scope>
     ensures { let f = found_field facts.now.nodes field.now in
         result ≡ field_scope (declarations_of facts.now) f.on f.field }
 {
@@ -130,7 +130,7 @@ pub fn field_scope(facts: &Facts, field: &FieldRef) -> Option<Scope>
 
 /// The parameter or local that a node declares, as a thing.
 #[tactic(auto, unfolding(scj_rules::specs::AnnotationRules::scoped_variable_at, scj_rules::specs::Contexts::declarations_of))]
-pub fn scoped_variable_at(facts: &Facts, id: NodeId) -> Option<ScopedDeclaration>
+pub fn scoped_variable_at(facts: &ProgramFacts, id: NodeId) -> Option<ScopedDeclaration>
     ensures { result ≡ scoped_variable_at (declarations_of facts.now) id }
 {
     let context = facts.context(id);
@@ -146,7 +146,7 @@ pub fn scoped_variable_at(facts: &Facts, id: NodeId) -> Option<ScopedDeclaration
 
 /// The scope of the parameter or local that a node declares, found anew. Its type may tell that there is none.
 #[tactic(auto, using(crate::proofs::VariableLemmas::plain_type))]
-fn find_variable_scope(facts: &Facts, id: NodeId) -> Option<Scope>
+fn find_variable_scope(facts: &ProgramFacts, id: NodeId) -> Option<Scope>
     ensures { result ≡ variable_scope_at (declarations_of facts.now) id }
 {
     if let Some(declared_type) = &variable_type(facts.program(), id) {
@@ -161,7 +161,7 @@ fn find_variable_scope(facts: &Facts, id: NodeId) -> Option<Scope>
 }
 
 /// The scope of the parameter or local that a node declares.
-pub fn variable_scope(facts: &Facts, id: NodeId) -> Option<Scope>
+pub fn variable_scope(facts: &ProgramFacts, id: NodeId) -> Option<Scope>
     ensures { result ≡ variable_scope_at (declarations_of facts.now) id }
 {
     match facts.variable_reported(id) {
@@ -172,7 +172,7 @@ pub fn variable_scope(facts: &Facts, id: NodeId) -> Option<Scope>
 
 /// What is said of the member that a node declares in its class.
 #[tactic(auto, unfolding(program_facts::specs::Tables::run_at, program_facts::specs::Tables::scope_of_member, scj_rules::specs::Contexts::declarations_of))]
-fn run_at(facts: &Facts, id: NodeId) -> Option<Scope>
+fn run_at(facts: &ProgramFacts, id: NodeId) -> Option<Scope>
     ensures { result ≡ run_at (declarations_of facts.now) id }
 {
     let context = facts.context(id);
@@ -186,7 +186,7 @@ fn run_at(facts: &Facts, id: NodeId) -> Option<Scope>
 }
 
 /// What is said of the fields and methods of a program.
-fn rows_of(alloc: Global, facts: &Facts) -> Result<BTreeMap<usize, Option<Scope>>, Memory>
+fn rows_of(alloc: Global, facts: &ProgramFacts) -> Result<BTreeMap<usize, Option<Scope>>, Memory>
     ensures { IfOk result (AreRunRows (declarations_of facts.now)) }
 {
     let classes = facts.classes();
@@ -198,7 +198,7 @@ fn rows_of(alloc: Global, facts: &Facts) -> Result<BTreeMap<usize, Option<Scope>
 }
 
 /// Where the methods of a program run, and its fields lie.
-pub fn runs_of(alloc: Global, facts: &Facts) -> Result<Runs, Memory>
+pub fn runs_of(alloc: Global, facts: &ProgramFacts) -> Result<Runs, Memory>
     ensures { IfOk result (λ runs. AreRuns facts.now runs) }
 {
     let rows = rows_of(alloc, facts)?;
@@ -206,7 +206,7 @@ pub fn runs_of(alloc: Global, facts: &Facts) -> Result<Runs, Memory>
 }
 
 /// The scopes of the variables that nodes declare and that have one.
-pub fn variables_of(alloc: Global, facts: &Facts) -> Result<Variables, Memory>
+pub fn variables_of(alloc: Global, facts: &ProgramFacts) -> Result<Variables, Memory>
     ensures { IfOk result (λ variables. AreVariables facts.now variables) }
 {
     let program = facts.program();

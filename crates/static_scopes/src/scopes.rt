@@ -4,7 +4,7 @@ ghost use Rattle.std.specs.Prelude.{◌≡◌, option_map};
 ghost use Rattle.scj_rules.specs.Contexts.{declarations_of};
 ghost use Rattle.scj_rules.specs.StaticScopes.{are_same_scope, beside, fits, substitute, scope_or, this_in, resolve_name, is_other_scope, resolved_scope, written_scope};
 
-use program_facts::Facts;
+use program_facts::ProgramFacts;
 use scj_base::{ClassId, Name};
 use scj_rules::{ClassScope, Resolution, Scope};
 use scope_tree::scopes::class_scope;
@@ -75,7 +75,7 @@ pub fn scope_or(scope: &ClassScope, other: &Option<Scope>) -> Option<Scope>
 
 /// Where the objects of a class lie, as their own methods say it.
 #[tactic(auto, unfolding(scj_rules::specs::StaticScopes::this_in))]
-pub fn this_in(facts: &Facts, class: ClassId) -> Option<Scope>
+pub fn this_in(facts: &ProgramFacts, class: ClassId) -> Option<Scope>
     ensures { result ≡ this_in (declarations_of facts.now) class }
 {
     scope_or(&class_scope(facts, class), &Some(Scope::This))
@@ -84,7 +84,7 @@ pub fn this_in(facts: &Facts, class: ClassId) -> Option<Scope>
 /// What a name in an annotation denotes, in a class and where a scope is current.
 #[tactic(auto, unfolding(scj_rules::specs::StaticScopes::resolve_name))]
 pub fn resolve_name(
-    facts: &Facts,
+    facts: &ProgramFacts,
     class: ClassId,
     current: &Option<Scope>,
     name: &Name,
@@ -120,7 +120,7 @@ pub fn resolved_scope(resolution: &Resolution) -> Option<Scope>
 /// The scope that a name denotes, in a class and where a scope is current.
 #[tactic(auto, unfolding(scj_rules::specs::StaticScopes::written_scope))]
 pub fn written_scope(
-    facts: &Facts,
+    facts: &ProgramFacts,
     class: ClassId,
     current: &Option<Scope>,
     name: &Name,

@@ -8,7 +8,7 @@ ghost use Rattle.scj_rules.specs.StaticScopes.{class_scope, has_no_scope, type_s
 use crate::scopes::{
     are_same_scope, is_other_scope, resolve_name, resolved_scope, scope_or, this_in,
 };
-use program_facts::Facts;
+use program_facts::ProgramFacts;
 use scj_base::{ClassId, Name, ScopeId};
 use scj_rules::{ClassScope, Declared, Resolution, Scope, ScopedDeclaration, Written, WrittenType};
 use scope_tree::scopes::{class_scope, is_outer};
@@ -30,7 +30,7 @@ pub fn has_no_scope(declared_type: &WrittenType) -> bool
 
 /// Where all values of a type lie.
 #[tactic(auto, unfolding(scj_rules::specs::StaticScopes::type_scope, scj_rules::specs::ClassRules::class_written))]
-fn type_scope(facts: &Facts, declared_type: &WrittenType) -> ClassScope
+fn type_scope(facts: &ProgramFacts, declared_type: &WrittenType) -> ClassScope
     ensures { result ≡ type_scope (declarations_of facts.now) declared_type.now }
 {
     match declared_type {
@@ -45,7 +45,7 @@ fn type_scope(facts: &Facts, declared_type: &WrittenType) -> ClassScope
 /// What a name denotes in the annotation of a declaration. Some names denote nothing here, though they do elsewhere:
 /// `UNKNOWN` off a local or parameter, `THIS` in a static member of an unannotated class, and `CALLER` on a field.
 #[tactic(auto, unfolding(scj_rules::specs::StaticScopes::resolve_at, scj_rules::specs::StaticScopes::denotes_nothing, scj_rules::specs::StaticScopes::is_unannotated))]
-fn resolve_at(facts: &Facts, thing: &ScopedDeclaration, name: &Name) -> Resolution
+fn resolve_at(facts: &ProgramFacts, thing: &ScopedDeclaration, name: &Name) -> Resolution
     ensures { result ≡ resolve_at (declarations_of facts.now) thing.now name.now }
 {
     if name.bytes() == b"UNKNOWN".as_slice() {
@@ -68,7 +68,7 @@ fn resolve_at(facts: &Facts, thing: &ScopedDeclaration, name: &Name) -> Resoluti
 
 /// Whether the name in the annotation of a declaration denotes nothing.
 #[tactic(auto, unfolding(scj_rules::specs::StaticScopes::is_unknown_scope))]
-pub fn is_unknown_scope(facts: &Facts, thing: &ScopedDeclaration, written: &Written) -> bool
+pub fn is_unknown_scope(facts: &ProgramFacts, thing: &ScopedDeclaration, written: &Written) -> bool
     ensures { result ≡ is_unknown_scope (declarations_of facts.now) thing.now written.now }
 {
     matches!(
@@ -79,7 +79,7 @@ pub fn is_unknown_scope(facts: &Facts, thing: &ScopedDeclaration, written: &Writ
 
 /// Whether a written scope contradicts the type of a thing.
 #[tactic(auto, unfolding(scj_rules::specs::StaticScopes::contradicts))]
-pub fn contradicts(facts: &Facts, thing: &ScopedDeclaration, written: &Written) -> bool
+pub fn contradicts(facts: &ProgramFacts, thing: &ScopedDeclaration, written: &Written) -> bool
     ensures { result ≡ contradicts (declarations_of facts.now) thing.now written.now }
 {
     if has_no_scope(&thing.declared_type) {
@@ -96,7 +96,7 @@ pub fn contradicts(facts: &Facts, thing: &ScopedDeclaration, written: &Written) 
 
 /// The scope of a thing.
 #[tactic(auto, unfolding(scj_rules::specs::StaticScopes::declaration_scope, scj_rules::specs::StaticScopes::scope_as_written))]
-pub fn declaration_scope(facts: &Facts, thing: &ScopedDeclaration) -> Option<Scope>
+pub fn declaration_scope(facts: &ProgramFacts, thing: &ScopedDeclaration) -> Option<Scope>
     ensures { result ≡ declaration_scope (declarations_of facts.now) thing.now }
 {
     if has_no_scope(&thing.declared_type) {
@@ -140,7 +140,7 @@ pub fn scoped_in_member(
 }
 
 /// A field as a thing.
-pub fn scoped_field(facts: &Facts, class: ClassId, field: &Declared) -> ScopedDeclaration
+pub fn scoped_field(facts: &ProgramFacts, class: ClassId, field: &Declared) -> ScopedDeclaration
     ensures { result ≡ scoped_field (declarations_of facts.now) class field.now }
 {
     let modifiers = field.modifiers;
@@ -163,7 +163,7 @@ pub fn scoped_field(facts: &Facts, class: ClassId, field: &Declared) -> ScopedDe
 
 /// Whether a field may have a scope.
 #[tactic(auto, unfolding(scj_rules::specs::StaticScopes::suits_field, scj_rules::specs::StaticScopes::is_outer_of))]
-fn suits_field(facts: &Facts, class: &ClassScope, is_static: bool, scope: &Scope) -> bool
+fn suits_field(facts: &ProgramFacts, class: &ClassScope, is_static: bool, scope: &Scope) -> bool
     ensures { result ≡ suits_field (declarations_of facts.now) class.now is_static scope.now }
 {
     let in_immortal = are_same_scope(scope, &Scope::In(ScopeId::IMMORTAL));
@@ -181,7 +181,7 @@ fn suits_field(facts: &Facts, class: &ClassScope, is_static: bool, scope: &Scope
 }
 
 /// Whether a field of a class that lies in a scope, if in any, may not lie there.
-pub fn misfits(facts: &Facts, class: ClassId, is_static: bool, scope: &Option<Scope>) -> bool
+pub fn misfits(facts: &ProgramFacts, class: ClassId, is_static: bool, scope: &Option<Scope>) -> bool
     ensures { let p = declarations_of facts.now in
         result ≡ holds scope.now (λ s. not (suits_field p (class_scope p class) is_static s)) }
 {
@@ -193,7 +193,7 @@ pub fn misfits(facts: &Facts, class: ClassId, is_static: bool, scope: &Option<Sc
 
 /// The scope of a field, found anew.
 #[tactic(auto, unfolding(scj_rules::specs::StaticScopes::field_scope, scj_rules::specs::StaticScopes::misfits_field))]
-pub fn find_field_scope(facts: &Facts, class: ClassId, field: &Declared) -> Option<Scope>
+pub fn find_field_scope(facts: &ProgramFacts, class: ClassId, field: &Declared) -> Option<Scope>
     ensures { result ≡ field_scope (declarations_of facts.now) class field.now }
 {
     let thing = scoped_field(facts, class, field);

@@ -13,7 +13,7 @@ ghost use Rattle.type_words.specs.Returns.{all_returns};
 use crate::kinds::type_of_kind;
 use crate::nodes::judge;
 use crate::rows::filled;
-use program_facts::{At, Facts, NodeMeaning};
+use program_facts::{At, ProgramFacts, NodeMeaning};
 use scj_base::{Found, Memory, NodeId};
 use scj_rules::{Ty, put_in_order};
 use std::alloc::Global;
@@ -25,7 +25,7 @@ use type_words::returning;
 #[tactic(auto, unfolding(scj_rules::specs::TypeRules::type_of_next, scj_rules::specs::Contexts::declarations_of), using(crate::proofs::KindLemmas::none_of_kind, crate::proofs::KindLemmas::typed_by_kind, crate::proofs::PassLemmas::broken_type, crate::proofs::PassLemmas::right_type))]
 fn next_type(
     found: &mut Vec<Found>,
-    facts: &Facts<'_>,
+    facts: &ProgramFacts<'_>,
     rows: &mut Vec<NodeMeaning>,
     types: &[Option<Ty>],
     returns: &[bool],
@@ -63,7 +63,7 @@ fn next_type(
 /// alone, so one pass tells all three.
 pub fn check_types(
     alloc: Global,
-    facts: &Facts<'_>,
+    facts: &ProgramFacts<'_>,
 ) -> Result<(Vec<Option<Ty>>, Vec<Found>, Vec<NodeMeaning>), Memory>
     ensures types { IfOk result (λ r. r.0.items ≡ types_in (declarations_of facts.now)) }
     ensures report { IfOk result (λ r. IsReport (BreaksTypeRules facts.now) r.1.items) }

@@ -6,7 +6,7 @@ ghost use Rattle.scj_rules.specs.Types.{all_types, array_of, is_form_part};
 ghost use Rattle.scj_rules.specs.TypeRules.{class_type_named, written_type};
 ghost use Rattle.program_facts.specs.Reported.{declared, types};
 
-use program_facts::{At, Facts};
+use program_facts::{At, ProgramFacts};
 use scj_base::{Name, NodeId};
 use scj_rules::Ty;
 use type_rules::arguments::are_typed;
@@ -14,7 +14,7 @@ use type_rules::forms::is_form_part;
 use type_rules::names::array_written;
 
 /// The type of a class where it is named.
-pub fn class_named(facts: &Facts<'_>, name: &Name) -> Option<Ty>
+pub fn class_named(facts: &ProgramFacts<'_>, name: &Name) -> Option<Ty>
     ensures { result ≡ class_type_named (declarations_of facts.now) name.now }
 {
     Some(Ty::Class(facts.class_of(name)?))

@@ -10,7 +10,7 @@ ghost use Rattle.program_facts.specs.Reported.{declared, types};
 
 use crate::names::{assigns, type_written};
 use method_rows::MethodRef;
-use program_facts::{At, Facts};
+use program_facts::{At, ProgramFacts};
 use scj_base::{ClassId, NodeId};
 use scj_rules::{Ty, WrittenType};
 
@@ -40,7 +40,7 @@ pub fn are_typed(at: &At<'_>, ids: &[NodeId]) -> bool
 
 /// How many parameters there are.
 #[tactic(auto, unfolding(crate::specs::Parameters::taken))]
-fn count(facts: &Facts<'_>, takes: &Takes) -> usize
+fn count(facts: &ProgramFacts<'_>, takes: &Takes) -> usize
     ensures { result ≡ length (taken facts.now.nodes takes.now) }
 {
     match takes {
@@ -51,7 +51,7 @@ fn count(facts: &Facts<'_>, takes: &Takes) -> usize
 
 /// The type of the parameter of a number.
 #[tactic(auto, unfolding(crate::specs::Parameters::taken))]
-fn parameter_type(facts: &Facts<'_>, takes: &Takes, i: usize) -> Option<WrittenType>
+fn parameter_type(facts: &ProgramFacts<'_>, takes: &Takes, i: usize) -> Option<WrittenType>
     ensures { result ≡ parameter_type (taken facts.now.nodes takes.now) i }
 {
     match takes {
@@ -61,7 +61,7 @@ fn parameter_type(facts: &Facts<'_>, takes: &Takes, i: usize) -> Option<WrittenT
 }
 
 /// Whether a value of a type fits a parameter or a result of the type that is written.
-fn takes_value(facts: &Facts<'_>, written: &WrittenType, t: &Ty) -> bool
+fn takes_value(facts: &ProgramFacts<'_>, written: &WrittenType, t: &Ty) -> bool
     ensures { result ≡ takes_value (declarations_of facts.now) t.now written.now }
 {
     match type_written(facts, written) {
@@ -111,7 +111,7 @@ pub(crate) fn misfit_typed(at: &At<'_>, takes: &Takes, ids: &[NodeId], typed: bo
 
 /// The parameters of a class's constructor: none where none is written (JLS 8.8.9).
 #[tactic(auto, using(crate::proofs::ArgumentLemmas::constructor_takes), unfolding(crate::specs::Parameters::taken))]
-pub fn constructor_parameters(facts: &Facts<'_>, class: ClassId) -> Takes
+pub fn constructor_parameters(facts: &ProgramFacts<'_>, class: ClassId) -> Takes
     ensures { taken facts.now.nodes result ≡ constructor_parameters (declarations_of facts.now).classes class }
 {
     match facts.classes().constructor_in(class) {
@@ -122,7 +122,7 @@ pub fn constructor_parameters(facts: &Facts<'_>, class: ClassId) -> Takes
 
 /// Whether the constructor of a class takes arguments.
 #[tactic(auto, unfolding(scj_rules::specs::Classes::is_empty))]
-pub fn takes_arguments(facts: &Facts<'_>, class: ClassId) -> bool
+pub fn takes_arguments(facts: &ProgramFacts<'_>, class: ClassId) -> bool
     ensures { result ≡ takes_arguments (declarations_of facts.now) class }
 {
     count(facts, &constructor_parameters(facts, class)) > 0

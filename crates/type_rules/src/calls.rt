@@ -22,7 +22,7 @@ use crate::names::call_receiver;
 use crate::results::call_type;
 use crate::statements::has_framework_size;
 use method_rows::{MethodRef, is_callable_row, is_static, result_type};
-use program_facts::{At, Facts, NodeMeaning};
+use program_facts::{At, ProgramFacts, NodeMeaning};
 use scj_base::ids::{OBJECT, SAFELET};
 use scj_base::{ClassId, Found, Memory, Name, NodeId, Position, Rule};
 use scj_builtins::{ClassKind, FRAMEWORK_CLASS_COUNT};
@@ -31,7 +31,7 @@ use type_words::{is_long, is_no_reference, is_value};
 
 /// Whether a method isn't callable, as size methods aren't, or not on this receiver: a static one through a value.
 #[tactic(auto, unfolding(method_rows::specs::Methods::found_method))]
-fn cannot_be_called(facts: &Facts<'_>, receiver: &Receiver, method: &MethodRef) -> bool
+fn cannot_be_called(facts: &ProgramFacts<'_>, receiver: &Receiver, method: &MethodRef) -> bool
     ensures { result ≡ cannot_be_called (declarations_of facts.now) receiver.now
         (found_method facts.now.nodes method.now) }
 {
@@ -135,7 +135,7 @@ pub fn misfits_new(at: &At<'_>, name: &Name, arguments: &[NodeId]) -> bool
 
 /// Whether the class of a name has no objects of its own, and is no part of a form.
 #[tactic(auto, unfolding(scj_rules::specs::Types::is_form, scj_rules::specs::Types::is_concrete))]
-fn is_never_made(facts: &Facts<'_>, name: &Name) -> bool
+fn is_never_made(facts: &ProgramFacts<'_>, name: &Name) -> bool
     ensures { result ≡ holds (class_number (declarations_of facts.now).names name.now)
         (kind_is is_never_made (declarations_of facts.now)) }
 {
@@ -164,7 +164,7 @@ pub fn is_misplaced_form(at: &At<'_>, name: &Name) -> bool
 }
 
 /// Whether the constructor of a class calls its superclass's without writing so, and that takes arguments.
-fn misfits_super(facts: &Facts<'_>, class: ClassId) -> bool
+fn misfits_super(facts: &ProgramFacts<'_>, class: ClassId) -> bool
     ensures { result ≡ (calls_unwritten (declarations_of facts.now) class && holds
         (superclass_in (declarations_of facts.now).classes class) (takes_arguments (declarations_of facts.now))) }
 {
@@ -179,7 +179,7 @@ fn misfits_super(facts: &Facts<'_>, class: ClassId) -> bool
 
 /// Whether a constructor that takes arguments is called without any: by a class below, or of the safelet.
 #[tactic(auto, unfolding(scj_rules::specs::TypeRules::misfits_class, scj_rules::specs::Types::is_concrete))]
-pub fn misfits_class(facts: &Facts<'_>, class: ClassId) -> bool
+pub fn misfits_class(facts: &ProgramFacts<'_>, class: ClassId) -> bool
     ensures { result ≡ misfits_class (declarations_of facts.now) class }
 {
     if misfits_super(facts, class) {
@@ -191,7 +191,7 @@ pub fn misfits_class(facts: &Facts<'_>, class: ClassId) -> bool
 }
 
 /// Whether the form is missing with which the constructor of a class has to begin.
-pub fn lacks_form(facts: &Facts<'_>, class: ClassId) -> bool
+pub fn lacks_form(facts: &ProgramFacts<'_>, class: ClassId) -> bool
     ensures { result ≡ lacks_form (declarations_of facts.now) class }
 {
     let Some(superclass) = facts.classes().superclass(class) else {

@@ -13,7 +13,7 @@ ghost use Rattle.program_facts.specs.Reported.{declared, types};
 use crate::names::assigns;
 use class_rows::FieldRef;
 use class_rows::fields::is_static_field;
-use program_facts::{At, Facts};
+use program_facts::{At, ProgramFacts};
 use scj_base::{Name, NodeId};
 use scj_builtins::ClassKind;
 use scj_rules::{Receiver, Ty};
@@ -42,7 +42,7 @@ pub fn misfits_length(at: &At<'_>, length: NodeId) -> bool
 
 /// Whether the class of a name is a part of a form.
 #[tactic(auto, unfolding(scj_rules::specs::Types::is_form))]
-pub fn is_form_named(facts: &Facts<'_>, name: &Name) -> bool
+pub fn is_form_named(facts: &ProgramFacts<'_>, name: &Name) -> bool
     ensures { result ≡ holds (class_number (declarations_of facts.now).names name.now)
         (kind_is is_form (declarations_of facts.now)) }
 {
@@ -54,7 +54,7 @@ pub fn is_form_named(facts: &Facts<'_>, name: &Name) -> bool
 
 /// Whether the elements of an array are parts of a form.
 #[tactic(auto, unfolding(scj_rules::specs::TypeRules::element_class, scj_rules::specs::Contexts::declarations_of))]
-pub fn has_form_elements(facts: &Facts<'_>, element: NodeId) -> bool
+pub fn has_form_elements(facts: &ProgramFacts<'_>, element: NodeId) -> bool
     ensures { result ≡ holds (read (declarations_of facts.now).nodes
         (element_class (declarations_of facts.now)) element) (kind_is is_form (declarations_of facts.now)) }
 {
@@ -76,7 +76,7 @@ pub fn misfits_cast(at: &At<'_>, name: &Name, operand: NodeId) -> bool
 }
 
 /// Whether no object is at hand: a class is named, or no object is written and there is none here.
-pub fn lacks_object(facts: &Facts<'_>, id: NodeId, receiver: &Receiver) -> bool
+pub fn lacks_object(facts: &ProgramFacts<'_>, id: NodeId, receiver: &Receiver) -> bool
     ensures { result ≡ lacks_object (declarations_of facts.now) id receiver.now }
 {
     names_class(receiver) || (!is_value(receiver) && !facts.has_object(id))
@@ -85,7 +85,7 @@ pub fn lacks_object(facts: &Facts<'_>, id: NodeId, receiver: &Receiver) -> bool
 /// Whether there is no such field of a receiver, or a static one through a value.
 #[tactic(auto, unfolding(scj_rules::specs::TypeRules::lacks_field))]
 pub fn lacks_field(
-    facts: &Facts<'_>,
+    facts: &ProgramFacts<'_>,
     receiver: &Receiver,
     name: &Name,
     field: &Option<FieldRef>,

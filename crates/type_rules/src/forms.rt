@@ -7,7 +7,7 @@ ghost use Rattle.scj_rules.specs.Contexts.{declarations_of};
 ghost use Rattle.scj_rules.specs.Types.{new_of, is_new, release_part, have_priority_and_storage, form_parts, has_form, super_call_in, form_in, is_form_part};
 
 use crate::names::when;
-use program_facts::Facts;
+use program_facts::ProgramFacts;
 use scj_base::ids::{
     APERIODIC_EVENT_HANDLER, APERIODIC_PARAMETERS, MISSION_SEQUENCER, PERIODIC_EVENT_HANDLER,
     PERIODIC_PARAMETERS, PRIORITY_PARAMETERS, RELATIVE_TIME, STORAGE_PARAMETERS,
@@ -17,7 +17,7 @@ use scj_tree::Node;
 
 /// The arguments of `new class(..)` at this node, where they are so many.
 #[tactic(auto, unfolding(scj_rules::specs::Types::new_of, scj_rules::specs::Contexts::declarations_of))]
-fn new_of<'a>(facts: &Facts<'a>, class: ClassId, count: usize, id: NodeId) -> Option<&'a [NodeId]>
+fn new_of<'a>(facts: &ProgramFacts<'a>, class: ClassId, count: usize, id: NodeId) -> Option<&'a [NodeId]>
     ensures { option_copied result ≡ read (declarations_of facts.now).nodes
         (new_of (declarations_of facts.now) class count) id }
 {
@@ -35,7 +35,7 @@ fn new_of<'a>(facts: &Facts<'a>, class: ClassId, count: usize, id: NodeId) -> Op
 }
 
 /// Whether `new class(..)` with so many arguments stands at this node.
-fn is_new(facts: &Facts<'_>, class: ClassId, count: usize, id: NodeId) -> bool
+fn is_new(facts: &ProgramFacts<'_>, class: ClassId, count: usize, id: NodeId) -> bool
     ensures { result ≡ is_new (declarations_of facts.now) class count id }
 {
     new_of(facts, class, count, id).is_some()
@@ -43,7 +43,7 @@ fn is_new(facts: &Facts<'_>, class: ClassId, count: usize, id: NodeId) -> bool
 
 /// Of the release parameters of a handler's form, where this is them: whether a node is among their parts.
 #[tactic(auto, unfolding(scj_rules::specs::Types::release_part, scj_rules::specs::Types::periodic_part))]
-fn release_part(facts: &Facts<'_>, superclass: ClassId, id: NodeId, asked: NodeId) -> Option<bool>
+fn release_part(facts: &ProgramFacts<'_>, superclass: ClassId, id: NodeId, asked: NodeId) -> Option<bool>
     ensures { result ≡ option_map (is_among asked) (release_part (declarations_of facts.now) superclass id) }
 {
     if superclass != PERIODIC_EVENT_HANDLER {
@@ -61,7 +61,7 @@ fn release_part(facts: &Facts<'_>, superclass: ClassId, id: NodeId, asked: NodeI
 }
 
 /// Whether the first and the last argument are those of a form.
-fn have_priority_and_storage(facts: &Facts<'_>, priority: NodeId, storage: NodeId) -> bool
+fn have_priority_and_storage(facts: &ProgramFacts<'_>, priority: NodeId, storage: NodeId) -> bool
     ensures { result ≡ have_priority_and_storage (declarations_of facts.now) priority storage }
 {
     is_new(facts, PRIORITY_PARAMETERS, 1, priority) && is_new(facts, STORAGE_PARAMETERS, 1, storage)
@@ -70,7 +70,7 @@ fn have_priority_and_storage(facts: &Facts<'_>, priority: NodeId, storage: NodeI
 /// Of the `new` parts of a super call's arguments, where they are the form of this superclass: whether a node is one.
 #[tactic(auto, unfolding(scj_rules::specs::Types::form_parts))]
 fn form_parts(
-    facts: &Facts<'_>,
+    facts: &ProgramFacts<'_>,
     superclass: ClassId,
     arguments: &[NodeId],
     asked: NodeId,
@@ -106,7 +106,7 @@ pub fn has_form(class: ClassId) -> bool
 }
 
 /// The arguments of the super call of a class's constructor.
-pub fn super_arguments<'a>(facts: &Facts<'a>, class: ClassId) -> Option<&'a [NodeId]>
+pub fn super_arguments<'a>(facts: &ProgramFacts<'a>, class: ClassId) -> Option<&'a [NodeId]>
     ensures { option_copied result ≡ super_call_in (declarations_of facts.now) class }
 {
     node_views::super_call_arguments(facts.program(), facts.classes().constructor_in(class)?)
@@ -114,7 +114,7 @@ pub fn super_arguments<'a>(facts: &Facts<'a>, class: ClassId) -> Option<&'a [Nod
 
 /// Of the parts of the form in a class's constructor, if it has one: whether a node is among them.
 #[tactic(auto, unfolding(scj_rules::specs::Types::form_in))]
-pub fn form_in(facts: &Facts<'_>, class: ClassId, asked: NodeId) -> Option<bool>
+pub fn form_in(facts: &ProgramFacts<'_>, class: ClassId, asked: NodeId) -> Option<bool>
     ensures { result ≡ option_map (is_among asked) (form_in (declarations_of facts.now) class) }
 {
     let superclass = facts.classes().superclass(class)?;
@@ -126,7 +126,7 @@ pub fn form_in(facts: &Facts<'_>, class: ClassId, asked: NodeId) -> Option<bool>
 
 /// Whether the node is one of the parts of its class's form.
 #[tactic(auto, unfolding(scj_rules::specs::Types::is_form_part))]
-pub fn is_form_part(facts: &Facts<'_>, id: NodeId) -> bool
+pub fn is_form_part(facts: &ProgramFacts<'_>, id: NodeId) -> bool
     ensures { result ≡ is_form_part (declarations_of facts.now) id }
 {
     let context = facts.context(id);

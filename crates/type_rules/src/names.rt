@@ -12,7 +12,7 @@ ghost use Rattle.program_facts.specs.Reported.{declared, types};
 
 use class_rows::FieldRef;
 use method_rows::MethodRef;
-use program_facts::{At, Facts, NameMeaning, NodeMeaning};
+use program_facts::{At, ProgramFacts, NameMeaning, NodeMeaning};
 use scj_base::vocabulary::{
     AND_AND, EQUAL, GREATER, GREATER_EQUAL, LESS, LESS_EQUAL, NOT_EQUAL, OR_OR,
 };
@@ -23,7 +23,7 @@ use type_words::{are_same, array_of, class_of_receiver, is_reference};
 
 /// The type that is written; `long` is none of the types of an expression.
 #[tactic(auto, unfolding(scj_rules::specs::Types::type_written))]
-pub fn type_written(facts: &Facts<'_>, t: &WrittenType) -> Option<Ty>
+pub fn type_written(facts: &ProgramFacts<'_>, t: &WrittenType) -> Option<Ty>
     ensures { result ≡ type_written (declarations_of facts.now).names t.now }
 {
     match t {
@@ -41,7 +41,7 @@ pub fn type_written(facts: &Facts<'_>, t: &WrittenType) -> Option<Ty>
 
 /// The type that a node writes, of which no name is copied.
 #[tactic(auto, unfolding(scj_rules::specs::Contexts::declarations_of, scj_rules::specs::Types::type_written, scj_rules::specs::Views::type_of_node))]
-pub fn written_type(facts: &Facts<'_>, node: NodeId) -> Option<Ty>
+pub fn written_type(facts: &ProgramFacts<'_>, node: NodeId) -> Option<Ty>
     ensures { result ≡ written_type (declarations_of facts.now) node }
 {
     match facts.program().get(node) {
@@ -59,7 +59,7 @@ pub fn written_type(facts: &Facts<'_>, node: NodeId) -> Option<Ty>
 }
 
 /// The type of a new array of what is written.
-pub fn array_written(facts: &Facts<'_>, element: NodeId) -> Option<Ty>
+pub fn array_written(facts: &ProgramFacts<'_>, element: NodeId) -> Option<Ty>
     ensures { result ≡ option_and_then array_of (written_type (declarations_of facts.now) element) }
 {
     let t = written_type(facts, element)?;
@@ -68,7 +68,7 @@ pub fn array_written(facts: &Facts<'_>, element: NodeId) -> Option<Ty>
 
 /// Whether a value of the first type may be assigned to a variable of the second (JLS 5.2).
 #[tactic(auto, unfolding(scj_rules::specs::Types::assigns, scj_rules::specs::Types::are_same))]
-pub fn assigns(facts: &Facts<'_>, s: &Ty, t: &Ty) -> bool
+pub fn assigns(facts: &ProgramFacts<'_>, s: &Ty, t: &Ty) -> bool
     ensures { result ≡ assigns (declarations_of facts.now).classes s.now t.now }
 {
     match (s, t) {
@@ -86,7 +86,7 @@ fn are_both(a: &Ty, b: &Ty, t: &Ty) -> bool
 }
 
 /// Whether both are ints, booleans, or references of which one may be assigned to the other (JLS 15.21).
-fn are_comparable(facts: &Facts<'_>, a: &Ty, b: &Ty) -> bool
+fn are_comparable(facts: &ProgramFacts<'_>, a: &Ty, b: &Ty) -> bool
     ensures { result ≡ are_comparable (declarations_of facts.now).classes a.now b.now }
 {
     are_both(a, b, &Ty::Int)
@@ -103,7 +103,7 @@ pub fn when<T: Copy>(test: bool, value: T) -> Option<T>
 
 /// The type of a binary operator's value, if the operands' types fit (JLS 15.17 to 15.24).
 #[tactic(auto, unfolding(scj_rules::specs::Types::binary_type))]
-pub fn binary_type(facts: &Facts<'_>, operator: u8, a: &Ty, b: &Ty) -> Option<Ty>
+pub fn binary_type(facts: &ProgramFacts<'_>, operator: u8, a: &Ty, b: &Ty) -> Option<Ty>
     ensures { result ≡ binary_type (declarations_of facts.now).classes operator a.now b.now }
 {
     match operator {
@@ -116,7 +116,7 @@ pub fn binary_type(facts: &Facts<'_>, operator: u8, a: &Ty, b: &Ty) -> Option<Ty
 
 /// What a name stands for at a node (JLS 6.5).
 #[tactic(auto, using(program_facts::proofs::VariableLemmas::first), unfolding(program_facts::specs::Meanings::meant, scj_rules::specs::Types::meaning, scj_rules::specs::Types::class_meaning))]
-pub fn meaning(facts: &Facts<'_>, id: NodeId, name: &Name) -> NameMeaning
+pub fn meaning(facts: &ProgramFacts<'_>, id: NodeId, name: &Name) -> NameMeaning
     ensures { meant facts.now.nodes result ≡ meaning (declarations_of facts.now) id name.now }
 {
     let context = facts.context(id);
@@ -139,7 +139,7 @@ pub fn meaning(facts: &Facts<'_>, id: NodeId, name: &Name) -> NameMeaning
 
 /// What a node that is this name stands for. Where its row tells it, nothing is looked up.
 #[tactic(auto, unfolding(program_facts::specs::Meanings::IsMeaningAt))]
-pub fn meaning_there(facts: &Facts<'_>, id: NodeId, name: &Name) -> NameMeaning
+pub fn meaning_there(facts: &ProgramFacts<'_>, id: NodeId, name: &Name) -> NameMeaning
     requires { read facts.now.nodes simply_named id ≡ Some name.now }
     ensures { meant facts.now.nodes result ≡ meaning (declarations_of facts.now) id name.now }
 {

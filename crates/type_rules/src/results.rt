@@ -12,7 +12,7 @@ ghost use Rattle.program_facts.specs.Meanings.{meant};
 use crate::names::{type_written, written_type};
 use class_rows::FieldRef;
 use method_rows::{MethodRef, result_type};
-use program_facts::{Facts, NameMeaning};
+use program_facts::{ProgramFacts, NameMeaning};
 use scj_base::Name;
 use scj_rules::{Receiver, Ty};
 use scj_tree::Node;
@@ -20,7 +20,7 @@ use type_words::{is_array_value, is_length};
 
 /// The type of a field, of which no name is copied.
 #[tactic(auto, unfolding(class_rows::specs::Fields::found_field, scj_rules::specs::Views::field_of, scj_rules::specs::Types::type_written, scj_rules::specs::Contexts::declarations_of))]
-fn type_of_field(facts: &Facts<'_>, field: &FieldRef) -> Option<Ty>
+fn type_of_field(facts: &ProgramFacts<'_>, field: &FieldRef) -> Option<Ty>
     ensures { result ≡ type_written (declarations_of facts.now).names
         (found_field facts.now.nodes field.now).field.declared_type }
 {
@@ -32,7 +32,7 @@ fn type_of_field(facts: &Facts<'_>, field: &FieldRef) -> Option<Ty>
 
 /// The type of what a name stands for.
 #[tactic(auto, unfolding(program_facts::specs::Meanings::meant, scj_rules::specs::TypeRules::type_of_meaning, scj_rules::specs::Views::variable_of, scj_rules::specs::Contexts::declarations_of))]
-pub fn type_of_meaning(facts: &Facts<'_>, meaning: &NameMeaning) -> Option<Ty>
+pub fn type_of_meaning(facts: &ProgramFacts<'_>, meaning: &NameMeaning) -> Option<Ty>
     ensures { result ≡ type_of_meaning (declarations_of facts.now) (meant facts.now.nodes meaning.now) }
 {
     match meaning {
@@ -50,7 +50,7 @@ pub fn type_of_meaning(facts: &Facts<'_>, meaning: &NameMeaning) -> Option<Ty>
 /// The type of an array's length, or of the field that a receiver has.
 #[tactic(auto, unfolding(scj_rules::specs::TypeRules::access_type))]
 pub fn access_type(
-    facts: &Facts<'_>,
+    facts: &ProgramFacts<'_>,
     receiver: &Receiver,
     name: &Name,
     field: &Option<FieldRef>,
@@ -69,7 +69,7 @@ pub fn access_type(
 }
 
 /// The type of a call: the result of the method that a receiver has.
-pub fn call_type(facts: &Facts<'_>, method: &Option<MethodRef>) -> Option<Ty>
+pub fn call_type(facts: &ProgramFacts<'_>, method: &Option<MethodRef>) -> Option<Ty>
     ensures { result ≡ option_and_then (λ (f : FoundMethod). declared_type_of
         (declarations_of facts.now) f.method.declared) (option_map (found_method facts.now.nodes) method.now) }
 {

@@ -16,14 +16,14 @@ use crate::forms::has_form;
 use crate::names::{assigns, receiver, written_type};
 use method_rows::result_type;
 use node_views::position_at;
-use program_facts::{At, Facts};
+use program_facts::{At, ProgramFacts};
 use scj_base::{ClassId, Found, Memory, Name, NodeId, Rule};
 use scj_rules::{Ty, report_if};
 use scj_tree::{Node, Program, row_or};
 use type_words::{are_same, is_array_value, is_length, is_long, is_size_body};
 
 /// Whether a value can't be assigned to the target, where both have types.
-fn misfits_value(facts: &Facts<'_>, target: &Option<Ty>, value: &Option<Ty>) -> bool
+fn misfits_value(facts: &ProgramFacts<'_>, target: &Option<Ty>, value: &Option<Ty>) -> bool
     ensures { result ≡ misfits_value (declarations_of facts.now) target.now value.now }
 {
     match (target, value) {
@@ -156,7 +156,7 @@ pub fn misfits_result(at: &At<'_>, value: NodeId) -> bool
 /// Whether a body with a result doesn't always return, by the nodes that do.
 #[tactic(auto, using(type_words::proofs::ReturnLemmas::body_returns), unfolding(scj_rules::specs::Contexts::declarations_of))]
 pub fn ends_without_return(
-    facts: &Facts<'_>,
+    facts: &ProgramFacts<'_>,
     returns: &[bool],
     result_type: NodeId,
     body: NodeId,
@@ -168,7 +168,7 @@ pub fn ends_without_return(
 }
 
 /// Whether the framework has a method of the name for the class, whose result is `long`.
-pub fn has_framework_size(facts: &Facts<'_>, class: ClassId, name: &Name) -> bool
+pub fn has_framework_size(facts: &ProgramFacts<'_>, class: ClassId, name: &Name) -> bool
     ensures { result ≡ has_framework_size (declarations_of facts.now) class name.now }
 {
     match facts.classes().framework_row_named(class, name) {
@@ -180,7 +180,7 @@ pub fn has_framework_size(facts: &Facts<'_>, class: ClassId, name: &Name) -> boo
 /// Whether a method has the result `long`, and isn't one of the framework's size methods or has another body than these.
 #[tactic(auto, unfolding(scj_rules::specs::TypeRules::misfits_size, scj_rules::specs::Contexts::declarations_of))]
 pub fn misfits_long(
-    facts: &Facts<'_>,
+    facts: &ProgramFacts<'_>,
     id: NodeId,
     name: &Name,
     result_type: NodeId,

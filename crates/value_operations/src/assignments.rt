@@ -12,7 +12,7 @@ ghost use Rattle.region_heap.specs.Contents.{live_object};
 ghost use Rattle.job_frames.specs.Frames.{frame_of};
 ghost use Rattle.job_frames.specs.EffectsSeen.{Does, world};
 
-use crate::readings::slot_of;
+use crate::node_queries::slot_of;
 use job_frames::{Effect, Frame};
 use op_list::OpList;
 use region_heap::RegionHeap;

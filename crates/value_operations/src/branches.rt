@@ -78,7 +78,7 @@ pub fn choose(frame: &mut Frame, row: &Row) -> Effect
 }
 
 /// LOOP: one more turn comes next, or none (JLS 14.12, 14.14).
-pub fn turn(frame: &mut Frame, row: &Row) -> Effect
+pub fn iterate(frame: &mut Frame, row: &Row) -> Effect
     ensures does { (code : Listing) (id : ℕ) → Chooses code row.now (LOOP id) frame.old.position →
         Does code (loop_op (code_of code.program) (frame_of code frame.old) id) result frame.new }
     ensures opened { frame.new.opened ≡ frame.old.opened }

@@ -8,11 +8,11 @@ mod branches;
 mod leaves;
 mod names;
 mod operators;
-mod readings;
+mod node_queries;
 
 pub use arrays::{elem, length, put_elem};
 pub use assignments::{init, put, put_static, store, zero};
-pub use branches::{and, choose, or, turn};
+pub use branches::{and, choose, or, iterate};
 pub use leaves::{drop, leave, leave_with};
 pub use names::{get, get_static, load, push, this};
 pub use operators::{bin, cast, unary};

@@ -14,7 +14,7 @@ ghost use Rattle.region_heap.specs.Contents.{live_object};
 ghost use Rattle.job_frames.specs.Frames.{frame_of};
 ghost use Rattle.job_frames.specs.EffectsSeen.{Does, world};
 
-use crate::readings::is_sub;
+use crate::node_queries::is_sub;
 use job_frames::{Effect, Frame};
 use op_list::OpList;
 use region_heap::RegionHeap;

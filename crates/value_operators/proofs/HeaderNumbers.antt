@@ -2,7 +2,7 @@
 use Rattle.std.proofs.Common.{ℕ, Bool, true, false, List, Option, Some, None, if◌then◌else◌}
 use Rattle.scj_base.specs.declared.positions.Position.{Position}
 use Rattle.scj_tree.specs.declared.nodes.Node.{Node}
-use Rattle.scj_tree.specs.declared.readings.FlagSet.{FlagSet}
+use Rattle.scj_tree.specs.declared.parsed_parts.FlagSet.{FlagSet}
 use Rattle.scj_tree.specs.Lexemes.{Lexeme}
 use Rattle.scj_tree.specs.Nodes.{put}
 use Rattle.scj_tree.specs.Terminals.{flags_at, flags_node, has_effect, with_flags}

@@ -19,7 +19,7 @@ use Rattle.scj_rules.specs.Words.{◌>>=◌}
 use Rattle.scj_model.specs.declared.operations.Op.{Op}
 use Rattle.scj_model.specs.declared.operations.Op.TheVariants.{Push as PUSH, This as THIS, Elem as ELEM, Unary as UNARY, And as AND, Or as OR, AllocArray as ALLOCARRAY, Cast as CAST, Zero as ZERO, Store as STORE, If as IF, Loop as LOOP, Leave as LEAVE, Drop as DROP, Init as INIT}
 use Rattle.scj_model.specs.Code.{Code, binding, part}
-use Rattle.scj_model.specs.Ops.{assign_ops, body_ops, constructor_ops, if_parts, leaves_value, literal_ops, method_ops, next_ops, node_of, node_ops, ops_of, optional_ops, put_in_front, right_operand, super_ops, turn_ops, unwritten_super_ops}
+use Rattle.scj_model.specs.Ops.{assign_ops, body_ops, constructor_ops, if_parts, leaves_value, literal_ops, method_ops, next_ops, node_of, node_ops, ops_of, optional_ops, put_in_front, right_operand, super_ops, iteration_ops, unwritten_super_ops}
 use Rattle.scope_flow.specs.Pushers.{Pusher}
 use Rattle.scope_flow.specs.Ways.{Comes, at_entry, behind, into}
 use Rattle.audited_runs.proofs.proper.Nodes.{AllDeclared, AllStand, Stands, all_of, behind_part, both, either, leave, of_access, of_assign, of_binary, of_call, of_name, of_new, of_return, of_super, one}
@@ -163,8 +163,8 @@ module _ (code : Code)
   no_front : Fronts None
   no_front = record { is = λ front e. absurd (cc (e)) }
 
-  of_turn : (id : ℕ) → Stands code.program.nodes id → (node : Node) → Fronts (turn_ops code id node)
-  unfolding turn_ops node_of
+  of_turn : (id : ℕ) → Stands code.program.nodes id → (node : Node) → Fronts (iteration_ops code id node)
+  unfolding iteration_ops node_of
   of_turn id here (While position condition body) =
       fronts _ (both code _ _ (all_stand body) (behind_part code (ops_of code) all_stand id here condition (LOOP id) refl))
   of_turn id here (For position first condition step body) =
@@ -198,10 +198,10 @@ module _ (code : Code)
   turn_front b None h = no_front
   turn_front b (Some turn) h = fronts _ (either code b _ _ (h.is turn refl) tt)
 
-  of_part : (id : ℕ) → Fronts (part code (turn_ops code id) id)
+  of_part : (id : ℕ) → Fronts (part code (iteration_ops code id) id)
   of_part id = go (slice_get code.program.nodes id) refl
     where
-      go : (o : Option Node) → slice_get code.program.nodes id ≡ o → Fronts (o >>= turn_ops code id)
+      go : (o : Option Node) → slice_get code.program.nodes id ≡ o → Fronts (o >>= iteration_ops code id)
       go None e = no_front
       go (Some node) e = of_turn id (ap is_some e) node
 
@@ -210,7 +210,7 @@ module _ (code : Code)
   of_front (AND id) condition = right_front condition (part code right_operand id)
   of_front (OR id) condition = left_front condition (part code right_operand id)
   of_front (IF id) condition = parts_front condition (part code if_parts id)
-  of_front (LOOP id) condition = turn_front condition (part code (turn_ops code id) id) (of_part id)
+  of_front (LOOP id) condition = turn_front condition (part code (iteration_ops code id) id) (of_part id)
   of_front _ condition = no_front
 
   -- ---- on a way through a body

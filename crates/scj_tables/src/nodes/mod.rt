@@ -8,7 +8,7 @@ mod lines;
 use case_tables::TableError;
 use lines::{print_list, print_node};
 use scj_base::NodeId;
-use scj_check::{Reading, Sources, read};
+use scj_check::{ParseOutcome, Sources, read};
 use scj_io::Shelf;
 use scj_tree::Program;
 use std::alloc::Global;
@@ -34,8 +34,8 @@ pub fn print_program<S: Shelf, W: Write>(
         add_file(alloc, shelf, &mut sources, path)?;
     }
     match read(alloc, &sources)? {
-        Reading::Read(program) => print(&program, name, out),
-        Reading::Broken(_) => Err(TableError::BadLine),
+        ParseOutcome::Read(program) => print(&program, name, out),
+        ParseOutcome::Broken(_) => Err(TableError::BadLine),
     }
 }
 

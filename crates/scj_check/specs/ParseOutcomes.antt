@@ -9,30 +9,30 @@ use Rattle.scj_rules.specs.Syntax.{Reads, ReadsFrom, BreaksSyntax, BreaksFrom, B
 use Rattle.scj_tree.specs.Files.{BreaksGrammar, FileRead}
 use Rattle.scj_lexer.specs.declared.texts.LexError.{LexError}
 use Rattle.scj_lexer.specs.declared.texts.LexError.TheVariants as lexer
-use Rattle.scj_check.specs.declared.readings.Reading.{Reading}
-use Rattle.scj_check.specs.declared.readings.Reading.TheVariants.{Read, Broken}
+use Rattle.scj_check.specs.declared.parse_outcomes.ParseOutcome.{ParseOutcome}
+use Rattle.scj_check.specs.declared.parse_outcomes.ParseOutcome.TheVariants.{Read, Broken}
 
 -- the program of the texts, or the break that is told of them
-abbrev pub IsReading : List (List ℕ) → Reading → Type 0
-IsReading texts (Read program) = Reads texts program
-IsReading texts (Broken found) = BreaksSyntax texts found
+abbrev pub IsParseOutcome : List (List ℕ) → ParseOutcome → Type 0
+IsParseOutcome texts (Read program) = Reads texts program
+IsParseOutcome texts (Broken found) = BreaksSyntax texts found
 
 -- ---- one text after the other
 
 -- a program has this number of files
-abbrev pub HasFiles : ℕ → Reading → Type 0
+abbrev pub HasFiles : ℕ → ParseOutcome → Type 0
 HasFiles count (Read program) = length program.files ≡ count
 HasFiles count (Broken found) = Unit {0}
 
 -- what one file's lexemes make of what was read before
-abbrev pub Goes : List Lexeme → Reading → Reading → Type 0
+abbrev pub Goes : List Lexeme → ParseOutcome → ParseOutcome → Type 0
 Goes lexemes (Read before) (Read after) = FileRead before lexemes after
 Goes lexemes (Read before) (Broken found) = BreaksGrammar before.nodes lexemes found
 Goes lexemes (Broken found) (Read after) = ⊥
 Goes lexemes (Broken found) (Broken again) = again ≡ found
 
 -- what one file's text makes of it
-pub record GoesOn (file : ℕ) (text : List ℕ) (before after : Reading) : Type 0 where
+pub record GoesOn (file : ℕ) (text : List ℕ) (before after : ParseOutcome) : Type 0 where
   pub tokens : List Token
   pub lexed : Lex file text tokens
   pub goes : Goes (lexemes_of text tokens) before after
@@ -52,6 +52,6 @@ pub record StandsBroken (whole : List (List ℕ)) (file : ℕ) (rest : List (Lis
   pub lexemes : (other : Found) → FirstBreakOfLexemes file rest other → BreaksSyntax whole other
   pub grammar : (lexemes : List (List Lexeme)) → HaveLexemes file rest lexemes → BreaksSyntax whole found
 
-abbrev pub Stands : List (List ℕ) → ℕ → List (List ℕ) → Reading → Type 0
+abbrev pub Stands : List (List ℕ) → ℕ → List (List ℕ) → ParseOutcome → Type 0
 Stands whole file rest (Read program) = StandsRead whole file rest program
 Stands whole file rest (Broken found) = StandsBroken whole file rest found

@@ -1,6 +1,6 @@
 use Rattle.std.proofs.Common.{◌≡◌, length, Some}
 use Rattle.program_facts.specs.Reported.{seek}
-use Rattle.program_facts.proofs.facts.Facts.variable_from.Given as goal
+use Rattle.program_facts.proofs.facts.ProgramFacts.variable_from.Given as goal
 
 -- the rest of the variables has the one of the name
 abbrev pub invariant-loop-left : goal.invariant-loop-left

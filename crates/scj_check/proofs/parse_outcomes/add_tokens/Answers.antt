@@ -1,5 +1,5 @@
 use Rattle.std.proofs.Common.{Err, ap}
-use Rattle.scj_check.proofs.readings.add_tokens.Goals as goal
+use Rattle.scj_check.proofs.parse_outcomes.add_tokens.Goals as goal
 
 pub returns-in-Ok-clause-ok : goal.returns-in-Ok-clause-ok
 returns-in-Ok-clause-ok c = c.in-Ok.ensures.ok

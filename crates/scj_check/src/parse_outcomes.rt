@@ -4,8 +4,8 @@ ghost use Rattle.std.specs.Prelude.{◌≡◌, [], ◌+◌, ◌<◌, ◌≤◌, 
 ghost use Rattle.scj_base.specs.Lex.{Lex};
 ghost use Rattle.scj_tree.specs.Lexemes.{lexemes_of};
 ghost use Rattle.scj_check.specs.Texts.{texts_of};
-ghost use Rattle.scj_check.specs.Readings.{IsReading, HasFiles, Goes, GoesOn, RefusesText};
-ghost use Rattle.scj_check.specs.declared.readings.Reading.TheVariants.{Read};
+ghost use Rattle.scj_check.specs.ParseOutcomes.{IsParseOutcome, HasFiles, Goes, GoesOn, RefusesText};
+ghost use Rattle.scj_check.specs.declared.parse_outcomes.ParseOutcome.TheVariants.{Read};
 
 use crate::sources::Sources;
 use scj_base::{Found, Memory, Tokens};
@@ -20,7 +20,7 @@ const BYTES_A_NODE: usize = 6;
 
 /// What sources are read as.
 #[derive(Drop)]
-pub enum Reading {
+pub enum ParseOutcome {
     /// Their program.
     Read(Program),
     /// The break of the lexemes or of the grammar that is told of them.
@@ -40,24 +40,24 @@ fn empty_program(alloc: Global, sources: &Sources) -> Result<Program, Memory>
 /// # Errors
 ///
 /// `Memory` may come at any sources.
-pub fn read(alloc: Global, sources: &Sources) -> Result<Reading, Memory>
-    ensures { IfOk result (λ reading. IsReading (texts_of sources.now) reading) }
+pub fn read(alloc: Global, sources: &Sources) -> Result<ParseOutcome, Memory>
+    ensures { IfOk result (λ outcome. IsParseOutcome (texts_of sources.now) outcome) }
 {
     let program = empty_program(alloc, sources)?;
-    let mut reading = Reading::Read(program);
+    let mut outcome = ParseOutcome::Read(program);
     for file in 0..sources.len() {
-        reading = match add_text(alloc, file as u8, sources.text(file), reading) {
+        outcome = match add_text(alloc, file as u8, sources.text(file), outcome) {
             Ok(more) => more,
-            Err(LexError::Bad(found)) => return Ok(Reading::Broken(found)),
+            Err(LexError::Bad(found)) => return Ok(ParseOutcome::Broken(found)),
             Err(LexError::Memory) => return Err(Memory),
         };
     }
-    Ok(reading)
+    Ok(outcome)
 }
 
 /// What was read before with one more file. A break of the grammar stays, since the lexemes of later files may
 /// still have one, which is told in its place.
-fn add_text(alloc: Global, file: u8, text: &[u8], before: Reading) -> Result<Reading, LexError>
+fn add_text(alloc: Global, file: u8, text: &[u8], before: ParseOutcome) -> Result<ParseOutcome, LexError>
     requires few { file < 16 }
     requires short { length text.now ≤ 1048576 }
     requires next { HasFiles file before }
@@ -67,8 +67,8 @@ fn add_text(alloc: Global, file: u8, text: &[u8], before: Reading) -> Result<Rea
 {
     let tokens = lex(alloc, file, text)?;
     match before {
-        Reading::Read(program) => Ok(add_tokens(alloc, file, &tokens, text, program)?),
-        Reading::Broken(found) => Ok(Reading::Broken(found)),
+        ParseOutcome::Read(program) => Ok(add_tokens(alloc, file, &tokens, text, program)?),
+        ParseOutcome::Broken(found) => Ok(ParseOutcome::Broken(found)),
     }
 }
 
@@ -79,7 +79,7 @@ fn add_tokens(
     tokens: &Tokens,
     text: &[u8],
     program: Program,
-) -> Result<Reading, Memory>
+) -> Result<ParseOutcome, Memory>
     requires few { file < 16 }
     requires next { file ≡ length program.files }
     requires tokens { Lex file text.now tokens.now }
@@ -88,8 +88,8 @@ fn add_tokens(
 {
     let mut program = program;
     match parse(alloc, file, tokens, text, &mut program) {
-        Ok(()) => Ok(Reading::Read(program)),
-        Err(ParseError::Bad(found)) => Ok(Reading::Broken(found)),
+        Ok(()) => Ok(ParseOutcome::Read(program)),
+        Err(ParseError::Bad(found)) => Ok(ParseOutcome::Broken(found)),
         Err(ParseError::Memory) => Err(Memory),
     }
 }
