@@ -2,7 +2,7 @@
 
 ghost use Rattle.std.specs.Prelude.{◌≡◌, option_map};
 ghost use Rattle.scj_rules.specs.Words.{holds};
-ghost use Rattle.scj_rules.specs.Views.{modifiers_at, variable_at, field_at, method_at, class_at, DeclaredMethod, WrittenClass};
+ghost use Rattle.scj_rules.specs.Views.{modifiers_at, variable_at, field_at, method_at, DeclaredMethod};
 ghost use Rattle.scj_rules.specs.declared.views.Declared.{Declared as Declaration};
 ghost use Rattle.node_views.specs.Parts.{naming};
 
@@ -71,17 +71,6 @@ pub fn is_abstract_method(program: &Program, id: NodeId) -> bool
 {
     match program.get(id) {
         Some(Node::Method { flags, .. }) => is_abstract_at(program, *flags),
-        _ => false,
-    }
-}
-
-/// Whether a node declares an abstract class.
-#[tactic(auto, unfolding(scj_rules::specs::Views::class_of))]
-pub fn is_abstract_class(program: &Program, id: NodeId) -> bool
-    ensures { result ≡ holds (class_at program.now.nodes id) (λ (c : WrittenClass). c.modifiers.is_abstract) }
-{
-    match program.get(id) {
-        Some(Node::Class { flags, .. }) => is_abstract_at(program, *flags),
         _ => false,
     }
 }

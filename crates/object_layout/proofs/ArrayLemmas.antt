@@ -3,20 +3,14 @@ use Rattle.std.proofs.Common.{◌≡◌, ℕ, ◌+◌, ◌-◌, ◌<◌, ◌≤�
 use Rattle.std.proofs.lemmas.Bool.Decides.{nat_tests}
 use Rattle.std.proofs.lemmas.Bool.{lt-ltb}
 use Rattle.scj_rules.specs.Contexts.{Declarations}
-use Rattle.scj_rules.specs.Layout.{element_kind, class_of_elements}
-use Rattle.object_layout.specs.Arrays.{kind_behind, class_behind}
+use Rattle.scj_rules.specs.Layout.{element_kind}
+use Rattle.object_layout.specs.Arrays.{kind_behind}
 
 module _ (p : Declarations) (class count : ℕ) (named : count ≡ length p.names) where
   pub no_array : class < count → element_kind p class ≡ None
   unfolding element_kind
   no_array l = (let t : nat_lt class (length p.names) ≡ true = lt-ltb class (length p.names) (omega (arith, l, named))
       in rw t refl)
-
-  pub no_elements : class < count → class_of_elements p class ≡ None
-  unfolding class_of_elements
-  no_elements l =
-      (let t : nat_lt class (length p.names + 2) ≡ true = lt-ltb class (length p.names + 2) (omega (arith, l, named)) in
-      rw t refl)
 
   pub kind_of_array : count ≤ class → kind_behind (class - count) count ≡ element_kind p class
   unfolding element_kind kind_behind
@@ -27,29 +21,3 @@ module _ (p : Declarations) (class count : ℕ) (named : count ≡ length p.name
       let b : (class - count == 1) ≡ (class == n + 1) = grind (arith, nat_tests, named, l) in
       let d : nat_lt (class - count) (2 + count) ≡ nat_lt class (n + 2 + n) = grind (arith, nat_tests, named, l) in
       rw (t, a, b, d) refl
-
-  pub class_of_array : count ≤ class → class_behind (class - count) count ≡ class_of_elements p class
-  unfolding class_of_elements class_behind
-  class_of_array l =
-      let n : ℕ = length p.names in
-      let a : nat_lt (class - count) 2 ≡ nat_lt class (n + 2) = grind (arith, nat_tests, named, l) in
-      let b : nat_lt (class - count - 2) count ≡ nat_lt (class - count - 2) n = ap (nat_lt (class - count - 2)) named in
-      let e : class - count - 2 ≡ class - (n + 2) = omega (arith, named) in
-      rw (a, e) (go (nat_lt class (n + 2)) refl)
-    where
-      go : (t : Bool) → nat_lt class (length p.names + 2) ≡ t
-          → (if t then None else (if nat_lt (class - (length p.names + 2)) count then Some
-          (class - (length p.names + 2)) else None))
-          ≡ (if t || not (nat_lt class (length p.names + 2 + length p.names)) then None else Some
-          (class - (length p.names + 2)))
-      go true h = refl
-      go false h =
-          let d : nat_lt (class - (length p.names + 2)) count ≡ nat_lt class (length p.names + 2 + length p.names) =
-          grind (arith, nat_tests, named, h) in
-          rw d (pick (nat_lt class (length p.names + 2 + length p.names)))
-        where
-          pick : (u : Bool) →
-              (if u then Some (class - (length p.names + 2)) else None)
-              ≡ (if not u then None else Some (class - (length p.names + 2)))
-          pick true = refl
-          pick false = refl

@@ -10,7 +10,7 @@ use Rattle.scj_rules.specs.Words.{holds}
 use Rattle.scj_rules.specs.Views.{field_at}
 use Rattle.scj_rules.specs.Classes.{field_nodes}
 use Rattle.scj_rules.specs.Contexts.{Declarations, declarations_of}
-use Rattle.scj_rules.specs.Layout.{declared_fields, static_fields, field_kind, static_index, index_among}
+use Rattle.scj_rules.specs.Layout.{declared_fields, static_fields, static_index, index_among}
 use Rattle.scj_rules.specs.declared.views.Declared.{Declared}
 use Rattle.scj_rules.specs.declared.views.SlotKind.{SlotKind}
 use Rattle.object_layout.specs.declared.fields.StaticField.{StaticField}
@@ -79,12 +79,6 @@ kinds_read nodes (id ∷ ids) = go (field_at nodes id) (kinds_read nodes ids)
         (cons_option o (filter_map (field_at nodes) ids))
     go None later = later
     go (Some f) later = ap (λ ks. kind_of_field f ∷ ks) later
-
-pub kinds_are : (forest : Forest) → filter_map (kind_at forest.nodes) (field_nodes (declarations_of forest).classes)
-    ≡ map kind_of_field (declared_fields (declarations_of forest))
-kinds_are forest =
-    kinds_read forest.nodes (field_nodes (declarations_of forest).classes)
-    ∙ ap (map kind_of_field) (all_read_again forest)
 
 abbrev is_static : Declared → Bool
 is_static f = f.modifiers.is_static
@@ -163,13 +157,6 @@ static_places_are forest =
 
 -- ---- look-ups
 
-pub kind_by_table : (forest : Forest) (table : FieldTable) (field : ℕ) → IsFieldTableOf forest table →
-    slice_get table.kinds.items field ≡ field_kind (declarations_of forest) field
-unfolding field_kind
-kind_by_table forest table field h =
-    ap (λ (ks : List SlotKind). slice_get ks field) h.kinds
-    ∙ slice_get-map kind_of_field (declared_fields (declarations_of forest)) field
-
 flat : {A : Type 0} (f : A → Option ℕ) (o : Option A) → option_and_then (λ index. index) (option_map f o)
     ≡ option_and_then f o
 flat f None = refl
@@ -188,13 +175,12 @@ static_place_by_table forest table field h =
 
 -- the table, from the list of the nodes of the fields
 pub table_is : (forest : Forest) (table : FieldTable) (nodes : List ℕ) → nodes ≡ field_nodes
-    (declarations_of forest).classes → table.kinds.items ≡ filter_map (kind_at forest.nodes) nodes
+    (declarations_of forest).classes
     → table.static_indices.items ≡ map (λ (id : ℕ). position (λ other. id == other)
     (filter (is_static_at forest.nodes) nodes)) nodes
     → table.statics.items ≡ filter_map (static_at forest.nodes) nodes → IsFieldTableOf forest table
-table_is forest table nodes n k s t =
+table_is forest table nodes n s t =
     record {
-      kinds = k ∙ ap (filter_map (kind_at forest.nodes)) n ∙ kinds_are forest;
       static_indices = s
           ∙ ap (λ (ids : List ℕ). map (λ (id : ℕ). position (λ other. id == other)
           (filter (is_static_at forest.nodes) ids)) ids) n

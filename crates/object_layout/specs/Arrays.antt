@@ -8,8 +8,3 @@ unfoldable pub kind_behind : ℕ → ℕ → Option SlotKind
 kind_behind index count =
     if index == 0 then Some Number
     else (if index == 1 then Some Truth else (if nat_lt index (2 + count) then Some Reference else None))
-
--- the class of these elements, where they have one
-unfoldable pub class_behind : ℕ → ℕ → Option ℕ
-class_behind index count =
-    if nat_lt index 2 then None else (if nat_lt (index - 2) count then Some (index - 2) else None)

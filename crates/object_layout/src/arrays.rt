@@ -2,8 +2,8 @@
 
 ghost use Rattle.std.specs.Prelude.{◌≡◌, ◌<◌, ◌^◌, length};
 ghost use Rattle.scj_rules.specs.Contexts.{declarations_of};
-ghost use Rattle.scj_rules.specs.Layout.{element_kind, class_of_elements};
-ghost use Rattle.object_layout.specs.Arrays.{kind_behind, class_behind};
+ghost use Rattle.scj_rules.specs.Layout.{element_kind};
+ghost use Rattle.object_layout.specs.Arrays.{kind_behind};
 
 use class_rows::ClassTable;
 use scj_base::ClassId;
@@ -26,20 +26,6 @@ fn kind_behind(index: usize, count: usize) -> Option<SlotKind>
     None
 }
 
-/// The class of the elements of the array class at a place behind so many classes.
-#[tactic(auto, unfolding(crate::specs::Arrays::class_behind))]
-fn class_behind(index: u32, count: usize) -> Option<ClassId>
-    ensures { result ≡ class_behind index count }
-{
-    if index < 2 {
-        return None;
-    }
-    if ((index - 2) as usize) < count {
-        return Some(ClassId::at(index - 2));
-    }
-    None
-}
-
 /// What the elements of an array of this class hold.
 #[tactic(auto, using(crate::proofs::ArrayLemmas::no_array, crate::proofs::ArrayLemmas::kind_of_array))]
 pub fn element_kind(classes: &ClassTable, class: ClassId) -> Option<SlotKind>
@@ -51,17 +37,4 @@ pub fn element_kind(classes: &ClassTable, class: ClassId) -> Option<SlotKind>
         return None;
     }
     kind_behind(number - count, count)
-}
-
-/// The class of the elements of an array of class type.
-#[tactic(auto, using(crate::proofs::ArrayLemmas::no_elements, crate::proofs::ArrayLemmas::class_of_array))]
-pub fn class_of_elements(classes: &ClassTable, class: ClassId) -> Option<ClassId>
-    ensures { result ≡ class_of_elements (declarations_of classes.now) class }
-{
-    let count = classes.name_count();
-    let number = class.number();
-    if (number as usize) < count {
-        return None;
-    }
-    class_behind(number - count as u32, count)
 }

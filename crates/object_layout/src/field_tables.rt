@@ -4,19 +4,16 @@ ghost use Rattle.std.specs.Prelude.{◌≡◌, ◌==◌, ℕ, map, position, opt
 ghost use Rattle.std.specs.HashMap.{get};
 ghost use Rattle.object_layout.specs.FieldTables.{IsFieldTableOf};
 
-use crate::fields::{StaticField, kinds_at, static_nodes, statics_at};
+use crate::fields::{StaticField, static_nodes, statics_at};
 use class_rows::ClassTable;
 use class_rows::members::indices_of;
 use scj_base::{FieldId, Memory, NodeId};
-use scj_rules::SlotKind;
 use std::alloc::Global;
 use std::collections::HashMap;
 
 /// What is asked of the fields of a program, each at its number.
 #[derive(Drop)]
 pub struct FieldTable {
-    /// What they hold.
-    pub(crate) kinds: Vec<SlotKind>,
     /// Their places among all statics.
     pub(crate) static_indices: Vec<Option<u32>>,
     /// The static fields in order.
@@ -53,28 +50,19 @@ fn indices_in(alloc: Global, ids: &[NodeId], list: &[NodeId]) -> Result<Vec<Opti
 }
 
 /// The table of the fields of a program.
-#[tactic(auto, using(crate::proofs::FieldTableLemmas::kinds_are, crate::proofs::FieldTableLemmas::statics_are, crate::proofs::FieldTableLemmas::static_places_are))]
+#[tactic(auto, using(crate::proofs::FieldTableLemmas::statics_are, crate::proofs::FieldTableLemmas::static_places_are))]
 pub fn field_table(alloc: Global, classes: &ClassTable) -> Result<FieldTable, Memory>
     ensures { IfOk result (λ table. IsFieldTableOf classes.now table) }
 {
     let program = classes.program();
     let nodes = classes.field_nodes();
-    let kinds = kinds_at(alloc, program, nodes)?;
     let listed = static_nodes(alloc, program, nodes)?;
     let static_indices = indices_in(alloc, nodes, &listed)?;
     let statics = statics_at(alloc, program, nodes)?;
     Ok(FieldTable {
-        kinds,
         static_indices,
         statics,
     })
-}
-
-/// The kind at a number.
-pub fn kind_numbered(kinds: &[SlotKind], field: FieldId) -> Option<SlotKind>
-    ensures { result ≡ slice_get kinds.now field }
-{
-    kinds.get(field.number() as usize).copied()
 }
 
 /// The place at a number.

@@ -6,14 +6,14 @@ ghost use Rattle.scj_rules.specs.Contexts.{declarations_of};
 ghost use Rattle.scj_rules.specs.Bodies.{class_node, class_position, constructor_body, body_named, body_of, class_of_body, is_synchronized_body, locals, safelet_class, size_of};
 ghost use Rattle.scj_rules.specs.ScopeRules.{defined_by_chain};
 ghost use Rattle.scj_rules.specs.Definitions.{read};
-ghost use Rattle.scj_rules.specs.Layout.{class_of_elements, element_kind, field_kind, fields_with_literal, literal_written, slot_of, slots, static_fields, static_index};
+ghost use Rattle.scj_rules.specs.Layout.{element_kind, fields_with_literal, literal_written, slot_of, slots, static_fields, static_index};
 ghost use Rattle.class_rows.specs.Tables.{AreChainedScopes};
 ghost use Rattle.object_layout.specs.Fields.{kind_of_field, static_row};
 ghost use Rattle.object_layout.specs.FieldTables.{IsFieldTableOf};
 ghost use Rattle.object_layout.specs.ObjectTables.{nodes_of_fields, slot_of_node};
 ghost use Rattle.object_layout.specs.Objects.{IsObjectTableOf};
 
-use crate::field_tables::{FieldTable, kind_numbered, index_numbered};
+use crate::field_tables::{FieldTable, index_numbered};
 use crate::fields::StaticField;
 use crate::object_tables::ObjectTable;
 use crate::slots::{index_of, slot_at};
@@ -260,14 +260,6 @@ impl<'a> Layout<'a> {
         }
     }
 
-    /// What a field holds.
-    #[tactic(auto, using(crate::proofs::FieldTableLemmas::kind_by_table))]
-    pub fn field_kind(&self, field: FieldId) -> Option<SlotKind>
-        ensures { result ≡ field_kind (declarations_of self.now) field }
-    {
-        kind_numbered(&self.fields().kinds, field)
-    }
-
     /// The place of a static field among all statics.
     #[tactic(auto, using(crate::proofs::FieldTableLemmas::static_place_by_table))]
     pub fn static_index(&self, field: FieldId) -> Option<u32>
@@ -290,12 +282,5 @@ impl<'a> Layout<'a> {
         ensures { result ≡ element_kind (declarations_of self.now) class }
     {
         arrays::element_kind(self.classes, class)
-    }
-
-    /// The class of the elements of the arrays of a class, if they are of class type (JLS 10.1).
-    pub fn class_of_elements(&self, class: ClassId) -> Option<ClassId>
-        ensures { result ≡ class_of_elements (declarations_of self.now) class }
-    {
-        arrays::class_of_elements(self.classes, class)
     }
 }

@@ -84,13 +84,6 @@ impl<'a> Machine<'a> {
         self.is_live
     }
 
-    /// How many units are spent.
-    pub fn units_spent(&self) -> u64
-        ensures { result ≡ self.now.spent }
-    {
-        self.at.state.unit
-    }
-
     /// The open area at a place in the order of opening, if so many are open. Of a machine that isn't live nothing is said.
     pub fn area(&self, i: usize) -> Option<Area>
         ensures { self.now.is_live ≡ true → result

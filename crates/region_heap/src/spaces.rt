@@ -106,12 +106,6 @@ fn pop_area(areas: &mut Vec<AreaRow>) -> AreaRow
 }
 
 impl RegionHeap {
-    /// Whether the store has room for one more area of so many bytes.
-    pub fn has_store_for(&self, bytes: u64) -> bool
-        ensures { (s : State) → result ≡ has_store_for (with_memory s self.now) bytes }
-    {
-        store_fits(reserved_of(&self.areas), bytes, self.store)
-    }
 
     /// Whether an object with so many slots has room in an open area.
     pub fn has_room(&self, area: AreaId, count: usize) -> bool
