@@ -5,10 +5,10 @@
 pub mod classes;
 pub mod filling;
 pub mod keys;
-pub mod kinds;
+mod kinds;
 pub mod named_numbers;
-pub mod names;
-pub mod parts;
+mod names;
+mod parts;
 pub mod supers;
 pub mod ways;
 

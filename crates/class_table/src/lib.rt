@@ -2,8 +2,8 @@
 #![tactic(auto)]
 
 pub mod checks;
-pub mod classes;
-pub mod inherited;
+mod classes;
+mod inherited;
 
 pub use checks::build;
 pub use class_rows::ClassTable;

@@ -3,5 +3,5 @@
 
 pub mod arguments;
 pub mod closing;
-pub mod levels;
+mod levels;
 pub mod operands;

@@ -1,7 +1,7 @@
 //! The rules on classes and members that ask single nodes, and the limits on variables.
 #![tactic(auto)]
 
-pub mod framework_methods;
+mod framework_methods;
 mod limits;
 mod misplaced;
 pub mod nodes;

@@ -5,7 +5,7 @@ pub mod calls;
 pub mod effects;
 pub mod ends;
 pub mod jobs;
-pub mod leaving;
+mod leaving;
 pub mod memory;
 pub mod openings;
 pub mod states;

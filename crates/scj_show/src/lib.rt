@@ -2,10 +2,10 @@
 #![tactic(auto)]
 
 pub mod laws;
-pub mod nodes;
+mod nodes;
 pub mod parts;
 pub mod rows;
 pub mod shows;
-pub mod symbols;
+mod symbols;
 
 pub use shows::show;

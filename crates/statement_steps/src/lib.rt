@@ -2,6 +2,6 @@
 #![tactic(auto)]
 
 pub mod blocks;
-pub mod enclosing_statements;
+mod enclosing_statements;
 pub mod endings;
 pub mod parameters;

@@ -3,11 +3,11 @@
 
 pub mod levels;
 pub mod looks;
-pub mod openings;
+mod openings;
 pub mod order;
 pub mod scopes;
 pub mod table;
-pub mod ways;
+mod ways;
 
 pub use order::tour;
 pub use table::SymbolTable;

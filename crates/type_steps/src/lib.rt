@@ -2,7 +2,7 @@
 #![tactic(auto)]
 
 pub mod declarations;
-pub mod elements;
+mod elements;
 pub mod flags;
 pub mod names;
 pub mod types;
