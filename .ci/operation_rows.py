@@ -40,7 +40,7 @@ EDITS = {
     "Enter": "run_state/new_area_in_none",
     "ExecuteIn": "call_operations/area_of_the_runnable",
     "Same": "call_operations/null_lies_in_one_area",
-    "SetCeiling": "call_operations/priority_29_taken",
+    "SetCeiling": "value_operators/priority_29_taken",
     "Print": "call_operations/half_of_the_value_printed",
     "Read": "run_plan/stale_reading run_plan/earlier_row_at_a_tie",
     "Register": "mission_steps/a_65th_handler mission_steps/registered_at_any_time",

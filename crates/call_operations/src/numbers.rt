@@ -1,23 +1,7 @@
-//! The numbers that the framework's calls take: priorities, ports, and times.
+//! The times that the framework's calls take.
 
 ghost use Rattle.std.specs.Prelude.{◌≡◌, pos};
-ghost use Rattle.scj_model.specs.Operations.{is_port, is_priority, times_of, units_of};
-
-/// Whether a number is a priority (JSR 302: PriorityParameters).
-#[tactic(auto, using(crate::proofs::NumberLemmas::priority_is))]
-pub fn is_priority(number: i32) -> bool
-    ensures { result ≡ is_priority number }
-{
-    1 <= number && number <= 28
-}
-
-/// Whether a number is a port of the device.
-#[tactic(auto, using(crate::proofs::NumberLemmas::port_is))]
-pub fn is_port(number: i32) -> bool
-    ensures { result ≡ is_port number }
-{
-    0 <= number && number < 256
-}
+ghost use Rattle.scj_model.specs.Operations.{times_of, units_of};
 
 /// So many milliseconds and nanoseconds in units.
 fn units(ms: u32, ns: u32) -> Option<u64>

@@ -15,10 +15,11 @@ ghost use Rattle.region_heap.specs.Contents.{hidden_slots};
 ghost use Rattle.call_operations.specs.Continued.{keeping, passing};
 ghost use Rattle.call_operations.specs.Periodic.{keeping_periodic};
 
-use crate::numbers::{is_priority, times_of};
+use crate::numbers::times_of;
 use job_frames::Effect;
 use scj_base::{Memory, Ref, RunFault, Value};
 use std::alloc::Global;
+use value_operators::framework_numbers::is_priority;
 
 /// The fault of a priority and a storage, if one of them isn't right.
 fn fault_of(priority: i32, storage: i32) -> Option<RunFault>

@@ -12,10 +12,10 @@ ghost use Rattle.job_frames.specs.declared.frames.Frame.{Frame as StoredFrame};
 ghost use Rattle.job_frames.specs.Frames.{frame_of};
 ghost use Rattle.region_heap.specs.Contents.{Contents};
 
-use crate::numbers::{is_port, is_priority};
 use job_frames::{Effect, Frame};
 use run_plan::Plan;
 use scj_base::{Memory, NodeId, Ref, RunFault, Value};
+use value_operators::framework_numbers::{is_port, is_priority};
 
 /// The ceiling of an object is set.
 fn sets_ceiling(r: Ref, ceiling: i32) -> Effect

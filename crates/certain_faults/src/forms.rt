@@ -5,13 +5,13 @@ ghost use Rattle.scj_tree.specs.Recursion.{lookup};
 ghost use Rattle.certain_faults.specs.declared.known.Left.TheVariants.{Forgets as forgets};
 ghost use Rattle.certain_faults.specs.Faults.{is_wrong_time, is_known_time, times_fault, storage_fault, priority_fault, periodic_fault, parameters_fault, aperiodic_fault, form_fault, super_fault};
 
-use crate::facts::{has_form, is_priority, is_user_class};
 use crate::known::{Known, Left};
 use crate::nodes::left_at;
 use crate::numbers::{is_negative, is_no_nanoseconds, known_number};
 use scj_base::ids::PERIODIC_EVENT_HANDLER;
 use scj_base::{ClassId, NodeId, RunFault, Value};
-use scj_rules::Binding;
+use scj_rules::{Binding, has_form, is_user_class};
+use value_operators::framework_numbers::is_priority;
 
 /// Whether a time is wrong by a number that is known.
 #[tactic(auto, unfolding(crate::specs::Faults::is_wrong_time))]

@@ -5,9 +5,10 @@ ghost use Rattle.std.specs.Int.{is_negative};
 ghost use Rattle.scj_model.specs.Operations.{is_port, is_priority, units_of};
 ghost use Rattle.certain_faults.specs.Faults.{known_number, is_known};
 
-use crate::facts::{is_nanoseconds, is_port, is_priority};
+use crate::facts::is_nanoseconds;
 use crate::known::Known;
 use scj_base::Value;
+use value_operators::framework_numbers::{is_port, is_priority};
 
 /// The number, where it is known.
 #[tactic(auto, unfolding(crate::specs::Faults::known_number))]

@@ -16,7 +16,7 @@ use crate::arguments::{
     Takes, are_typed, constructor_parameters, misfit, misfit_typed, takes_arguments,
 };
 use crate::expressions::{is_form_named, lacks_object, misfits_length};
-use crate::forms::{form_in, has_form, is_form_part, super_arguments};
+use crate::forms::{form_in, is_form_part, super_arguments};
 use crate::members::{method_in, method_row};
 use crate::names::call_receiver;
 use crate::results::call_type;
@@ -26,7 +26,7 @@ use program_facts::{At, ProgramFacts, NodeMeaning};
 use scj_base::ids::{OBJECT, SAFELET};
 use scj_base::{ClassId, Found, Memory, Name, NodeId, Position, Rule};
 use scj_builtins::{ClassKind, FRAMEWORK_CLASS_COUNT};
-use scj_rules::{Receiver, Ty, report_if};
+use scj_rules::{Receiver, Ty, has_form, report_if};
 use type_words::{is_long, is_no_reference, is_value};
 
 /// Whether a method isn't callable, as size methods aren't, or not on this receiver: a static one through a value.

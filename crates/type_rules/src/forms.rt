@@ -9,10 +9,11 @@ ghost use Rattle.scj_rules.specs.Types.{new_of, is_new, release_part, have_prior
 use crate::names::when;
 use program_facts::ProgramFacts;
 use scj_base::ids::{
-    APERIODIC_EVENT_HANDLER, APERIODIC_PARAMETERS, MISSION_SEQUENCER, PERIODIC_EVENT_HANDLER,
+    APERIODIC_PARAMETERS, MISSION_SEQUENCER, PERIODIC_EVENT_HANDLER,
     PERIODIC_PARAMETERS, PRIORITY_PARAMETERS, RELATIVE_TIME, STORAGE_PARAMETERS,
 };
 use scj_base::{ClassId, NodeId};
+use scj_rules::has_form;
 use scj_tree::Node;
 
 /// The arguments of `new class(..)` at this node, where they are so many.
@@ -94,15 +95,6 @@ fn form_parts(
         }
         _ => None,
     }
-}
-
-/// Whether a constructor begins with the form under this superclass.
-pub fn has_form(class: ClassId) -> bool
-    ensures { result ≡ has_form class }
-{
-    class == PERIODIC_EVENT_HANDLER
-        || class == APERIODIC_EVENT_HANDLER
-        || class == MISSION_SEQUENCER
 }
 
 /// The arguments of the super call of a class's constructor.

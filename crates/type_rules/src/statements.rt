@@ -12,13 +12,12 @@ ghost use Rattle.program_facts.specs.Reported.{declared, types};
 ghost use Rattle.type_words.specs.Returns.{all_returns};
 
 use crate::arguments::{constructor_parameters, misfit};
-use crate::forms::has_form;
 use crate::names::{assigns, receiver, written_type};
 use method_rows::result_type;
 use node_views::position_at;
 use program_facts::{At, ProgramFacts};
 use scj_base::{ClassId, Found, Memory, Name, NodeId, Rule};
-use scj_rules::{Ty, report_if};
+use scj_rules::{Ty, has_form, report_if};
 use scj_tree::{Node, Program, row_or};
 use type_words::{are_same, is_array_value, is_length, is_long, is_size_body};
 

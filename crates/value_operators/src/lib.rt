@@ -2,6 +2,7 @@
 #![tactic(auto)]
 
 mod equality;
+pub mod framework_numbers;
 mod integers;
 mod literals;
 mod one_value;
