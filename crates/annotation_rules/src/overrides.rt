@@ -37,7 +37,12 @@ fn differ(facts: &ProgramFacts, class: ClassId, own: &Option<Scope>, above: &Opt
 
 /// Whether the parameters of a number have other scopes, where both methods have one.
 #[tactic(auto, unfolding(method_rows::specs::Methods::found_method))]
-fn parameters_differ_at(facts: &ProgramFacts, method: &MethodRef, above: &MethodRef, i: usize) -> bool
+fn parameters_differ_at(
+    facts: &ProgramFacts,
+    method: &MethodRef,
+    above: &MethodRef,
+    i: usize,
+) -> bool
     ensures { let f = found_method facts.now.nodes method.now in let g = found_method facts.now.nodes above.now in
         result ≡ parameters_differ_at (declarations_of facts.now) f g i }
 {
@@ -106,7 +111,11 @@ fn overrides_scopes(facts: &ProgramFacts, method: &MethodRef) -> bool
 
 /// Notes A6 at a method.
 #[tactic(auto, unfolding(scj_rules::specs::AnnotationRules::a6_of, method_rows::specs::Methods::found_method))]
-fn note_override(found: &mut Vec<Found>, facts: &ProgramFacts, method: &MethodRef) -> Result<(), Memory>
+fn note_override(
+    found: &mut Vec<Found>,
+    facts: &ProgramFacts,
+    method: &MethodRef,
+) -> Result<(), Memory>
     ensures { let f = found_method facts.now.nodes method.now in
         OnOk result (found.new.items ≡ found.old.items ++ a6_of (declarations_of facts.now) f.on f.method) }
 {
@@ -119,7 +128,11 @@ fn note_override(found: &mut Vec<Found>, facts: &ProgramFacts, method: &MethodRe
 
 /// Notes A1, A6 to A8 and A9 at a method before which something may be written.
 #[tactic(auto, unfolding(scj_rules::specs::AnnotationRules::a7_and_a8_of, method_rows::specs::Methods::found_method))]
-fn note_written(found: &mut Vec<Found>, facts: &ProgramFacts, method: &MethodRef) -> Result<(), Memory>
+fn note_written(
+    found: &mut Vec<Found>,
+    facts: &ProgramFacts,
+    method: &MethodRef,
+) -> Result<(), Memory>
     ensures { let f = found_method facts.now.nodes method.now in let p = declarations_of facts.now in
         let t = scoped_result p f.on f.method in
         OnOk result (found.new.items ≡ found.old.items ++ (broken_value t.scope (is_unknown_scope p t) A1
@@ -144,7 +157,11 @@ fn note_written(found: &mut Vec<Found>, facts: &ProgramFacts, method: &MethodRef
 
 /// Notes A1, A6 to A8 and A9 at a method. Before most nothing is written, and A6 alone may be broken.
 #[tactic(auto, unfolding(scj_rules::specs::AnnotationRules::a7_and_a8_of))]
-pub fn note_method(found: &mut Vec<Found>, facts: &ProgramFacts, method: &MethodRef) -> Result<(), Memory>
+pub fn note_method(
+    found: &mut Vec<Found>,
+    facts: &ProgramFacts,
+    method: &MethodRef,
+) -> Result<(), Memory>
     ensures { let f = found_method facts.now.nodes method.now in let p = declarations_of facts.now in
         let t = scoped_result p f.on f.method in
         OnOk result (found.new.items ≡ found.old.items ++ (broken_value t.scope (is_unknown_scope p t) A1

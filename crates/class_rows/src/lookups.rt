@@ -167,7 +167,12 @@ impl<'a> ClassTable<'a> {
     }
 
     /// The nearest member of a name above a class whose chain is long, where it is told.
-    fn reported_above(&self, kind: MemberKind, class: ClassId, name: &Name) -> Option<Option<FieldRef>>
+    fn reported_above(
+        &self,
+        kind: MemberKind,
+        class: ClassId,
+        name: &Name,
+    ) -> Option<Option<FieldRef>>
         ensures { IfSome result (λ nearest. IsNearestAbove kind self.now class name.now nearest) }
     {
         if self.ancestry(class)?.depth <= SHORT {

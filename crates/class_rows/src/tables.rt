@@ -82,7 +82,12 @@ impl<'a> ClassTable<'a> {
     }
 
     /// Keeps what a tour tells: which methods the classes inherit, and the nearest fields and methods above them.
-    pub fn keep(&mut self, reported: InheritedMethods, fields: NearestMembers, methods: NearestMembers)
+    pub fn keep(
+        &mut self,
+        reported: InheritedMethods,
+        fields: NearestMembers,
+        methods: NearestMembers,
+    )
         requires reported { AreInheritedMethods (declarations_of self.old) [] reported }
         requires fields { AreNearest Field self.old fields }
         requires methods { AreNearest Method self.old methods }

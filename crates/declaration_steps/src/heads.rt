@@ -57,7 +57,11 @@ pub fn class_opened(
         return Ok(None);
     };
     match entry {
-        Entry::ClassOpen { flags, position, name } => {
+        Entry::ClassOpen {
+            flags,
+            position,
+            name,
+        } => {
             stack.push(Entry::ClassBody {
                 flags,
                 position,

@@ -60,7 +60,9 @@ pub fn member_named_step(
             position,
             name: name.share()?,
         })?;
-        return Ok(Some(Mode::ParametersFirst { position: *sign_position }));
+        return Ok(Some(Mode::ParametersFirst {
+            position: *sign_position,
+        }));
     }
     Ok(None)
 }
@@ -113,7 +115,9 @@ pub fn literal_step(
         }
         View::Sign(sign, position) => {
             if *sign == MINUS {
-                return Ok(Some(Mode::LiteralMinus { position: *position }));
+                return Ok(Some(Mode::LiteralMinus {
+                    position: *position,
+                }));
             }
             Ok(None)
         }
@@ -248,5 +252,7 @@ pub fn method_named_step(
         position,
         name: name.share()?,
     })?;
-    Ok(Some(Mode::ParametersFirst { position: *sign_position }))
+    Ok(Some(Mode::ParametersFirst {
+        position: *sign_position,
+    }))
 }

@@ -219,7 +219,9 @@ pub fn value_start_step(
         }
         View::Name(name, position) => {
             if is_word(*name, b"Scope") {
-                return Ok(Some(Mode::ValueScope { position: *position }));
+                return Ok(Some(Mode::ValueScope {
+                    position: *position,
+                }));
             }
             let id = nodes.put(Node::ScopeName {
                 position: *position,

@@ -43,7 +43,10 @@ pub fn assigned(
         }
         Entry::ForHead { position } => {
             if *sign == SEMICOLON {
-                stack.push(Entry::ForTest { position, first: id })?;
+                stack.push(Entry::ForTest {
+                    position,
+                    first: id,
+                })?;
                 Ok(Some(Mode::Operand))
             } else {
                 Ok(None)
@@ -119,13 +122,10 @@ pub fn arguments_ended(
                 id,
             }))
         }
-        Entry::SuperCallOpen { block_position, position } => super_call_ended(
-            nodes,
-            stack,
-            list,
+        Entry::SuperCallOpen {
             block_position,
             position,
-        ),
+        } => super_call_ended(nodes, stack, list, block_position, position),
         _other => Ok(None),
     }
 }
@@ -214,7 +214,10 @@ pub fn target_assigned(
 {
     match kind {
         PostKind::Variable => {
-            stack.push(Entry::AssignValue { position, target: id })?;
+            stack.push(Entry::AssignValue {
+                position,
+                target: id,
+            })?;
             Ok(Some(Mode::Operand))
         }
         _ => Ok(None),
@@ -294,7 +297,10 @@ pub fn compound_ended(
         (seen view.now) in gives result nodes.new.all stack.new awaited ≡ awaited }
     ensures kept { nodes.new.kept ≡ nodes.old.kept }
 {
-    let inner = nodes.put(Node::Parenthesized { position, inner: id })?;
+    let inner = nodes.put(Node::Parenthesized {
+        position,
+        inner: id,
+    })?;
     let value = nodes.put(Node::Binary {
         position,
         operator,
@@ -328,7 +334,10 @@ pub fn group_ended(
     if *sign != RIGHT_PARENTHESIS {
         return Ok(None);
     }
-    let id = nodes.put(Node::Parenthesized { position, inner: id })?;
+    let id = nodes.put(Node::Parenthesized {
+        position,
+        inner: id,
+    })?;
     Ok(Some(Mode::PostDone {
         kind: PostKind::Value,
         position,
@@ -571,12 +580,16 @@ pub fn ended(
 {
     match entry {
         Entry::GroupOpen { position } => group_ended(nodes, stack, view, position, id),
-        Entry::IndexOpen { position, array } => index_ended(nodes, stack, view, position, array, id),
+        Entry::IndexOpen { position, array } => index_ended(
+            nodes, stack, view, position, array, id,
+        ),
         Entry::LengthOpen { position, element } => length_ended(
             nodes, stack, view, position, element, id,
         ),
         Entry::ArgumentsOpen { list } => argument_ended(nodes, stack, view, id, list),
-        Entry::AssignValue { position, target } => value_ended(nodes, stack, view, position, target, id),
+        Entry::AssignValue { position, target } => value_ended(
+            nodes, stack, view, position, target, id,
+        ),
         Entry::CompoundValue {
             position,
             operator,
@@ -600,7 +613,9 @@ pub fn ended(
             declared_type,
             id,
         ),
-        Entry::ForTest { position, first } => for_test_ended(nodes, stack, view, position, first, id),
+        Entry::ForTest { position, first } => for_test_ended(
+            nodes, stack, view, position, first, id,
+        ),
         Entry::IfTest { position } => if_test_ended(nodes, stack, view, position, id),
         Entry::WhileTest { position } => while_test_ended(nodes, stack, view, position, id),
         Entry::ReturnValue { position } => return_ended(nodes, stack, view, position, id),

@@ -79,7 +79,12 @@ pub(crate) fn make_safelet(
             Ok(())
         }
         None => {
-            halted(state, class_position(code, class), RunFault::MemoryFull, reported)?;
+            halted(
+                state,
+                class_position(code, class),
+                RunFault::MemoryFull,
+                reported,
+            )?;
             Ok(())
         }
     }

@@ -38,7 +38,11 @@ fn event_of(unit: u64, handler: u8, number: Option<u64>) -> Event
 }
 
 /// One more release of a handler waits, unless as many wait as may.
-pub fn release_taken(state: &mut RunState, handler: u8, reported: &mut Vec<Event>) -> Result<(), Memory>
+pub fn release_taken(
+    state: &mut RunState,
+    handler: u8,
+    reported: &mut Vec<Event>,
+) -> Result<(), Memory>
     ensures { (code : Listing) →
         IfOk result
         (λ _. IsStep code (release_taken (state_of code state.old) handler) state.new reported.old.items reported.new.items) }
@@ -49,7 +53,11 @@ pub fn release_taken(state: &mut RunState, handler: u8, reported: &mut Vec<Event
 }
 
 /// `release` has an effect on a registered handler alone.
-pub(crate) fn released(state: &mut RunState, r: Ref, reported: &mut Vec<Event>) -> Result<(), Memory>
+pub(crate) fn released(
+    state: &mut RunState,
+    r: Ref,
+    reported: &mut Vec<Event>,
+) -> Result<(), Memory>
     ensures { (code : Listing) →
         IfOk result (λ _. IsStep code (released (state_of code state.old) r) state.new reported.old.items reported.new.items) }
 {

@@ -119,7 +119,13 @@ fn register(
         (activity_seen code.now activity))) state.new reported.old.items reported.new.items) }
 {
     if !is_init(state.phase) {
-        fault_in(state, acting, &activity, RunFault::NotInitializing, reported)?;
+        fault_in(
+            state,
+            acting,
+            &activity,
+            RunFault::NotInitializing,
+            reported,
+        )?;
         return Ok(());
     }
     if handler_number(state.registry.as_slice(), row.at)?.is_some() {
@@ -127,7 +133,13 @@ fn register(
         return Ok(());
     }
     if state.registry.len() >= MOST_HANDLERS {
-        fault_in(state, acting, &activity, RunFault::TooManyHandlers, reported)?;
+        fault_in(
+            state,
+            acting,
+            &activity,
+            RunFault::TooManyHandlers,
+            reported,
+        )?;
         return Ok(());
     }
     enter(code, state, acting.job, activity, row, reported)?;

@@ -15,7 +15,7 @@ ghost use Rattle.node_bindings.specs.Kinds.{is_bound_kind};
 use crate::calls::call_binding;
 use crate::fields::{access_at, array_class, class_binding, field_binding, field_here};
 use crate::numbers::variable_binding;
-use program_facts::{At, ProgramFacts, NameMeaning};
+use program_facts::{At, NameMeaning, ProgramFacts};
 use scj_base::{ClassId, Memory, Name, NodeId};
 use scj_rules::{Binding, Ty};
 use scj_tree::NodeKind::{
@@ -47,7 +47,12 @@ fn meaning_binding(
 }
 
 /// What a simple name stands for.
-fn name_binding(facts: &ProgramFacts, numbers: &[u32], id: NodeId, name: &Name) -> Result<Binding, Memory>
+fn name_binding(
+    facts: &ProgramFacts,
+    numbers: &[u32],
+    id: NodeId,
+    name: &Name,
+) -> Result<Binding, Memory>
     requires numbers { numbers.now ≡ numbers_before (declarations_of facts.now) }
     requires there { read facts.now.nodes simply_named id ≡ Some name.now }
     ensures { IfOk result (λ b. b ≡ meaning_binding (declarations_of facts.now) id

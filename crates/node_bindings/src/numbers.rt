@@ -21,7 +21,12 @@ fn is_variable_of(facts: &ProgramFacts<'_>, member: NodeId, id: NodeId) -> bool
 }
 
 /// The place of a variable among those of a member.
-fn index_of(facts: &ProgramFacts<'_>, numbers: &[u32], member: NodeId, variable: NodeId) -> Option<u32>
+fn index_of(
+    facts: &ProgramFacts<'_>,
+    numbers: &[u32],
+    member: NodeId,
+    variable: NodeId,
+) -> Option<u32>
     requires { numbers.now ≡ numbers_before (declarations_of facts.now) }
     ensures { result ≡ position (λ v. v == variable) (variables_of (declarations_of facts.now) member) }
 {

@@ -58,7 +58,11 @@ fn note_asked(
         return Ok(());
     };
     match node {
-        Node::Class { position, flags, .. } => {
+        Node::Class {
+            position,
+            flags,
+            ..
+        } => {
             let is_wrong = flags.is_some() && is_misplaced_on_class(&modifiers_at(program, *flags));
             report_if(found, is_wrong, Rule::C11, *position)
         }
@@ -154,7 +158,13 @@ fn note_node(
     ensures { OnOk result (found.new.items ≡ found.old.items ++ noted_at (declarations_of classes.now) id) }
 {
     note_asked(found, classes, contexts, id)?;
-    note_late(found, classes.program(), contexts, id, row_or(numbers, 0, id))?;
+    note_late(
+        found,
+        classes.program(),
+        contexts,
+        id,
+        row_or(numbers, 0, id),
+    )?;
     Ok(())
 }
 

@@ -60,7 +60,12 @@ pub fn note_type(found: &mut Vec<Found>, classes: &ClassTable, id: NodeId) -> Re
 {
     match classes.program().get(id) {
         Some(Node::ClassType { position, name, .. }) => {
-            report_if(found, names_no_type(classes, name.get()), Rule::C9, *position)
+            report_if(
+                found,
+                names_no_type(classes, name.get()),
+                Rule::C9,
+                *position,
+            )
         }
         _ => Ok(()),
     }
@@ -74,7 +79,12 @@ pub fn note_element(found: &mut Vec<Found>, classes: &ClassTable, id: NodeId) ->
 {
     match classes.program().get(id) {
         Some(Node::ClassType { position, name, .. }) => {
-            report_if(found, names_no_class(classes, name.get()), Rule::C9, *position)
+            report_if(
+                found,
+                names_no_class(classes, name.get()),
+                Rule::C9,
+                *position,
+            )
         }
         _ => Ok(()),
     }

@@ -20,7 +20,7 @@ pub use kinds::{is_field, is_method, is_variable};
 pub use methods::{callable_name, method_body, method_declared, method_name, method_parameters};
 pub use parameters::{parameter, parameter_count, parameter_nodes, parameter_type};
 pub use parts::{
-    field_type, field_written, is_abstract_method, is_static_at,
-    is_static_field, is_static_method, result_type, variable_type, variable_written,
+    field_type, field_written, is_abstract_method, is_static_at, is_static_field, is_static_method,
+    result_type, variable_type, variable_written,
 };
 pub use words::{modifiers_at, position_at, scope_written, type_at};

@@ -66,10 +66,12 @@ pub fn callable_name(program: &Program, id: NodeId) -> Option<Written>
     ensures { result ≡ read program.now.nodes callable_name id }
 {
     match program.get(id)? {
-        Node::Method { position, name, .. } | Node::Constructor { position, name, .. } => Some(Written {
-            name: *name.get(),
-            position: *position,
-        }),
+        Node::Method { position, name, .. } | Node::Constructor { position, name, .. } => Some(
+            Written {
+                name: *name.get(),
+                position: *position,
+            },
+        ),
         _ => None,
     }
 }

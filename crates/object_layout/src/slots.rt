@@ -100,7 +100,12 @@ fn index_by_search(fields: &[NodeId], field: NodeId) -> Option<usize>
 }
 
 /// The place of a field among those of an object.
-pub fn index_of(fields: &[NodeId], indices: &[u32], is_regular: bool, field: NodeId) -> Option<usize>
+pub fn index_of(
+    fields: &[NodeId],
+    indices: &[u32],
+    is_regular: bool,
+    field: NodeId,
+) -> Option<usize>
     requires { is_regular ≡ true → HasIndices indices.now fields.now }
     ensures value { result ≡ position (λ other. field == other) fields.now }
     ensures within { IfSome result (λ index. index < length fields.now) }

@@ -111,7 +111,9 @@ pub fn step_mode(
         Mode::ClassName { flags } => class_name_step(nodes, stack, view, *flags),
         Mode::ClassNamed => class_named_step(nodes, stack, view),
         Mode::SuperName => super_name_step(nodes, stack, view),
-        Mode::SuperNamed { position, name } => super_named_step(nodes, stack, view, *position, name),
+        Mode::SuperNamed { position, name } => super_named_step(
+            nodes, stack, view, *position, name,
+        ),
         Mode::SuperArgumentName { position, name } => super_argument_name_step(
             nodes, stack, view, *position, name,
         ),
@@ -131,7 +133,9 @@ pub fn step_mode(
             name,
             argument,
         } => type_argument_end_step(nodes, stack, view, *position, name, *argument),
-        Mode::TypeEnd { position, element } => type_end_step(nodes, stack, view, *position, element),
+        Mode::TypeEnd { position, element } => type_end_step(
+            nodes, stack, view, *position, element,
+        ),
         Mode::TypeBracket { position, element } => type_bracket_step(
             nodes, stack, view, *position, element,
         ),
@@ -161,14 +165,13 @@ pub fn step_mode(
         Mode::ParametersFirst { position } => parameters_first_step(nodes, stack, view, *position),
         Mode::ParameterDone { id } => parameter_end_step(nodes, stack, view, *id),
         Mode::ParametersDone { parameters } => parameters_end_step(nodes, stack, view, *parameters),
-        Mode::ConstructorStart { position } => constructor_start_step(nodes, stack, view, *position),
-        Mode::SuperOpen { block_position, position } => super_open_step(
-            nodes,
-            stack,
-            view,
-            *block_position,
-            *position,
+        Mode::ConstructorStart { position } => constructor_start_step(
+            nodes, stack, view, *position,
         ),
+        Mode::SuperOpen {
+            block_position,
+            position,
+        } => super_open_step(nodes, stack, view, *block_position, *position),
         Mode::SuperEnd { block_position } => super_end_step(nodes, stack, view, *block_position),
         Mode::InStatements => statements_step(nodes, stack, view),
         Mode::StatementStart => statement_start(nodes, stack, view),
@@ -215,7 +218,9 @@ pub fn step_mode(
         Mode::NewElement { position, element } => new_element_step(
             nodes, stack, view, *position, *element,
         ),
-        Mode::PostDone { kind, position, id } => post_step(nodes, stack, view, *kind, *position, *id),
+        Mode::PostDone { kind, position, id } => post_step(
+            nodes, stack, view, *kind, *position, *id,
+        ),
         Mode::Dot { object } => dot_step(nodes, stack, view, *object),
         Mode::DotName {
             object,

@@ -77,7 +77,13 @@ pub(crate) fn spend(alloc: Global, setting: Setting<'_>, at: &mut UnderWay) -> R
     ensures { IfOk result (λ _. HasSpent setting.entry.code.now setting.entry.plan.now at.old.state.unit at.new) }
 {
     at.reported.clear();
-    if one_unit(alloc, setting, &mut at.past, &mut at.state, &mut at.reported)? {
+    if one_unit(
+        alloc,
+        setting,
+        &mut at.past,
+        &mut at.state,
+        &mut at.reported,
+    )? {
         Ok(())
     } else {
         unreachable!()

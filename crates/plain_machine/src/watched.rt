@@ -41,7 +41,13 @@ fn spend_watched(
         (λ _. ReportsNeeds setting.entry.code.now.program setting.entry.plan.now (at.old.state.unit + 1) table.new) }
 {
     at.reported.clear();
-    let acted = begin_unit(alloc, setting, &mut at.past, &mut at.state, &mut at.reported)?;
+    let acted = begin_unit(
+        alloc,
+        setting,
+        &mut at.past,
+        &mut at.state,
+        &mut at.reported,
+    )?;
     let Acted::Done(refusal) = acted else {
         unreachable!()
     };
@@ -63,7 +69,15 @@ fn as_fault(event: Event) -> Option<Event>
     ensures { result ≡ as_fault event }
 {
     match event {
-        Event::Fault { unit, fault, position } => Some(Event::Fault { unit, fault, position }),
+        Event::Fault {
+            unit,
+            fault,
+            position,
+        } => Some(Event::Fault {
+            unit,
+            fault,
+            position,
+        }),
         _ => None,
     }
 }

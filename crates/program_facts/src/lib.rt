@@ -3,11 +3,11 @@
 
 pub mod facts;
 pub mod meanings;
-pub mod tables;
 pub mod reported;
+pub mod tables;
 mod variables;
 
 pub use facts::ProgramFacts;
 pub use meanings::{NameMeaning, NodeMeaning};
-pub use tables::{Runs, ScopeNames, ScopeRow, ScopeTree, Variables};
 pub use reported::At;
+pub use tables::{Runs, ScopeNames, ScopeRow, ScopeTree, Variables};

@@ -7,8 +7,8 @@ ghost use Rattle.region_heap.specs.Contents.{changing_object, live_object, setti
 use crate::changes::Change;
 use crate::finds::find;
 use crate::history::History;
-use crate::objects::Object;
 use crate::indices::{set_value, value_at};
+use crate::objects::Object;
 use crate::rows::{AreaRow, ObjectRow};
 use crate::sets::{set_ceiling_in, set_slot_in};
 use raw_words::RawWords;

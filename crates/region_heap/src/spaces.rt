@@ -106,7 +106,6 @@ fn pop_area(areas: &mut Vec<AreaRow>) -> AreaRow
 }
 
 impl RegionHeap {
-
     /// Whether an object with so many slots has room in an open area.
     pub fn has_room(&self, area: AreaId, count: usize) -> bool
         requires { IsTrue (is_open_area self.now area) }

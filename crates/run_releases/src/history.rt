@@ -15,8 +15,8 @@ ghost use Rattle.run_releases.specs.OtherReleases.{all_let_go, at_unit, with_reg
 use crate::choice::choose;
 use crate::counts::{number_at, one_more, reach, set_number, take_one};
 use crate::indices::{
-    any_started, drop_all, forget, is_live_there, keep_live, push_release, set_status, take_from,
-    report_all, waiting_there,
+    any_started, drop_all, forget, is_live_there, keep_live, push_release, report_all, set_status,
+    take_from, waiting_there,
 };
 use crate::rows::{Release, ReleaseStatus};
 use job_frames::Activity;

@@ -15,8 +15,8 @@ ghost use Rattle.run_state.specs.Steps.{HasOnTop, IsStep};
 
 use crate::ends::fault_in;
 use crate::jobs::put_back;
-use crate::states::{Acting, RunState};
 use crate::reported::report_priority;
+use crate::states::{Acting, RunState};
 use crate::tops::save_priority;
 use job_frames::{Activity, Frame, NewFrame};
 use op_list::OpList;
@@ -153,7 +153,13 @@ pub fn called(
         }
         Some(ceiling) => {
             if ceiling < activity.priority {
-                refused(state, acting, activity, RunFault::CeilingViolation, reported)?;
+                refused(
+                    state,
+                    acting,
+                    activity,
+                    RunFault::CeilingViolation,
+                    reported,
+                )?;
                 Ok(())
             } else {
                 entered(state, acting, activity, ceiling, reported)?;

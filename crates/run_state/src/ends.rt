@@ -11,8 +11,8 @@ ghost use Rattle.run_state.specs.Seen.{job_seen, state_of};
 ghost use Rattle.run_state.specs.Standing.{CloseInOrder, ClosesLast, after_close};
 ghost use Rattle.run_state.specs.Steps.{IsStep};
 
-use crate::states::{Acting, Job, RunState};
 use crate::reported::{report, report_end, report_two};
+use crate::states::{Acting, Job, RunState};
 use job_frames::{Activity, Frame};
 use region_heap::RegionHeap;
 use scj_base::{AreaId, Memory, Position, RunFault, Value};
@@ -75,7 +75,11 @@ pub fn halted(
     let unit = state.unit;
     report_two(
         reported,
-        Event::Fault { unit, fault, position },
+        Event::Fault {
+            unit,
+            fault,
+            position,
+        },
         Event::Halted { unit },
     )?;
     state.phase = Phase::Over;
@@ -85,7 +89,11 @@ pub fn halted(
 }
 
 /// The release at a place has come to its end.
-fn release_ended(state: &mut RunState, release: usize, reported: &mut Vec<Event>) -> Result<(), Memory>
+fn release_ended(
+    state: &mut RunState,
+    release: usize,
+    reported: &mut Vec<Event>,
+) -> Result<(), Memory>
     ensures { (code : Listing) (activity : ActivityOfRun) →
         IfOk result
         (λ _. IsStep code (job_ended (state_of code state.old) (ReleaseAt release) activity None) state.new
@@ -113,7 +121,14 @@ fn release_broken(
         reported.old.items reported.new.items) }
 {
     let unit = state.unit;
-    report(reported, Event::Fault { unit, fault, position })?;
+    report(
+        reported,
+        Event::Fault {
+            unit,
+            fault,
+            position,
+        },
+    )?;
     report_end(state, release, reported)?;
     close_all(&mut state.memory, activity.frames.in_order());
     state.releases.end(release);

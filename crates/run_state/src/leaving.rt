@@ -13,8 +13,8 @@ ghost use Rattle.run_state.specs.Calls.{settled};
 
 use crate::ends::{close_opened, job_ended};
 use crate::jobs::put_back;
-use crate::states::{Job, RunState};
 use crate::reported::report_priority;
+use crate::states::{Job, RunState};
 use job_frames::Activity;
 use scj_base::{AreaId, Memory, Value};
 use scj_model::Event;

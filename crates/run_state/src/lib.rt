@@ -8,9 +8,9 @@ pub mod jobs;
 mod leaving;
 pub mod memory;
 pub mod openings;
+pub mod reported;
 pub mod states;
 pub mod stores;
-pub mod reported;
 mod tops;
 
 pub use states::{Acting, Job, NewArea, NewArray, NewObject, RunState, Turn};

@@ -30,7 +30,11 @@ pub fn report_two(reported: &mut Vec<Event>, first: Event, second: Event) -> Res
 }
 
 /// Tells that the release at a place ends.
-pub(crate) fn report_end(state: &RunState, index: usize, reported: &mut Vec<Event>) -> Result<(), Memory>
+pub(crate) fn report_end(
+    state: &RunState,
+    index: usize,
+    reported: &mut Vec<Event>,
+) -> Result<(), Memory>
     ensures { (code : Listing) →
         OnOk result (reported.new.items ≡ reported.old.items ++ of_release (state_of code state.now) (ReleaseAt index)
         (λ r. End state.now.unit r.handler r.number ∷ [])) }

@@ -96,7 +96,13 @@ pub fn sets_ceiling(
             Ok(())
         }
         Job::Release(_) => {
-            fault_in(state, acting, &activity, RunFault::NotInitializing, reported)?;
+            fault_in(
+                state,
+                acting,
+                &activity,
+                RunFault::NotInitializing,
+                reported,
+            )?;
             Ok(())
         }
     }

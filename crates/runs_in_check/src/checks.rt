@@ -68,7 +68,11 @@ fn judge(
             note_annotation(found, facts, at.id, node)?;
             Ok(None)
         }
-        Node::LocalWithValue { position, value, .. } => {
+        Node::LocalWithValue {
+            position,
+            value,
+            ..
+        } => {
             note_annotation(found, facts, at.id, node)?;
             report_if(found, misfits_local(at, *value), Rule::E4, *position)?;
             Ok(None)
@@ -104,7 +108,11 @@ fn judge(
             operand,
             ..
         } => note_cast(found, at, *position, name.get(), *operand),
-        Node::NewArray { position, element, .. } => {
+        Node::NewArray {
+            position,
+            element,
+            ..
+        } => {
             report_if(found, misfits_array(at, *element), Rule::E10, *position)?;
             Ok(current_at(facts, at.id))
         }

@@ -16,7 +16,7 @@ use crate::calls::{Callee, note_arguments};
 use crate::guards::Guards;
 use crate::scopes::{is_other, misfit_scope, scope_in_class, scope_of_new};
 use crate::stores::is_guarded_store;
-use program_facts::{At, ProgramFacts, NameMeaning};
+use program_facts::{At, NameMeaning, ProgramFacts};
 use scj_base::{ClassId, Found, Memory, Name, NodeId, Position, Rule, ScopeId};
 use scj_rules::{ClassScope, Scope, Ty, report_if};
 use scj_tree::Node;
@@ -53,7 +53,12 @@ pub fn note_new(
     let Some(class) = facts.class_of(name) else {
         return Ok(None);
     };
-    report_if(found, lies_elsewhere(facts, at.id, class), Rule::E1, position)?;
+    report_if(
+        found,
+        lies_elsewhere(facts, at.id, class),
+        Rule::E1,
+        position,
+    )?;
     let callee = Callee::Constructor(class, scope_of_new(facts, at.id, class));
     note_arguments(found, at, &callee, arguments)?;
     Ok(scope_of_new(facts, at.id, class))
@@ -192,7 +197,12 @@ pub fn note_cast(
         return Ok(None);
     };
     let scope = at.scope_of(operand);
-    report_if(found, lies_outside(facts, &scope, class), Rule::E9, position)?;
+    report_if(
+        found,
+        lies_outside(facts, &scope, class),
+        Rule::E9,
+        position,
+    )?;
     Ok(scope_in_class(facts, class, &scope))
 }
 

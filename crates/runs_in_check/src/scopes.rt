@@ -14,7 +14,7 @@ ghost use Rattle.program_facts.specs.Reported.{declared, types, scopes};
 
 use class_rows::FieldRef;
 use method_rows::MethodRef;
-use program_facts::{At, ProgramFacts, NameMeaning};
+use program_facts::{At, NameMeaning, ProgramFacts};
 use scj_base::{ClassId, Name, NodeId};
 use scj_rules::{Scope, Ty};
 use scope_tree::scopes::class_scope;
@@ -54,7 +54,11 @@ pub fn receiver_scope(at: &At<'_>, object: &Option<NodeId>) -> Option<Scope>
 
 /// A field's scope, with that of its object for THIS.
 #[tactic(auto, unfolding(scj_rules::specs::UseRules::scope_of_field))]
-fn scope_of_field(facts: &ProgramFacts<'_>, object: &Option<Scope>, field: &FieldRef) -> Option<Scope>
+fn scope_of_field(
+    facts: &ProgramFacts<'_>,
+    object: &Option<Scope>,
+    field: &FieldRef,
+) -> Option<Scope>
     ensures { result ≡ scope_of_field (declarations_of facts.now) object.now (found_field facts.now.nodes field.now) }
 {
     let scope = field_scope(facts, field)?;
@@ -63,7 +67,11 @@ fn scope_of_field(facts: &ProgramFacts<'_>, object: &Option<Scope>, field: &Fiel
 
 /// The scope of a class's values, or this one where the class is unannotated.
 #[tactic(auto, unfolding(scj_rules::specs::UseRules::scope_in_class))]
-pub fn scope_in_class(facts: &ProgramFacts<'_>, class: ClassId, other: &Option<Scope>) -> Option<Scope>
+pub fn scope_in_class(
+    facts: &ProgramFacts<'_>,
+    class: ClassId,
+    other: &Option<Scope>,
+) -> Option<Scope>
     ensures { result ≡ scope_in_class (declarations_of facts.now) class other.now }
 {
     scope_or(&class_scope(facts, class), other)

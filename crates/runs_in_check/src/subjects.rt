@@ -10,7 +10,7 @@ ghost use Rattle.scj_builtins.specs.Framework.{managed_memory_alloc_in_same};
 ghost use Rattle.program_facts.specs.Reported.{declared, types};
 
 use crate::calls::called_builtin;
-use program_facts::{At, ProgramFacts, NameMeaning};
+use program_facts::{At, NameMeaning, ProgramFacts};
 use scj_base::ids::MANAGED_MEMORY_ALLOC_IN_SAME;
 use scj_base::{Name, NodeId};
 use scj_rules::{Guard, Subject};

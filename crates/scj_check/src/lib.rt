@@ -2,8 +2,8 @@
 #![tactic(auto)]
 
 pub mod laws;
-pub mod phases;
 pub mod parse_outcomes;
+pub mod phases;
 pub mod sources;
 pub mod verdicts;
 

@@ -57,7 +57,12 @@ pub fn read(alloc: Global, sources: &Sources) -> Result<ParseOutcome, Memory>
 
 /// What was read before with one more file. A break of the grammar stays, since the lexemes of later files may
 /// still have one, which is told in its place.
-fn add_text(alloc: Global, file: u8, text: &[u8], before: ParseOutcome) -> Result<ParseOutcome, LexError>
+fn add_text(
+    alloc: Global,
+    file: u8,
+    text: &[u8],
+    before: ParseOutcome,
+) -> Result<ParseOutcome, LexError>
     requires few { file < 16 }
     requires short { length text.now ≤ 1048576 }
     requires next { HasFiles file before }

@@ -43,12 +43,20 @@ pub fn judge(alloc: Global, program: &Program) -> Result<Judgement, Memory>
         return Ok(Judgement::Broken(found));
     }
     let names = names_of(alloc, &table)?;
-    Ok(judge_types(alloc, &ProgramFacts::new(&table, &contexts, &names), &numbers)?)
+    Ok(judge_types(
+        alloc,
+        &ProgramFacts::new(&table, &contexts, &names),
+        &numbers,
+    )?)
 }
 
 /// Judges a program that breaks no rule on classes.
 #[tactic(auto, using(scj_rules::proofs::VerdictLemmas::reported_of_types, crate::proofs::VerdictLaws::accepted_of))]
-fn judge_types(alloc: Global, facts: &ProgramFacts<'_>, numbers: &[u32]) -> Result<Judgement, Memory>
+fn judge_types(
+    alloc: Global,
+    facts: &ProgramFacts<'_>,
+    numbers: &[u32],
+) -> Result<Judgement, Memory>
     requires right { NothingBreaks (BreaksClassRules facts.now) }
     requires numbers { numbers.now ≡ numbers_before (declarations_of facts.now) }
     ensures { IfOk result (λ judgement. IsJudgement facts.now judgement) }
@@ -68,7 +76,11 @@ fn judge_types(alloc: Global, facts: &ProgramFacts<'_>, numbers: &[u32]) -> Resu
 
 /// The report of a program that breaks no rule of the phases before the scopes.
 #[tactic(auto, using(scj_rules::proofs::VerdictLemmas::reported_of_scopes))]
-fn late_report(alloc: Global, facts: &ProgramFacts<'_>, types: &[Option<Ty>]) -> Result<Vec<Found>, Memory>
+fn late_report(
+    alloc: Global,
+    facts: &ProgramFacts<'_>,
+    types: &[Option<Ty>],
+) -> Result<Vec<Found>, Memory>
     requires right_classes { NothingBreaks (BreaksClassRules facts.now) }
     requires right_types { NothingBreaks (BreaksTypeRules facts.now) }
     requires types { types.now ≡ types_in (declarations_of facts.now) }

@@ -5,8 +5,8 @@ ghost use Rattle.scj_rules.specs.CheckedProgram.{IsReadFromTexts};
 ghost use Rattle.scj_check.specs.Texts.{texts_of};
 ghost use Rattle.scj_check.specs.Verdicts.{IsVerdict, IsVerdictOn};
 
-use crate::phases::{Judgement, judge};
 use crate::parse_outcomes::{ParseOutcome, read};
+use crate::phases::{Judgement, judge};
 use crate::sources::Sources;
 use scj_base::{Found, Memory};
 use scj_rules::Checked;

@@ -12,7 +12,7 @@ ghost use Rattle.scj_cli.specs.Outcomes.{run_status, Ran};
 
 use crate::kept_traces::KeptTrace;
 use crate::loads::load_run;
-use crate::refusals::{Refusal, ModeError};
+use crate::refusals::{ModeError, Refusal};
 use crate::runnables::{Judged, Runnable, judge, status_of};
 use scj_base::{Memory, Status};
 use scj_check::Sources;

@@ -11,7 +11,7 @@ ghost use Rattle.scj_cli.specs.Modes.{IsAnswered, Stops, RefusesForm};
 
 use crate::loads::{AuditFiles, load_audit};
 use crate::plan_refusals::plan_in;
-use crate::refusals::{Refusal, ModeError};
+use crate::refusals::{ModeError, Refusal};
 use scj_base::Status;
 use scj_io::{Shelf, Sink, put_all};
 use std::alloc::{AllocError, Global};

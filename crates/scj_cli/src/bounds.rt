@@ -13,7 +13,7 @@ ghost use Rattle.scj_cli.specs.Reports.{report_text};
 
 use crate::bound_lists::bound_list;
 use crate::loads::load_all;
-use crate::refusals::{Refusal, ModeError};
+use crate::refusals::{ModeError, Refusal};
 use crate::reports::report;
 use class_rows::ClassTable;
 use object_layout::Layout;

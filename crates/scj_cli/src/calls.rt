@@ -15,7 +15,7 @@ use crate::confirmations::confirm;
 use crate::faults::faults;
 use crate::gens::run_generated;
 use crate::migrations::migrate;
-use crate::refusals::{Refusal, ModeError};
+use crate::refusals::{ModeError, Refusal};
 use crate::responses::respond;
 use crate::runs::run;
 use crate::shows::show;

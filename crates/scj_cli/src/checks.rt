@@ -10,7 +10,7 @@ ghost use Rattle.scj_cli.specs.Answers.{Answer, accepted_line};
 ghost use Rattle.scj_cli.specs.Modes.{IsAnswered, Stops, RefusesForm};
 
 use crate::loads::load_all;
-use crate::refusals::{Refusal, ModeError};
+use crate::refusals::{ModeError, Refusal};
 use crate::reported::{Told, refused};
 use scj_base::Status;
 use scj_check::{Sources, Verdict};

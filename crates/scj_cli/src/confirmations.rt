@@ -10,7 +10,7 @@ ghost use Rattle.scj_cli.specs.Modes.{IsAnswered, Stops, RefusesForm};
 
 use crate::loads::load_alone;
 use crate::plan_refusals::declared_in;
-use crate::refusals::{Refusal, ModeError};
+use crate::refusals::{ModeError, Refusal};
 use response_times::check_response;
 use scj_base::Status;
 use scj_io::{Shelf, Sink, put_all};

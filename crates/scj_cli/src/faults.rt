@@ -14,7 +14,7 @@ ghost use Rattle.scj_cli.specs.Modes.{IsAnswered, Stops, RefusesForm};
 
 use crate::fault_lists::fault_list;
 use crate::loads::load_all;
-use crate::refusals::{Refusal, ModeError};
+use crate::refusals::{ModeError, Refusal};
 use crate::reported::{Told, refused};
 use certain_faults::{CertainFault, certain_faults};
 use scj_base::{Memory, Status};

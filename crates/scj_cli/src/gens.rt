@@ -11,7 +11,7 @@ ghost use Rattle.scj_cli.specs.Modes.{IsAnswered, Stops, RefusesForm};
 ghost use Rattle.scj_cli.specs.Outcomes.{generated_names, run_status, gen_out, Ran};
 
 use crate::kept_traces::KeptTrace;
-use crate::refusals::{Refusal, ModeError};
+use crate::refusals::{ModeError, Refusal};
 use crate::runnables::{Judged, Runnable, judge};
 use crate::summaries::summary;
 use scj_base::{Memory, Status};

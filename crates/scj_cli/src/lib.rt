@@ -18,12 +18,12 @@ mod loads;
 mod migrations;
 mod plan_refusals;
 mod refusals;
+mod reported;
 mod reports;
 mod responses;
 mod runnables;
 mod runs;
 mod shows;
 mod summaries;
-mod reported;
 
 pub use calls::scj;

@@ -8,7 +8,7 @@ ghost use Rattle.scj_cli.specs.Outcomes.{status_of_end};
 ghost use Rattle.scj_cli.specs.Judgements.{HasRun, IsJudged, RefusesPlan, RefusesRun, StopsRun};
 
 use crate::plan_refusals::plan_in;
-use crate::refusals::{Refusal, ModeError};
+use crate::refusals::{ModeError, Refusal};
 use crate::reports::report;
 use plain_machine::{RunEnd, RunError};
 use run_plan::Plan;

@@ -9,7 +9,7 @@ ghost use Rattle.scj_cli.specs.Answers.{Answer, shown_text};
 ghost use Rattle.scj_cli.specs.Modes.{IsAnswered, Stops, RefusesForm};
 
 use crate::loads::load_all;
-use crate::refusals::{Refusal, ModeError};
+use crate::refusals::{ModeError, Refusal};
 use crate::reports::report;
 use scj_base::{Failed, Memory, Status};
 use scj_check::{ParseOutcome, Sources, read};

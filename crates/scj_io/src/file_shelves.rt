@@ -93,7 +93,12 @@ impl From<AllocError> for ReadError {
     }
 }
 
-fn read_file<R: Files>(files: &R, name: &str, limit: usize, bytes: &mut Vec<u8>) -> Result<(), ReadError>
+fn read_file<R: Files>(
+    files: &R,
+    name: &str,
+    limit: usize,
+    bytes: &mut Vec<u8>,
+) -> Result<(), ReadError>
     requires { bytes.old.items ≡ [] }
 {
     let Ok(mut file) = fs::open(files, name) else {

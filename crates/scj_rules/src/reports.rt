@@ -19,7 +19,12 @@ pub fn put_in_order(found: &mut Vec<Found>)
 }
 
 /// Reports that a rule is broken at a place, where the test holds.
-pub fn report_if(found: &mut Vec<Found>, test: bool, rule: Rule, pos: Position) -> Result<(), Memory>
+pub fn report_if(
+    found: &mut Vec<Found>,
+    test: bool,
+    rule: Rule,
+    pos: Position,
+) -> Result<(), Memory>
     ensures { OnOk result (found.new.items ≡ found.old.items ++ broken test rule pos) }
 {
     if test {

@@ -99,7 +99,12 @@ fn lies_in_parent(facts: &ProgramFacts, class: ClassId, definition: &Definition)
 
 /// Whether a parent doesn't suit the class that names it.
 #[tactic(auto, unfolding(scj_rules::specs::ScopeRules::misfits_parent))]
-fn misfits_parent(facts: &ProgramFacts, class: ClassId, definition: &Definition, parent: ScopeId) -> bool
+fn misfits_parent(
+    facts: &ProgramFacts,
+    class: ClassId,
+    definition: &Definition,
+    parent: ScopeId,
+) -> bool
     ensures { result ≡ misfits_parent (declarations_of facts.now) class definition.now parent }
 {
     let classes = facts.classes();

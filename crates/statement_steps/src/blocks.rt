@@ -41,7 +41,9 @@ pub fn target_start(
     if let View::Sign(sign, position) = view {
         if *sign == LEFT_PARENTHESIS {
             stack.push(Entry::Target)?;
-            return Ok(Some(Mode::Opened { position: *position }));
+            return Ok(Some(Mode::Opened {
+                position: *position,
+            }));
         }
         return Ok(None);
     }
@@ -314,7 +316,13 @@ pub fn if_open_step(
         gives result nodes.new.all stack.new awaited ≡ awaited }
     ensures kept { nodes.new.kept ≡ nodes.old.kept }
 {
-    test_open_step(nodes, stack, view, Mode::Operand, Entry::IfTest { position })
+    test_open_step(
+        nodes,
+        stack,
+        view,
+        Mode::Operand,
+        Entry::IfTest { position },
+    )
 }
 
 /// Behind `while`.
@@ -348,7 +356,13 @@ pub fn for_open_step(
         gives result nodes.new.all stack.new awaited ≡ awaited }
     ensures kept { nodes.new.kept ≡ nodes.old.kept }
 {
-    test_open_step(nodes, stack, view, Mode::ForFirst, Entry::ForHead { position })
+    test_open_step(
+        nodes,
+        stack,
+        view,
+        Mode::ForFirst,
+        Entry::ForHead { position },
+    )
 }
 
 /// Behind `return`.
@@ -365,7 +379,10 @@ pub fn return_step(
 {
     if let View::Sign(sign, _) = view {
         if *sign == SEMICOLON {
-            let id = nodes.put(Node::Return { position, value: None })?;
+            let id = nodes.put(Node::Return {
+                position,
+                value: None,
+            })?;
             return Ok(Some(Mode::StatementEnd { id }));
         }
         stack.push(Entry::ReturnValue { position })?;
@@ -465,8 +482,14 @@ pub fn block_ended(nodes: &mut Nodes, stack: &mut Stack) -> Result<Option<Mode>,
         return Ok(None);
     };
     match entry {
-        Entry::BlockOpen { position, statements } => {
-            let id = nodes.put(Node::Block { position, statements })?;
+        Entry::BlockOpen {
+            position,
+            statements,
+        } => {
+            let id = nodes.put(Node::Block {
+                position,
+                statements,
+            })?;
             Ok(Some(Mode::StatementEnd { id }))
         }
         _other => Ok(None),

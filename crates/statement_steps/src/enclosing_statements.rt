@@ -29,7 +29,10 @@ pub fn enclosing(entry: &Entry, view: &View, id: NodeId) -> Option<Node>
     ensures { result ≡ enclosing_node entry.now (seen view.now) id }
 {
     match entry {
-        Entry::IfThen { position, condition } => {
+        Entry::IfThen {
+            position,
+            condition,
+        } => {
             if is_else(view) {
                 return None;
             }
@@ -50,7 +53,10 @@ pub fn enclosing(entry: &Entry, view: &View, id: NodeId) -> Option<Node>
             then_part: *then_part,
             else_part: Some(id),
         }),
-        Entry::WhileBody { position, condition } => Some(Node::While {
+        Entry::WhileBody {
+            position,
+            condition,
+        } => Some(Node::While {
             position: *position,
             condition: *condition,
             body: id,

@@ -206,7 +206,10 @@ pub fn block_statement_ended(
     ensures kept { nodes.new.kept ≡ nodes.old.kept }
 {
     let statements = with_item(statements, id)?;
-    stack.push(Entry::BlockOpen { position, statements })?;
+    stack.push(Entry::BlockOpen {
+        position,
+        statements,
+    })?;
     statements_step(nodes, stack, view)
 }
 
@@ -225,9 +228,10 @@ pub fn whole_ended(
     ensures kept { nodes.new.kept ≡ nodes.old.kept }
 {
     match entry {
-        Entry::BlockOpen { position, statements } => block_statement_ended(
-            nodes, stack, view, id, position, statements,
-        ),
+        Entry::BlockOpen {
+            position,
+            statements,
+        } => block_statement_ended(nodes, stack, view, id, position, statements),
         Entry::MethodBody {
             flags,
             result_type,
@@ -254,7 +258,10 @@ pub fn whole_ended(
         } => constructor_ended(
             nodes, stack, view, id, flags, position, name, parameters, super_call,
         ),
-        Entry::IfThen { position, condition } => {
+        Entry::IfThen {
+            position,
+            condition,
+        } => {
             if is_else(view) {
                 stack.push(Entry::IfElse {
                     position,

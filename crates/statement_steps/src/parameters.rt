@@ -197,7 +197,11 @@ pub fn body_step(
             position,
             name,
         ),
-        Entry::ConstructorOpen { flags, position, name } => {
+        Entry::ConstructorOpen {
+            flags,
+            position,
+            name,
+        } => {
             if sign == LEFT_BRACE {
                 stack.push(Entry::ConstructorBody {
                     flags,
@@ -206,7 +210,9 @@ pub fn body_step(
                     parameters,
                     super_call: None,
                 })?;
-                Ok(Some(Mode::ConstructorStart { position: sign_position }))
+                Ok(Some(Mode::ConstructorStart {
+                    position: sign_position,
+                }))
             } else {
                 Ok(None)
             }
@@ -295,7 +301,10 @@ pub fn super_open_step(
     if *sign != LEFT_PARENTHESIS {
         return Ok(None);
     }
-    stack.push(Entry::SuperCallOpen { block_position, position })?;
+    stack.push(Entry::SuperCallOpen {
+        block_position,
+        position,
+    })?;
     stack.push(Entry::ArgumentsOpen {
         list: nodes.empty_list(),
     })?;

@@ -101,7 +101,11 @@ pub fn scope_in(
 
 /// The scope of a method's parameter. Most are no references, which the type tells.
 #[tactic(auto, unfolding(method_rows::specs::Methods::found_method, scj_rules::specs::StaticScopes::declaration_scope))]
-pub fn parameter_scope(facts: &ProgramFacts, method: &MethodRef, parameter: &Declared) -> Option<Scope>
+pub fn parameter_scope(
+    facts: &ProgramFacts,
+    method: &MethodRef,
+    parameter: &Declared,
+) -> Option<Scope>
     ensures { result ≡ parameter_scope (declarations_of facts.now) (found_method facts.now.nodes method.now).on
         (found_method facts.now.nodes method.now).method parameter.now }
 {

@@ -148,12 +148,11 @@ pub fn put_words(line: &mut Vec<u8>, program: &Program, files: &Files, event: &E
             ..
         } => put_two(line, b" prio", *handler as u64, *priority as u64),
         Event::Print { label, value, .. } => put_print(line, label_at(program, *label), *value),
-        Event::Fault { fault, position, .. } => put_fault(
-            line,
-            *fault,
-            name_at(files, position.file),
-            position.line,
-        ),
+        Event::Fault {
+            fault,
+            position,
+            ..
+        } => put_fault(line, *fault, name_at(files, position.file), position.line),
         Event::End {
             handler,
             number,

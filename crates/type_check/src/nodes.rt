@@ -186,7 +186,10 @@ fn judge_declaration(
             report_if(found, misfits, Rule::T7, *position)?;
             Ok(None)
         }
-        Node::SuperCall { position, arguments } => {
+        Node::SuperCall {
+            position,
+            arguments,
+        } => {
             let misfits = misfits_super_call(at, arguments.items());
             report_if(found, misfits, Rule::T6, *position)?;
             Ok(None)
@@ -228,7 +231,12 @@ fn judge_seldom(found: &mut Vec<Found>, at: &At<'_>, node: &Node) -> Result<Opti
             report_if(found, misfits, Rule::T6, *position)?;
             let has_none = makes_no_object(at, name.get(), arguments.items());
             report_if(found, has_none, Rule::T11, *position)?;
-            report_if(found, is_misplaced_form(at, name.get()), Rule::T14, *position)?;
+            report_if(
+                found,
+                is_misplaced_form(at, name.get()),
+                Rule::T14,
+                *position,
+            )?;
             Ok(type_of_new(at, name.get(), arguments.items()))
         }
         Node::NewArray {

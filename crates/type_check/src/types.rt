@@ -13,7 +13,7 @@ ghost use Rattle.type_words.specs.Returns.{all_returns};
 use crate::kinds::type_of_kind;
 use crate::nodes::judge;
 use crate::rows::filled;
-use program_facts::{At, ProgramFacts, NodeMeaning};
+use program_facts::{At, NodeMeaning, ProgramFacts};
 use scj_base::{Found, Memory, NodeId};
 use scj_rules::{Ty, put_in_order};
 use std::alloc::Global;

@@ -22,7 +22,7 @@ use crate::names::call_receiver;
 use crate::results::call_type;
 use crate::statements::has_framework_size;
 use method_rows::{MethodRef, is_callable_row, is_static, result_type};
-use program_facts::{At, ProgramFacts, NodeMeaning};
+use program_facts::{At, NodeMeaning, ProgramFacts};
 use scj_base::ids::{OBJECT, SAFELET};
 use scj_base::{ClassId, Found, Memory, Name, NodeId, Position, Rule};
 use scj_builtins::{ClassKind, FRAMEWORK_CLASS_COUNT};

@@ -9,8 +9,8 @@ ghost use Rattle.scj_rules.specs.Types.{new_of, is_new, release_part, have_prior
 use crate::names::when;
 use program_facts::ProgramFacts;
 use scj_base::ids::{
-    APERIODIC_PARAMETERS, MISSION_SEQUENCER, PERIODIC_EVENT_HANDLER,
-    PERIODIC_PARAMETERS, PRIORITY_PARAMETERS, RELATIVE_TIME, STORAGE_PARAMETERS,
+    APERIODIC_PARAMETERS, MISSION_SEQUENCER, PERIODIC_EVENT_HANDLER, PERIODIC_PARAMETERS,
+    PRIORITY_PARAMETERS, RELATIVE_TIME, STORAGE_PARAMETERS,
 };
 use scj_base::{ClassId, NodeId};
 use scj_rules::has_form;
@@ -18,7 +18,12 @@ use scj_tree::Node;
 
 /// The arguments of `new class(..)` at this node, where they are so many.
 #[tactic(auto, unfolding(scj_rules::specs::Types::new_of, scj_rules::specs::Contexts::declarations_of))]
-fn new_of<'a>(facts: &ProgramFacts<'a>, class: ClassId, count: usize, id: NodeId) -> Option<&'a [NodeId]>
+fn new_of<'a>(
+    facts: &ProgramFacts<'a>,
+    class: ClassId,
+    count: usize,
+    id: NodeId,
+) -> Option<&'a [NodeId]>
     ensures { option_copied result ≡ read (declarations_of facts.now).nodes
         (new_of (declarations_of facts.now) class count) id }
 {
@@ -44,7 +49,12 @@ fn is_new(facts: &ProgramFacts<'_>, class: ClassId, count: usize, id: NodeId) ->
 
 /// Of the release parameters of a handler's form, where this is them: whether a node is among their parts.
 #[tactic(auto, unfolding(scj_rules::specs::Types::release_part, scj_rules::specs::Types::periodic_part))]
-fn release_part(facts: &ProgramFacts<'_>, superclass: ClassId, id: NodeId, asked: NodeId) -> Option<bool>
+fn release_part(
+    facts: &ProgramFacts<'_>,
+    superclass: ClassId,
+    id: NodeId,
+    asked: NodeId,
+) -> Option<bool>
     ensures { result ≡ option_map (is_among asked) (release_part (declarations_of facts.now) superclass id) }
 {
     if superclass != PERIODIC_EVENT_HANDLER {

@@ -12,7 +12,7 @@ ghost use Rattle.program_facts.specs.Reported.{declared, types};
 
 use class_rows::FieldRef;
 use method_rows::MethodRef;
-use program_facts::{At, ProgramFacts, NameMeaning, NodeMeaning};
+use program_facts::{At, NameMeaning, NodeMeaning, ProgramFacts};
 use scj_base::vocabulary::{
     AND_AND, EQUAL, GREATER, GREATER_EQUAL, LESS, LESS_EQUAL, NOT_EQUAL, OR_OR,
 };

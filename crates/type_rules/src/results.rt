@@ -12,7 +12,7 @@ ghost use Rattle.program_facts.specs.Meanings.{meant};
 use crate::names::{type_written, written_type};
 use class_rows::FieldRef;
 use method_rows::{MethodRef, result_type};
-use program_facts::{ProgramFacts, NameMeaning};
+use program_facts::{NameMeaning, ProgramFacts};
 use scj_base::Name;
 use scj_rules::{Receiver, Ty};
 use scj_tree::Node;

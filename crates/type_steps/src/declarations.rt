@@ -194,7 +194,9 @@ pub fn flags_step(
                     is_local,
                     flags: placed(*position, flags),
                 })?;
-                return Ok(Some(Mode::At { position: *position }));
+                return Ok(Some(Mode::At {
+                    position: *position,
+                }));
             }
             flags_ended(nodes, stack, view, flags)
         }

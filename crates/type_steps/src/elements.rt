@@ -23,7 +23,11 @@ pub fn same_element(element: &ElementType) -> Result<ElementType, Memory>
 
 /// The node of a type, an array's where `is_array` holds.
 #[tactic(auto, unfolding(parser_machine::specs::Declarations::element_node))]
-pub fn element_node(position: Position, element: &ElementType, is_array: bool) -> Result<Node, Memory>
+pub fn element_node(
+    position: Position,
+    element: &ElementType,
+    is_array: bool,
+) -> Result<Node, Memory>
     ensures { IfOk result (λ node. node ≡ node_of_element position element.now is_array) }
 {
     match element {

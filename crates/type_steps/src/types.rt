@@ -135,7 +135,9 @@ pub fn constructor_step(
                 position,
                 name: name.share()?,
             })?;
-            Ok(Some(Mode::ParametersFirst { position: parenthesis }))
+            Ok(Some(Mode::ParametersFirst {
+                position: parenthesis,
+            }))
         }
         _other => Ok(None),
     }

@@ -130,7 +130,9 @@ fn apply(
             Ok(true)
         }
         Effect::Calls { call, arguments } => {
-            calls(alloc, code, state, acting, activity, call, arguments, reported)?;
+            calls(
+                alloc, code, state, acting, activity, call, arguments, reported,
+            )?;
             Ok(true)
         }
         Effect::Opens { call, scope, bytes } => {
@@ -147,9 +149,13 @@ fn apply(
             faults(state, acting, activity, fault, reported)?;
             Ok(true)
         }
-        Effect::AsksRegistration { r } => asks_registration(code, state, acting, activity, r, reported),
+        Effect::AsksRegistration { r } => asks_registration(
+            code, state, acting, activity, r, reported,
+        ),
         Effect::AsksRelease { r } => asks_release(code, state, acting, activity, r, reported),
-        Effect::AsksTermination { r } => asks_termination(code, state, acting, activity, r, reported),
+        Effect::AsksTermination { r } => asks_termination(
+            code, state, acting, activity, r, reported,
+        ),
         Effect::Stuck => Ok(is_stuck()),
     }
 }

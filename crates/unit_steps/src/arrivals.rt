@@ -44,7 +44,11 @@ fn is_due_at(state: &RunState, index: usize) -> bool
 }
 
 /// The handler at a place of the registry is released if it is due.
-fn arrive_if_due(state: &mut RunState, index: usize, reported: &mut Vec<Event>) -> Result<(), Memory>
+fn arrive_if_due(
+    state: &mut RunState,
+    index: usize,
+    reported: &mut Vec<Event>,
+) -> Result<(), Memory>
     ensures { (code : Listing) →
         IfOk result
         (λ _. IsStep code (arrived_at (state_of code state.old) index) state.new reported.old.items reported.new.items) }

@@ -7,12 +7,12 @@ mod assignments;
 mod branches;
 mod leaves;
 mod names;
-mod operators;
 mod node_queries;
+mod operators;
 
 pub use arrays::{elem, length, put_elem};
 pub use assignments::{init, put, put_static, store, zero};
-pub use branches::{and, choose, or, iterate};
+pub use branches::{and, choose, iterate, or};
 pub use leaves::{drop, leave, leave_with};
 pub use names::{get, get_static, load, push, this};
 pub use operators::{bin, cast, unary};

@@ -103,7 +103,12 @@ pub fn print_node<W: Write>(node: &Node, out: &mut W) -> Result<(), TableError> 
             *position,
             &[Named(name.bytes())],
         ),
-        Node::IntType { position, is_array } => print_line(out, "IntType", *position, &[Flag(*is_array)]),
+        Node::IntType { position, is_array } => print_line(
+            out,
+            "IntType",
+            *position,
+            &[Flag(*is_array)],
+        ),
         Node::BooleanType { position, is_array } => print_line(
             out,
             "BooleanType",
@@ -180,7 +185,12 @@ pub fn print_node<W: Write>(node: &Node, out: &mut W) -> Result<(), TableError> 
                 Child(*body),
             ],
         ),
-        Node::Parameters { position, list } => print_line(out, "Parameters", *position, &[List(list)]),
+        Node::Parameters { position, list } => print_line(
+            out,
+            "Parameters",
+            *position,
+            &[List(list)],
+        ),
         Node::Parameter {
             position,
             name,
@@ -192,13 +202,14 @@ pub fn print_node<W: Write>(node: &Node, out: &mut W) -> Result<(), TableError> 
             *position,
             &[Named(name.bytes()), Optional(*flags), Child(*declared_type)],
         ),
-        Node::SuperCall { position, arguments } => print_line(
-            out,
-            "SuperCall",
-            *position,
-            &[List(arguments)],
-        ),
-        Node::Block { position, statements } => print_line(out, "Block", *position, &[List(statements)]),
+        Node::SuperCall {
+            position,
+            arguments,
+        } => print_line(out, "SuperCall", *position, &[List(arguments)]),
+        Node::Block {
+            position,
+            statements,
+        } => print_line(out, "Block", *position, &[List(statements)]),
         Node::Empty { position } => print_line(out, "Empty", *position, &[]),
         Node::Local {
             position,
@@ -235,12 +246,10 @@ pub fn print_node<W: Write>(node: &Node, out: &mut W) -> Result<(), TableError> 
             target,
             value,
         } => print_line(out, "Assign", *position, &[Child(*target), Child(*value)]),
-        Node::ExpressionStatement { position, expression } => print_line(
-            out,
-            "ExpressionStatement",
-            *position,
-            &[Child(*expression)],
-        ),
+        Node::ExpressionStatement {
+            position,
+            expression,
+        } => print_line(out, "ExpressionStatement", *position, &[Child(*expression)]),
         Node::If {
             position,
             condition,
@@ -269,7 +278,12 @@ pub fn print_node<W: Write>(node: &Node, out: &mut W) -> Result<(), TableError> 
             *position,
             &[Child(*first), Child(*condition), Child(*step), Child(*body)],
         ),
-        Node::Return { position, value } => print_line(out, "Return", *position, &[Optional(*value)]),
+        Node::Return { position, value } => print_line(
+            out,
+            "Return",
+            *position,
+            &[Optional(*value)],
+        ),
         Node::Binary {
             position,
             operator,
@@ -300,7 +314,11 @@ pub fn print_node<W: Write>(node: &Node, out: &mut W) -> Result<(), TableError> 
             out,
             "Cast",
             *position,
-            &[Position(*name_position), Named(name.bytes()), Child(*operand)],
+            &[
+                Position(*name_position),
+                Named(name.bytes()),
+                Child(*operand),
+            ],
         ),
         Node::Parenthesized { position, inner } => print_line(
             out,
@@ -349,19 +367,33 @@ pub fn print_node<W: Write>(node: &Node, out: &mut W) -> Result<(), TableError> 
             out,
             "New",
             *position,
-            &[Position(*name_position), Named(name.bytes()), List(arguments)],
+            &[
+                Position(*name_position),
+                Named(name.bytes()),
+                List(arguments),
+            ],
         ),
         Node::NewArray {
             position,
             element,
             length,
-        } => print_line(out, "NewArray", *position, &[Child(*element), Child(*length)]),
+        } => print_line(
+            out,
+            "NewArray",
+            *position,
+            &[Child(*element), Child(*length)],
+        ),
         Node::Text { position, text } => print_line(out, "Text", *position, &[Named(text.items())]),
         Node::Number {
             position,
             value,
             is_negative,
-        } => print_line(out, "Number", *position, &[Number(*value), Flag(*is_negative)]),
+        } => print_line(
+            out,
+            "Number",
+            *position,
+            &[Number(*value), Flag(*is_negative)],
+        ),
         Node::True { position } => print_line(out, "True", *position, &[]),
         Node::False { position } => print_line(out, "False", *position, &[]),
         Node::Null { position } => print_line(out, "Null", *position, &[]),
@@ -369,7 +401,12 @@ pub fn print_node<W: Write>(node: &Node, out: &mut W) -> Result<(), TableError> 
     }
 }
 
-fn print_line<W: Write>(out: &mut W, kind: &str, position: Position, fields: &[Field]) -> Result<(), TableError> {
+fn print_line<W: Write>(
+    out: &mut W,
+    kind: &str,
+    position: Position,
+    fields: &[Field],
+) -> Result<(), TableError> {
     write!(out, "{kind} ")?;
     print_position(position, out)?;
     for field in fields {
@@ -422,6 +459,10 @@ fn print_bytes<W: Write>(bytes: &[u8], out: &mut W) -> Result<(), TableError> {
 }
 
 fn print_position<W: Write>(position: Position, out: &mut W) -> Result<(), TableError> {
-    write!(out, "(at {} {} {})", position.file, position.line, position.col)?;
+    write!(
+        out,
+        "(at {} {} {})",
+        position.file, position.line, position.col
+    )?;
     Ok(())
 }

@@ -77,7 +77,12 @@ fn print<W: Write>(alloc: Global, case: &mut Case, to: &mut W) -> Result<(), Tab
 }
 
 // Audits what the run of a case put, and prints an answer that isn't `yes`.
-fn audit<W: Write>(alloc: Global, case: &mut Case, trace: &[u8], to: &mut W) -> Result<(), TableError> {
+fn audit<W: Write>(
+    alloc: Global,
+    case: &mut Case,
+    trace: &[u8],
+    to: &mut W,
+) -> Result<(), TableError> {
     case.shelf.add("trace", trace)?;
     let words = parted(alloc, "audit --plan plan.toml trace")?;
     let ending = Ending::with_room(alloc, &words, &mut case.shelf)?;
