@@ -521,11 +521,11 @@ def printed(name, nodes, files):
     lines = [
         f"-- The nodes of {', '.join(f for f, _ in files)}. Printed by expected/print_nodes.py.",
         "use Rattle.std.specs.Prelude.{" + ", ".join(words) + "}",
-        "use Rattle.scj_base.specs.declared.places.Pos.{Pos}",
+        "use Rattle.scj_base.specs.declared.positions.Position.{Position}",
         "use Rattle.scj_tree.specs.declared.nodes.Node.TheVariants.{" + ", ".join(kinds) + "}",
         "use Rattle.scj_tree.specs.Forest.{Forest}",
         "",
-        "abbrev at : ℕ → ℕ → ℕ → Pos",
+        "abbrev at : ℕ → ℕ → ℕ → Position",
         "at file line col = record { file = file; line = line; col = col }",
         "",
         f"abbrev pub {name} : Forest",

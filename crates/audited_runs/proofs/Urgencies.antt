@@ -227,7 +227,7 @@ placed s q r c e = go r.status e
           | Started activity ↦ Some (record { index = q; priority = activity.priority; is_started = true })
           | Ended ↦ None
           | Dropped ↦ None
-        ] ≡ Some c → c.position ≡ q
+        ] ≡ Some c → c.index ≡ q
     go Waits f = ap (λ (x : Candidate). x.index) (sym (some_inj _ c f))
     go (Started a) f = ap (λ (x : Candidate). x.index) (sym (some_inj _ c f))
     go Ended f = absurd (cc (f))
@@ -244,9 +244,9 @@ are_late s first (r ∷ rs) i d e = go (candidate s first r) refl i e (λ j f. a
         ((j : ℕ) → slice_get (candidates_from s (first + 1) rs) j ≡ Some d → first + 1 ≤ d.index) → first ≤ d.index
     go None f i e more = let a : first + 1 ≤ d.index = more i e in omega (arith, a)
     go (Some c) f zero e more =
-        let a : c.position ≡ first = placed s first r c f in
+        let a : c.index ≡ first = placed s first r c f in
         let b : c ≡ d = some_inj c d e in
-        let same : c.position ≡ d.index = ap (λ (x : Candidate). x.index) b in
+        let same : c.index ≡ d.index = ap (λ (x : Candidate). x.index) b in
         omega (arith, a, same)
     go (Some c) f (suc i) e more = let a : first + 1 ≤ d.index = more i e in omega (arith, a)
 

@@ -1,5 +1,5 @@
 -- The numbers that the framework's calls take, as comparisons of ints tell them.
-use Rattle.std.proofs.Common.{◌≡◌, ℕ, true, false, ◌&&◌, None, ℤ, pos, negsuc, refl, arith}
+use Rattle.std.proofs.Common.{◌≡◌, ℕ, true, false, None, ℤ, pos, negsuc, refl, arith}
 use Rattle.std.specs.Prelude.{int_lt, unsigned_abs}
 use Rattle.std.proofs.lemmas.Bool.Decides.{nat_tests}
 use Rattle.scj_model.specs.Operations.{is_priority, units_of}

@@ -41,7 +41,7 @@ fn follow(
     row: &Row,
     id: NodeId,
 ) -> Result<Effect, Memory>
-    requires { ChoosesIfAny code.now row.now id frame.old.position }
+    requires { ChoosesIfAny code.now row.now id frame.old.index }
     ensures does { IfOk result (λ effect. Does code.now
         (effect_by (code_of code.now.program)
         (environment world.entry.memory.now world.entry.plan.now.readings world.entry.unit)
@@ -55,7 +55,7 @@ fn follow(
         Instruction::This => value_operations::this(frame),
         Instruction::Load(k) => value_operations::load(frame, *k),
         Instruction::Get(field) => value_operations::get(code, memory, frame, *field),
-        Instruction::GetStatic(place) => value_operations::get_static(memory, frame, *place),
+        Instruction::GetStatic(index) => value_operations::get_static(memory, frame, *index),
         Instruction::Length => value_operations::length(memory, frame),
         Instruction::Elem => value_operations::elem(memory, frame),
         Instruction::Unary(operator) => value_operations::unary(frame, *operator),
@@ -86,7 +86,7 @@ fn follow(
         )),
         Instruction::Store(k) => Ok(value_operations::store(frame, *k)),
         Instruction::Put(field) => Ok(value_operations::put(code, memory, frame, *field)),
-        Instruction::PutStatic(place) => Ok(value_operations::put_static(frame, *place)),
+        Instruction::PutStatic(index) => Ok(value_operations::put_static(frame, *index)),
         Instruction::PutElem => Ok(value_operations::put_elem(memory, frame)),
         Instruction::If => Ok(value_operations::choose(frame, row)),
         Instruction::Loop => Ok(value_operations::iterate(frame, row)),
@@ -113,7 +113,7 @@ pub fn operate(
     row: &Row,
 ) -> Result<Effect, Memory>
     requires asks { row.now.instruction ≡ instruction_of (code_of code.now.program) row.now.op }
-    requires goes { GoesBy (code_of code.now.program) code.now.rows row.now frame.old.position }
+    requires goes { GoesBy (code_of code.now.program) code.now.rows row.now frame.old.index }
     ensures does { IfOk result (λ effect. Does code.now
         (effect_of (code_of code.now.program)
         (environment world.entry.memory.now world.entry.plan.now.readings world.entry.unit)

@@ -91,14 +91,14 @@ fn runs_in(
     code: &OpList<'_>,
     memory: &RegionHeap,
     id: NodeId,
-    place: Ref,
+    target: Ref,
     r: Ref,
 ) -> Effect
     ensures { (frame : StoredFrame) → Does code.now
-        (running (code_of code.now.program) (objects_of memory.now) id place r (frame_of code.now frame))
+        (running (code_of code.now.program) (objects_of memory.now) id target r (frame_of code.now frame))
         result frame }
 {
-    let Some(there) = memory.object(place) else {
+    let Some(there) = memory.object(target) else {
         return Effect::Stuck;
     };
     let Some(object) = memory.object(r) else {
@@ -139,8 +139,8 @@ pub fn execute_in(
         return Effect::Stuck;
     };
     match object {
-        Value::At(place) => match runnable {
-            Value::At(r) => runs_in(alloc, code, memory, id, place, r),
+        Value::At(target) => match runnable {
+            Value::At(r) => runs_in(alloc, code, memory, id, target, r),
             Value::Null => Effect::Faults {
                 fault: RunFault::NullPointer,
             },

@@ -139,7 +139,7 @@ module _ (code : Code) (at : Place code) (o : Option Kind) where
       subst (λ k. Framed object xs k) (sym f.is_method)
       (subst (λ ys. Framed object ys managed_memory_execute_in_area_of) (sym f.are)
       (done_void code at _ o f.is_given
-      (of_two f.position f.object _ _ (EXECUTEIN id) (subst (AllRoomy code at) f.are r) f.place_is f.object_is tt)))
+      (of_two f.place f.object _ _ (EXECUTEIN id) (subst (AllRoomy code at) f.are r) f.place_is f.object_is tt)))
   framed object xs m on q r z (inr (inr (inl f))) =
       subst (λ k. Framed object xs k) (sym f.is_method)
       (subst (λ ys. Framed object ys services_set_ceiling) (sym f.are)

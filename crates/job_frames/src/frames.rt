@@ -138,18 +138,18 @@ impl Frame {
     #[inline]
     pub fn next(&mut self, code: &OpList<'_>) -> Option<Row>
         ensures some { IfSome result (λ row.
-            rest_at code.now.rows self.old.position ≡ row.op ∷ rest_at code.now.rows self.new.position) }
-        ensures none { IfNone result (rest_at code.now.rows self.old.position ≡ []) }
+            rest_at code.now.rows self.old.index ≡ row.op ∷ rest_at code.now.rows self.new.index) }
+        ensures none { IfNone result (rest_at code.now.rows self.old.index ≡ []) }
         ensures asks { IfSome result (λ row.
             row.instruction ≡ instruction_of (code_of code.now.program) row.op) }
         ensures goes { IfSome result (λ row.
-            GoesBy (code_of code.now.program) code.now.rows row self.new.position) }
-        ensures same { self.new ≡ record self.old { place = self.new.position } }
+            GoesBy (code_of code.now.program) code.now.rows row self.new.index) }
+        ensures same { self.new ≡ record self.old { index = self.new.index } }
         ensures opened { self.new.opened ≡ self.old.opened }
     {
-        match code.at(self.position) {
+        match code.at(self.index) {
             Some(row) => {
-                self.position = row.next;
+                self.index = row.next;
                 Some(row)
             }
             None => None,
@@ -159,9 +159,9 @@ impl Frame {
     /// Goes on where the condition of AND, OR, IF or LOOP decides.
     #[inline]
     pub fn branch(&mut self, row: &Row, condition: bool)
-        ensures { self.new ≡ record self.old { place = target row.now condition } }
+        ensures { self.new ≡ record self.old { index = target row.now condition } }
     {
-        self.position = target(row, condition);
+        self.index = target(row, condition);
     }
 
     /// The object whose monitor it holds: that of a synchronized method's (JLS 8.4.3.6).

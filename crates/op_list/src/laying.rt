@@ -26,20 +26,20 @@ fn lay_literals(
     next: u32,
 ) -> Result<u32, Memory>
     requires inside { next < length rows.old.items }
-    ensures { IfOk result (λ place. IsLaid (code_of code.now) rows.old.items rows.new.items
-        (drop from (literal_ops (code_of code.now) class)) next place) }
+    ensures { IfOk result (λ start. IsLaid (code_of code.now) rows.old.items rows.new.items
+        (drop from (literal_ops (code_of code.now) class)) next start) }
 {
     let fields = code.layout().literals(class);
     let mut index = fields.len();
-    let mut place = next;
+    let mut start = next;
     if index < from {
         return Ok(next);
     }
     while index > from {
         index -= 1;
-        place = lay_plain(code, rows, Op::Init(fields[index]), place)?;
+        start = lay_plain(code, rows, Op::Init(fields[index]), start)?;
     }
-    Ok(place)
+    Ok(start)
 }
 
 /// Lays out the items of a node from a place on.
@@ -54,20 +54,20 @@ fn lay_items(
 ) -> Result<u32, Memory>
     requires below { (k item : ℕ) → slice_get (items_at code.now.nodes list) k ≡ Some item → item < bound }
     requires inside { next < length rows.old.items }
-    ensures { IfOk result (λ place. IsLaid (code_of code.now) rows.old.items rows.new.items
-        (flat_map (ops_of (code_of code.now)) (drop from (items_at code.now.nodes list))) next place) }
+    ensures { IfOk result (λ start. IsLaid (code_of code.now) rows.old.items rows.new.items
+        (flat_map (ops_of (code_of code.now)) (drop from (items_at code.now.nodes list))) next start) }
 {
     let items = items_at(code, list);
     let mut index = items.len();
-    let mut place = next;
+    let mut start = next;
     if index < from {
         return Ok(next);
     }
     while index > from {
         index -= 1;
-        place = lay_node(code, rows, items[index], place)?;
+        start = lay_node(code, rows, items[index], start)?;
     }
-    Ok(place)
+    Ok(start)
 }
 
 /// Lays out a part that may be missing.
@@ -81,14 +81,14 @@ fn lay_optional(
 ) -> Result<u32, Memory>
     requires below { IsBelowIfAny bound id }
     requires inside { next < length rows.old.items }
-    ensures { IfOk result (λ place. IsLaid (code_of code.now) rows.old.items rows.new.items
-        (optional_ops (code_of code.now) id) next place) }
+    ensures { IfOk result (λ start. IsLaid (code_of code.now) rows.old.items rows.new.items
+        (optional_ops (code_of code.now) id) next start) }
 {
     match id {
         None => Ok(next),
         Some(id) => {
-            let place = lay_node(code, rows, id, next)?;
-            Ok(place)
+            let start = lay_node(code, rows, id, next)?;
+            Ok(start)
         }
     }
 }
@@ -107,13 +107,13 @@ fn lay_either(
     requires on_true { IsBelowIfAny bound parts.on_true }
     requires on_false { IsBelowIfAny bound parts.on_false }
     requires inside { next < length rows.old.items }
-    ensures { IfOk result (λ place.
-        IsLaid (code_of code.now) rows.old.items rows.new.items (op ∷ []) next place) }
+    ensures { IfOk result (λ start.
+        IsLaid (code_of code.now) rows.old.items rows.new.items (op ∷ []) next start) }
 {
     let if_true = lay_optional(code, rows, bound, parts.on_true, next)?;
     let if_false = lay_optional(code, rows, bound, parts.on_false, next)?;
-    let place = put_row(code, rows, &op, next, if_true, if_false)?;
-    Ok(place)
+    let start = put_row(code, rows, &op, next, if_true, if_false)?;
+    Ok(start)
 }
 
 /// Lays out one turn of a loop in front of a place.
@@ -129,9 +129,9 @@ fn lay_turn(
     requires step { IsBelowIfAny bound parts.step }
     requires test { parts.test < bound }
     requires inside { next < length rows.old.items }
-    ensures { IfOk result (λ place. IsLaid (code_of code.now) rows.old.items rows.new.items
+    ensures { IfOk result (λ start. IsLaid (code_of code.now) rows.old.items rows.new.items
         (ops_of (code_of code.now) parts.body
-        ++ (optional_ops (code_of code.now) parts.step ++ ops_of (code_of code.now) parts.test)) next place) }
+        ++ (optional_ops (code_of code.now) parts.step ++ ops_of (code_of code.now) parts.test)) next start) }
 {
     let test = lay_node(code, rows, parts.test, next)?;
     let step = lay_optional(code, rows, bound, parts.step, test)?;
@@ -154,13 +154,13 @@ fn lay_loop(
     requires step { IsBelowIfAny bound parts.step }
     requires test { parts.test < bound }
     requires inside { next < length rows.old.items }
-    ensures { IfOk result (λ place.
-        IsLaid (code_of code.now) rows.old.items rows.new.items (op ∷ []) next place) }
+    ensures { IfOk result (λ start.
+        IsLaid (code_of code.now) rows.old.items rows.new.items (op ∷ []) next start) }
 {
-    let place = put_row(code, rows, &op, next, next, next)?;
-    let turn = lay_turn(code, rows, bound, parts, place)?;
-    set_row(code, rows, place, &op, next, turn);
-    Ok(place)
+    let start = put_row(code, rows, &op, next, next, next)?;
+    let turn = lay_turn(code, rows, bound, parts, start)?;
+    set_row(code, rows, start, &op, next, turn);
+    Ok(start)
 }
 
 /// Lays out an operation, by what it chooses.
@@ -176,8 +176,8 @@ fn lay_choice(
     requires choice { choice_of code.now.nodes op ≡ choice.now }
     requires below { IsChoiceBelow bound choice.now }
     requires inside { next < length rows.old.items }
-    ensures { IfOk result (λ place.
-        IsLaid (code_of code.now) rows.old.items rows.new.items (op ∷ []) next place) }
+    ensures { IfOk result (λ start.
+        IsLaid (code_of code.now) rows.old.items rows.new.items (op ∷ []) next start) }
 {
     match choice {
         Choice::Plain => lay_plain(code, rows, op, next),
@@ -197,8 +197,8 @@ fn lay_op(
 ) -> Result<u32, Memory>
     requires below { IsChoiceBelow bound (choice_of code.now.nodes op) }
     requires inside { next < length rows.old.items }
-    ensures { IfOk result (λ place.
-        IsLaid (code_of code.now) rows.old.items rows.new.items (op ∷ []) next place) }
+    ensures { IfOk result (λ start.
+        IsLaid (code_of code.now) rows.old.items rows.new.items (op ∷ []) next start) }
 {
     let choice = choice_of(code, &op);
     lay_choice(code, rows, bound, op, &choice, next)
@@ -230,18 +230,18 @@ fn lay_part(
 #[cycle(lay)]
 pub fn lay_node(code: &Code<'_>, rows: &mut Vec<Row>, id: NodeId, next: u32) -> Result<u32, Memory>
     requires inside { next < length rows.old.items }
-    ensures { IfOk result (λ place. IsLaid (code_of code.now) rows.old.items rows.new.items
-        (ops_of (code_of code.now) id) next place) }
+    ensures { IfOk result (λ start. IsLaid (code_of code.now) rows.old.items rows.new.items
+        (ops_of (code_of code.now) id) next start) }
 {
     // that each node stands behind its parts is told by the count
     let _ = code.node_count();
     let listed = parts_at(code, id);
     let parts = listed.items();
     let mut index = parts.len();
-    let mut place = next;
+    let mut start = next;
     while index > 0 {
         index -= 1;
-        place = lay_part(code, rows, id, parts[index], place)?;
+        start = lay_part(code, rows, id, parts[index], start)?;
     }
-    Ok(place)
+    Ok(start)
 }

@@ -22,7 +22,7 @@ pub fn put_row(
     if_true: u32,
     if_false: u32,
 ) -> Result<u32, Memory>
-    ensures place { IfOk result (λ index. index ≡ length rows.old.items) }
+    ensures index { IfOk result (λ index. index ≡ length rows.old.items) }
     ensures put { IfOk result (λ index.
         rows.new.items ≡ rows.old.items ++ row_of (code_of code.now) op.now next if_true if_false ∷ []) }
 {
@@ -58,19 +58,19 @@ pub fn set_row(code: &Code<'_>, rows: &mut Vec<Row>, index: u32, op: &Op, next: 
 pub fn lay_plain(code: &Code<'_>, rows: &mut Vec<Row>, op: Op, next: u32) -> Result<u32, Memory>
     requires plain { choice_of code.now.nodes op ≡ Plain }
     requires inside { next < length rows.old.items }
-    ensures { IfOk result (λ place.
-        IsLaid (code_of code.now) rows.old.items rows.new.items (op ∷ []) next place) }
+    ensures { IfOk result (λ start.
+        IsLaid (code_of code.now) rows.old.items rows.new.items (op ∷ []) next start) }
 {
-    let place = put_row(code, rows, &op, next, next, next)?;
-    Ok(place)
+    let start = put_row(code, rows, &op, next, next, next)?;
+    Ok(start)
 }
 
 /// Lays out the framework's empty body, which is left at once.
 pub fn lay_empty(code: &Code<'_>, rows: &mut Vec<Row>) -> Result<u32, Memory>
     requires { 0 < length rows.old.items }
-    ensures { IfOk result (λ place.
-        IsLaid (code_of code.now) rows.old.items rows.new.items (LEAVE ∷ []) 0 place) }
+    ensures { IfOk result (λ start.
+        IsLaid (code_of code.now) rows.old.items rows.new.items (LEAVE ∷ []) 0 start) }
 {
-    let place = lay_plain(code, rows, Op::Leave, 0)?;
-    Ok(place)
+    let start = lay_plain(code, rows, Op::Leave, 0)?;
+    Ok(start)
 }

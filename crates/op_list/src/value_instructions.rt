@@ -67,7 +67,7 @@ pub fn get_static(code: &Code<'_>, id: NodeId) -> Instruction
     ensures { result ≡ instruction_of (code_of code.now) (op.GetStatic id) }
 {
     match place_of(code, bound_static(code.binding(id))) {
-        Some(place) => Instruction::GetStatic(place),
+        Some(index) => Instruction::GetStatic(index),
         None => Instruction::Stuck,
     }
 }
@@ -138,7 +138,7 @@ pub fn put_static(code: &Code<'_>, id: NodeId) -> Instruction
     ensures { result ≡ instruction_of (code_of code.now) (op.PutStatic id) }
 {
     match place_of(code, assigned_static(code, id)) {
-        Some(place) => Instruction::PutStatic(place),
+        Some(index) => Instruction::PutStatic(index),
         None => Instruction::Stuck,
     }
 }

@@ -2,7 +2,6 @@
 use Rattle.std.specs.Prelude.{Bool, false, Option, Some, None, max, option_map, slice_get, unwrap_or, if◌then◌else◌}
 use Rattle.std.proofs.Common.{◌≡◌, ◌∙◌, ℕ, suc, ◌+◌, List, [], ◌∷◌, ◌++◌, refl, ap, sym, subst, arith}
 use Rattle.scj_rules.specs.Words.{◌>>=◌, holds}
-use Rattle.scj_tree.specs.Forest.{Forest}
 use Rattle.scj_model.specs.Arrivals.{arrivals}
 use Rattle.scj_model.specs.Choice.{by_priority}
 use Rattle.scj_model.specs.Code.{code_of}

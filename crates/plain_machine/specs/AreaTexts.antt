@@ -47,7 +47,7 @@ store_line reserved store = codes "store " ++ (decimal reserved ++ (codes " of "
 -- ---- the end of the trace
 
 unfoldable pub as_fault : Event → Option Event
-as_fault (line.Fault unit fault place) = Some (line.Fault unit fault place)
+as_fault (line.Fault unit fault position) = Some (line.Fault unit fault position)
 as_fault _ = None
 
 -- the last fault of these events, or else the one that is known

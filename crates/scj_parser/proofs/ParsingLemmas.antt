@@ -68,7 +68,7 @@ lexed_ends bytes file before rest tokens (takes file1 before1 w rest1 kind token
     record {
       front = lexeme_of bytes (token_at file before kind (length w))
           ∷ later.front;
-      position = later.place;
+      position = later.position;
       is =
           ap (λ i. lexeme_of bytes (token_at file before kind (length w)) ∷ i) later.is;
     }

@@ -29,7 +29,7 @@ use Rattle.unit_steps.proofs.Joins.{none_there, nothing_left, operation_joined}
 
 -- the list gave an operation, which was then done
 pub next_done : (code : Listing) (world : Environment) (op : Op) (effect : Coded) (before middle after : StoredFrame) →
-    rest_at code.rows before.index ≡ op ∷ rest_at code.rows middle.index → middle ≡ record before { place = middle.index } →
+    rest_at code.rows before.index ≡ op ∷ rest_at code.rows middle.index → middle ≡ record before { index = middle.index } →
     Does code (effect_of (code_of code.program) world (frame_of code middle) op) effect after → after.opened ≡ middle.opened →
     middle.opened ≡ before.opened → IsNext code world op effect before after
 next_done code world op effect before middle after next same does opened kept = record {
@@ -52,7 +52,7 @@ module _ (code : Listing) (world : Environment) (frames : List StoredFrame) (top
   next_on_top (Err e) h = tt
 
   pub none_on_top : (result : Result (Option Done) E) →
-      IfOk result (λ next. IfNone next (rest_at code.rows top.position ≡ [])) →
+      IfOk result (λ next. IfNone next (rest_at code.rows top.index ≡ [])) →
       IfOk result (λ next. IfNone next (top_rest code frames ≡ []))
   none_on_top (Ok (Some done)) h = tt
   none_on_top (Ok None) h = ap (top_rest code) highest ∙ h

@@ -53,15 +53,15 @@ listed objects n (y ∷ areas) (suc a) x e h = go (listed objects (n + 1) areas 
   where
     go : IsListed objects (n + 1) areas x → (b : Bool) → y.is_open ≡ b → IsListed objects n (y ∷ areas) x
     go more true k = record {
-      index = suc more.position;
+      index = suc more.index;
       area = more.area;
-      there = ap (λ (b : Bool). slice_get (either objects n y areas b) (suc more.position)) k ∙ more.there;
+      there = ap (λ (b : Bool). slice_get (either objects n y areas b) (suc more.index)) k ∙ more.there;
       of_scope = more.of_scope;
     }
     go more false k = record {
-      index = more.position;
+      index = more.index;
       area = more.area;
-      there = ap (λ (b : Bool). slice_get (either objects n y areas b) more.position) k ∙ more.there;
+      there = ap (λ (b : Bool). slice_get (either objects n y areas b) more.index) k ∙ more.there;
       of_scope = more.of_scope;
     }
 

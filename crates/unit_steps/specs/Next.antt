@@ -13,7 +13,7 @@ use Rattle.job_frames.specs.EffectsSeen.{effect_seen}
 -- the operations that the highest frame has left; none, if there is no frame
 abbrev pub top_rest : Listing → List StoredFrame → List Op
 top_rest code [] = []
-top_rest code (f ∷ fs) = rest_at code.rows f.position
+top_rest code (f ∷ fs) = rest_at code.rows f.index
 
 -- this was the next operation of a frame. It has this effect, leaves the frame like this, and the area that the frame
 -- opened as it was

@@ -48,7 +48,7 @@ fn next_in(
         (λ done. IsNext code.now
         (environment world.entry.memory.now world.entry.plan.now.readings world.entry.unit) done.op done.effect
         frame.old frame.new)) }
-    ensures none { IfOk result (λ next. IfNone next (rest_at code.now.rows frame.old.position ≡ [])) }
+    ensures none { IfOk result (λ next. IfNone next (rest_at code.now.rows frame.old.index ≡ [])) }
 {
     match frame.next(code) {
         Some(row) => {

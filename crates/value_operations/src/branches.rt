@@ -20,7 +20,7 @@ use scj_base::{Memory, Value};
 #[inline]
 fn decided(frame: &mut Frame, row: &Row) -> Option<bool>
     ensures some { IfSome result (λ b. (code : Listing) (op : OpOfRun) (next : Bool → Running → Effected) →
-        Chooses code row.now op frame.old.position →
+        Chooses code row.now op frame.old.index →
         branch (code_of code.program) op (frame_of code frame.old) next ≡ next b (frame_of code frame.new)) }
     ensures none { IfNone result ((code : Listing) (op : OpOfRun) (next : Bool → Running → Effected) →
         branch (code_of code.program) op (frame_of code frame.old) next ≡ Stuck) }
@@ -35,7 +35,7 @@ fn decided(frame: &mut Frame, row: &Row) -> Option<bool>
 
 /// AND: the right operand comes next where the left one is true (JLS 15.23).
 pub fn and(frame: &mut Frame, row: &Row) -> Result<Effect, Memory>
-    ensures does { (code : Listing) (id : ℕ) → Chooses code row.now (AND id) frame.old.position →
+    ensures does { (code : Listing) (id : ℕ) → Chooses code row.now (AND id) frame.old.index →
         IfOk result (λ effect.
         Does code (and_op (code_of code.program) (frame_of code frame.old) id) effect frame.new) }
     ensures opened { frame.new.opened ≡ frame.old.opened }
@@ -51,7 +51,7 @@ pub fn and(frame: &mut Frame, row: &Row) -> Result<Effect, Memory>
 
 /// OR: the right operand comes next where the left one is false (JLS 15.24).
 pub fn or(frame: &mut Frame, row: &Row) -> Result<Effect, Memory>
-    ensures does { (code : Listing) (id : ℕ) → Chooses code row.now (OR id) frame.old.position →
+    ensures does { (code : Listing) (id : ℕ) → Chooses code row.now (OR id) frame.old.index →
         IfOk result (λ effect.
         Does code (or_op (code_of code.program) (frame_of code frame.old) id) effect frame.new) }
     ensures opened { frame.new.opened ≡ frame.old.opened }
@@ -67,7 +67,7 @@ pub fn or(frame: &mut Frame, row: &Row) -> Result<Effect, Memory>
 
 /// IF: one of its parts comes next (JLS 14.9).
 pub fn choose(frame: &mut Frame, row: &Row) -> Effect
-    ensures does { (code : Listing) (id : ℕ) → Chooses code row.now (IF id) frame.old.position →
+    ensures does { (code : Listing) (id : ℕ) → Chooses code row.now (IF id) frame.old.index →
         Does code (if_op (code_of code.program) (frame_of code frame.old) id) result frame.new }
     ensures opened { frame.new.opened ≡ frame.old.opened }
 {
@@ -79,7 +79,7 @@ pub fn choose(frame: &mut Frame, row: &Row) -> Effect
 
 /// LOOP: one more turn comes next, or none (JLS 14.12, 14.14).
 pub fn iterate(frame: &mut Frame, row: &Row) -> Effect
-    ensures does { (code : Listing) (id : ℕ) → Chooses code row.now (LOOP id) frame.old.position →
+    ensures does { (code : Listing) (id : ℕ) → Chooses code row.now (LOOP id) frame.old.index →
         Does code (loop_op (code_of code.program) (frame_of code frame.old) id) result frame.new }
     ensures opened { frame.new.opened ≡ frame.old.opened }
 {

@@ -1,20 +1,20 @@
-//! The line of a node: its kind, its place and its fields in order.
+//! The line of a node: its kind, its position and its fields in order.
 
-use Field::{Child, Flag, List, Named, Number, Optional, OptionalPosition, Position};
+use Field::{At, Child, Flag, List, Named, Number, Optional, OptionalAt};
 use case_tables::TableError;
 use scj_base::{NodeId, Position};
 use scj_tree::{Node, NodeList};
 use std::io::Write;
 
-/// A field of a node behind its place.
+/// A field of a node behind its position.
 #[derive(Drop)]
 enum Field<'a> {
     Child(NodeId),
     Optional(Option<NodeId>),
     List(&'a NodeList),
     Named(&'a [u8]),
-    Position(Position),
-    OptionalPosition(Option<Position>),
+    At(Position),
+    OptionalAt(Option<Position>),
     Flag(bool),
     Number(u32),
 }
@@ -143,7 +143,7 @@ pub fn print_node<W: Write>(node: &Node, out: &mut W) -> Result<(), TableError> 
                 Named(name.bytes()),
                 Optional(*flags),
                 Child(*declared_type),
-                OptionalPosition(*equals),
+                OptionalAt(*equals),
                 Optional(*value),
             ],
         ),
@@ -234,7 +234,7 @@ pub fn print_node<W: Write>(node: &Node, out: &mut W) -> Result<(), TableError> 
             "LocalWithValue",
             *position,
             &[
-                Position(*name_position),
+                At(*name_position),
                 Named(name.bytes()),
                 Optional(*flags),
                 Child(*declared_type),
@@ -314,11 +314,7 @@ pub fn print_node<W: Write>(node: &Node, out: &mut W) -> Result<(), TableError> 
             out,
             "Cast",
             *position,
-            &[
-                Position(*name_position),
-                Named(name.bytes()),
-                Child(*operand),
-            ],
+            &[At(*name_position), Named(name.bytes()), Child(*operand)],
         ),
         Node::Parenthesized { position, inner } => print_line(
             out,
@@ -367,11 +363,7 @@ pub fn print_node<W: Write>(node: &Node, out: &mut W) -> Result<(), TableError> 
             out,
             "New",
             *position,
-            &[
-                Position(*name_position),
-                Named(name.bytes()),
-                List(arguments),
-            ],
+            &[At(*name_position), Named(name.bytes()), List(arguments)],
         ),
         Node::NewArray {
             position,
@@ -424,13 +416,13 @@ fn print_field<W: Write>(field: &Field, out: &mut W) -> Result<(), TableError> {
         Optional(None) => write!(out, "None")?,
         List(list) => print_list(list.items(), out)?,
         Named(bytes) => print_bytes(bytes, out)?,
-        Position(place) => print_position(*place, out)?,
-        OptionalPosition(Some(place)) => {
+        At(position) => print_position(*position, out)?,
+        OptionalAt(Some(position)) => {
             write!(out, "(Some ")?;
-            print_position(*place, out)?;
+            print_position(*position, out)?;
             write!(out, ")")?;
         }
-        OptionalPosition(None) => write!(out, "None")?,
+        OptionalAt(None) => write!(out, "None")?,
         Flag(flag) => write!(out, "{flag}")?,
         Number(number) => write!(out, "{number}")?,
     }

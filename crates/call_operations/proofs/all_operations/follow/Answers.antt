@@ -32,4 +32,4 @@ returns-in-If-clause-does c =
 pub returns-in-Loop-clause-does : goal.returns-in-Loop-clause-does
 unfolding effect_by ChoosesIfAny choosing
 returns-in-Loop-clause-does c =
-    rw c.in-Loop.is (c.turn.ensures.does c.args.code.now c.args.id (rw c.in-Loop.is at c.requires))
+    rw c.in-Loop.is (c.iterate.ensures.does c.args.code.now c.args.id (rw c.in-Loop.is at c.requires))

@@ -1,4 +1,4 @@
-use Rattle.std.proofs.Common.{◌≡◌, ◌∙◌, ℕ, IfOk, ap, subst, sym}
+use Rattle.std.proofs.Common.{◌∙◌, ℕ, IfOk, ap, subst, sym}
 use Rattle.scj_model.specs.Code.{code_of}
 use Rattle.scj_model.specs.Effects.{Effect}
 use Rattle.op_list.specs.declared.instructions.Instruction.{Instruction}
@@ -11,7 +11,7 @@ use Rattle.call_operations.proofs.all_operations.operate.Goals as goal
 
 pub follow-requires : goal.follow-requires
 follow-requires c =
-    chooses c.args.code.now c.args.row.now c.node_number-id.result c.args.frame.now.position c.node_number-id.ensures
+    chooses c.args.code.now c.args.row.now c.node_number-id.result c.args.frame.now.index c.node_number-id.ensures
     c.requires.asks c.requires.goes
 
 pub returns-clause-does : goal.returns-clause-does

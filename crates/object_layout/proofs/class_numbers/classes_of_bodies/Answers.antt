@@ -49,4 +49,4 @@ loop-number-preserved c =
 pub returns : goal.returns
 returns c = λ body. c.loop-number.invariant.exact body
     ∙ known_last c.args.classes.now c.node_count-number-end.ensures.whole c.loop-number.number body
-    (omega (arith, c.loop-number-test.false, c.loop-number.auto.position-end, c.node_count-number-end.ensures.value))
+    (omega (arith, c.loop-number-test.false, c.loop-number.auto.number-end, c.node_count-number-end.ensures.value))

@@ -26,9 +26,9 @@ lay_items-returns t c =
     let code = code_of c.args.code.now in
     let same : c.loop-index.index ≡ c.args.from = omega (arith, c.loop-index.invariant.from, c.loop-index-test.false) in
     subst (λ xs. IsLaid code c.args.rows.now.items c.loop-index.rows.items
-    (flat_map (ops_of code) (drop c.args.from xs)) c.args.next c.loop-index.position) c.items_at-items.ensures
+    (flat_map (ops_of code) (drop c.args.from xs)) c.args.next c.loop-index.start) c.items_at-items.ensures
     (subst (λ i. IsLaid code c.args.rows.now.items c.loop-index.rows.items
-    (flat_map (ops_of code) (drop i c.items_at-items.result.now)) c.args.next c.loop-index.position) same
+    (flat_map (ops_of code) (drop i c.items_at-items.result.now)) c.args.next c.loop-index.start) same
     c.loop-index.invariant.laid)
 
 pub lay_items-loop-index-init : goal.lay_items-loop-index-init
@@ -60,11 +60,11 @@ lay_items-loop-index-preserved t c =
       few = omega (arith, c.loop-index.invariant.few);
       from = omega (arith, c.loop-index-test.true);
       laid = laid_item code c.args.rows.now.items c.loop-index.rows.items c.lay_node.new.rows.items (ops_of code)
-          c.items_at-items.result.now c.loop-index.index c.index-items-index.result c.args.next c.loop-index.position
-          c.in_ok-place.position (omega (arith, c.loop-index-test.true))
+          c.items_at-items.result.now c.loop-index.index c.index-items-index.result c.args.next c.loop-index.start
+          c.in_ok-start.start (omega (arith, c.loop-index-test.true))
           (slice_get_read c.items_at-items.result.now (length c.items_at-items.result.now) (c.loop-index.index - 1)
           c.index-items-index.result refl (omega (arith, c.loop-index.invariant.few, c.loop-index-test.true))
-          c.index-items-index.is) c.loop-index.invariant.laid c.in_ok-place.ensures;
+          c.index-items-index.is) c.loop-index.invariant.laid c.in_ok-start.ensures;
     }
 
 -- ---- nodes
@@ -101,10 +101,10 @@ lay_node-loop-index-preserved t c =
       few = omega (arith, c.loop-index.invariant.few);
       laid = laid_item code c.args.rows.now.items c.loop-index.rows.items c.lay_part.new.rows.items
           (part_ops code (ops_of code)) c.items-parts.result.now c.loop-index.index c.index-parts-index.result
-          c.args.next c.loop-index.position c.in_ok-place.position (omega (arith, c.loop-index-test.true))
+          c.args.next c.loop-index.start c.in_ok-start.start (omega (arith, c.loop-index-test.true))
           (slice_get_read c.items-parts.result.now (length c.items-parts.result.now) (c.loop-index.index - 1)
           c.index-parts-index.result refl (omega (arith, c.loop-index.invariant.few, c.loop-index-test.true))
-          c.index-parts-index.is) c.loop-index.invariant.laid c.in_ok-place.ensures;
+          c.index-parts-index.is) c.loop-index.invariant.laid c.in_ok-start.ensures;
     }
 
 pub lay_node-returns : goal.lay_node-returns
@@ -112,7 +112,7 @@ lay_node-returns t c =
     let code = code_of c.args.code.now in
     let is = c.items-parts.ensures ∙ c.parts_at-listed.ensures in
     let first : c.loop-index.index ≡ 0 = omega (arith, c.loop-index-test.false) in
-    laid_as code c.args.rows.now.items c.loop-index.rows.items _ _ c.args.next c.loop-index.position
+    laid_as code c.args.rows.now.items c.loop-index.rows.items _ _ c.args.next c.loop-index.start
     (ap (λ i. flat_map (part_ops code (ops_of code)) (drop i c.items-parts.result.now)) first
     ∙ ap (flat_map (part_ops code (ops_of code))) is
     ∙ parts_give c.args.code.now c.node_count.ensures.whole c.args.id)
@@ -134,12 +134,12 @@ lay_optional-returns-in-None t c =
     subst (λ id. IsLaid code c.args.rows.now.items c.args.rows.now.items (optional_ops code id) c.args.next c.args.next)
     (sym c.in-None.is) (laid_nothing code c.args.rows.now.items c.args.next c.requires.inside)
 
-pub lay_optional-returns-in_ok-place-in-Some : goal.lay_optional-returns-in_ok-place-in-Some
+pub lay_optional-returns-in_ok-start-in-Some : goal.lay_optional-returns-in_ok-start-in-Some
 unfolding optional_ops
-lay_optional-returns-in_ok-place-in-Some t c =
+lay_optional-returns-in_ok-start-in-Some t c =
     let code = code_of c.args.code.now in
     subst (λ id. IsLaid code c.args.rows.now.items c.lay_node.new.rows.items (optional_ops code id) c.args.next
-    c.in_ok-place-in-Some.position) (sym c.in-Some.is) c.in_ok-place-in-Some.ensures
+    c.in_ok-start-in-Some.start) (sym c.in-Some.is) c.in_ok-start-in-Some.ensures
 
 pub lay_part-lay_node-requires : goal.lay_part-lay_node-requires
 unfolding IsPartBelow
@@ -169,29 +169,29 @@ pub lay_part-returns-in-Visit : goal.lay_part-returns-in-Visit
 unfolding part_ops
 lay_part-returns-in-Visit t c =
     let code = code_of c.args.code.now in
-    subst (λ part. IfOk c.lay_node.result (λ place. IsLaid code c.args.rows.now.items c.lay_node.new.rows.items
-    (part_ops code (ops_of code) part) c.args.next place)) (sym c.in-Visit.is) c.lay_node.ensures
+    subst (λ part. IfOk c.lay_node.result (λ start. IsLaid code c.args.rows.now.items c.lay_node.new.rows.items
+    (part_ops code (ops_of code) part) c.args.next start)) (sym c.in-Visit.is) c.lay_node.ensures
 
 pub lay_part-returns-in-Emit : goal.lay_part-returns-in-Emit
 unfolding part_ops
 lay_part-returns-in-Emit t c =
     let code = code_of c.args.code.now in
-    subst (λ part. IfOk c.lay_op.result (λ place. IsLaid code c.args.rows.now.items c.lay_op.new.rows.items
-    (part_ops code (ops_of code) part) c.args.next place)) (sym c.in-Emit.is) c.lay_op.ensures
+    subst (λ part. IfOk c.lay_op.result (λ start. IsLaid code c.args.rows.now.items c.lay_op.new.rows.items
+    (part_ops code (ops_of code) part) c.args.next start)) (sym c.in-Emit.is) c.lay_op.ensures
 
 pub lay_part-returns-in-Items : goal.lay_part-returns-in-Items
 unfolding part_ops code_of declarations_of
 lay_part-returns-in-Items t c =
     let code = code_of c.args.code.now in
-    subst (λ part. IfOk c.lay_items.result (λ place. IsLaid code c.args.rows.now.items c.lay_items.new.rows.items
-    (part_ops code (ops_of code) part) c.args.next place)) (sym c.in-Items.is) c.lay_items.ensures
+    subst (λ part. IfOk c.lay_items.result (λ start. IsLaid code c.args.rows.now.items c.lay_items.new.rows.items
+    (part_ops code (ops_of code) part) c.args.next start)) (sym c.in-Items.is) c.lay_items.ensures
 
 pub lay_part-returns-in-Literals : goal.lay_part-returns-in-Literals
 unfolding part_ops
 lay_part-returns-in-Literals t c =
     let code = code_of c.args.code.now in
-    subst (λ part. IfOk c.lay_literals.result (λ place. IsLaid code c.args.rows.now.items c.lay_literals.new.rows.items
-    (part_ops code (ops_of code) part) c.args.next place)) (sym c.in-Literals.is) c.lay_literals.ensures
+    subst (λ part. IfOk c.lay_literals.result (λ start. IsLaid code c.args.rows.now.items c.lay_literals.new.rows.items
+    (part_ops code (ops_of code) part) c.args.next start)) (sym c.in-Literals.is) c.lay_literals.ensures
 
 -- ---- choices
 
@@ -199,7 +199,7 @@ pub lay_either-returns : goal.lay_either-returns
 lay_either-returns t c =
     let code = code_of c.args.code.now in
     laid_at _ _ _ _ _ _ _ _
-    c.in_ok-place.ensures.put c.in_ok-place.ensures.place
+    c.in_ok-start.ensures.put c.in_ok-start.ensures.index
     (laid_choice code c.args.rows.now.items c.lay_optional.new.rows.items c.lay_optional-2.new.rows.items c.args.op
     (optional_ops code c.args.parts.on_true) (optional_ops code c.args.parts.on_false) c.args.next
     c.in_ok-if_true.if_true c.in_ok-if_false.if_false c.requires.inside
@@ -224,10 +224,10 @@ lay_loop-returns t c =
     laid_set code c.args.rows.now.items c.put_row.new.rows.items c.lay_turn.new.rows.items c.set_row.new.rows.items
     c.args.op
     (ops_of code c.args.parts.body ++ (optional_ops code c.args.parts.step ++ ops_of code c.args.parts.test)) c.args.next
-    c.in_ok-place.position c.in_ok-turn.turn c.requires.inside
+    c.in_ok-start.start c.in_ok-turn.turn c.requires.inside
     (turn_true c.args.code.now c.args.op c.args.parts c.requires.choice)
     (turn_false c.args.code.now c.args.op c.args.parts c.requires.choice)
-    c.in_ok-place.ensures.put c.in_ok-place.ensures.place c.in_ok-turn.ensures c.set_row.ensures
+    c.in_ok-start.ensures.put c.in_ok-start.ensures.index c.in_ok-turn.ensures c.set_row.ensures
 
 pub lay_choice-lay_either-requires : goal.lay_choice-lay_either-requires
 unfolding IsChoiceBelow
@@ -252,6 +252,6 @@ pub lay_loop-set_row-requires : goal.lay_loop-set_row-requires
 lay_loop-set_row-requires t c =
     let code = code_of c.args.code.now in
     let long = longer_length code c.put_row.new.rows.items c.lay_turn.new.rows.items c.in_ok-turn.ensures.longer in
-    let wide = ap length c.in_ok-place.ensures.put in
+    let wide = ap length c.in_ok-start.ensures.put in
     let len = length-append c.args.rows.now.items (row_of code c.args.op c.args.next c.args.next c.args.next ∷ []) in
-    omega (arith, long, wide, len, c.in_ok-place.ensures.place)
+    omega (arith, long, wide, len, c.in_ok-start.ensures.index)

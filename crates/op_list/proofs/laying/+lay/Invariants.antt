@@ -37,7 +37,7 @@ invariant-lay_items-loop-index l = record {
   few : l.index ≤ length l.items;
   from : l.from ≤ l.index;
   laid : IsLaid (code_of l.code) l.initial.rows.items l.rows.items
-      (flat_map (ops_of (code_of l.code)) (drop l.index l.items)) l.initial.position l.position;
+      (flat_map (ops_of (code_of l.code)) (drop l.index l.items)) l.initial.start l.start;
 }
 
 abbrev pub decreases-lay_items-loop-index : goal.decreases-lay_items-loop-index
@@ -48,7 +48,7 @@ invariant-lay_node-loop-index l = record {
   few : l.index ≤ length l.parts;
   laid : IsLaid (code_of l.code) l.initial.rows.items l.rows.items
       (flat_map (part_ops (code_of l.code) (ops_of (code_of l.code))) (drop l.index l.parts))
-      l.initial.position l.position;
+      l.initial.start l.start;
 }
 
 abbrev pub decreases-lay_node-loop-index : goal.decreases-lay_node-loop-index

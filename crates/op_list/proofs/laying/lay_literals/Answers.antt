@@ -32,20 +32,20 @@ loop-index-preserved c =
       from = omega (arith, c.loop-index-test.true);
       laid = laid_item (code_of c.args.code.now) c.args.rows.now.items c.loop-index.rows.items
           c.lay_plain.new.rows.items one_init c.literals-fields.result.now c.loop-index.index
-          c.index-fields-index.result c.args.next c.loop-index.position c.in_ok-place.position
+          c.index-fields-index.result c.args.next c.loop-index.start c.in_ok-start.start
           (omega (arith, c.loop-index-test.true))
           (slice_get_read c.literals-fields.result.now (length c.literals-fields.result.now) (c.loop-index.index - 1)
           c.index-fields-index.result refl (omega (arith, c.loop-index.invariant.few, c.loop-index-test.true))
-          c.index-fields-index.is) c.loop-index.invariant.laid c.in_ok-place.ensures;
+          c.index-fields-index.is) c.loop-index.invariant.laid c.in_ok-start.ensures;
     }
 
 pub returns : goal.returns
 returns c =
     let same : c.loop-index.index ≡ c.args.from =
     omega (arith, c.loop-index.invariant.from, c.loop-index-test.false) in
-    laid_as (code_of c.args.code.now) c.args.rows.now.items c.loop-index.rows.items _ _ c.args.next c.loop-index.position
+    laid_as (code_of c.args.code.now) c.args.rows.now.items c.loop-index.rows.items _ _ c.args.next c.loop-index.start
     (literals_are c.args.code.now c.layout.result.now c.args.class c.args.from c.literals-fields.result.now
     c.layout.ensures c.literals-fields.ensures)
     (subst (λ i. IsLaid (code_of c.args.code.now) c.args.rows.now.items c.loop-index.rows.items
-    (flat_map one_init (drop i c.literals-fields.result.now)) c.args.next c.loop-index.position) same
+    (flat_map one_init (drop i c.literals-fields.result.now)) c.args.next c.loop-index.start) same
     c.loop-index.invariant.laid)

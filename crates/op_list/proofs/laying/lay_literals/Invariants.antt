@@ -9,7 +9,7 @@ invariant-loop-index l = record {
   few : l.index ≤ length l.fields;
   from : l.from ≤ l.index;
   laid : IsLaid (code_of l.code) l.initial.rows.items l.rows.items (flat_map one_init (drop l.index l.fields)) l.next
-      l.position;
+      l.start;
 }
 
 abbrev pub decreases-loop-index : goal.decreases-loop-index

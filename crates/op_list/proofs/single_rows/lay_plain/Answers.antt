@@ -6,6 +6,6 @@ use Rattle.op_list.proofs.single_rows.lay_plain.Goals as goal
 pub returns : goal.returns
 returns c =
     laid_at _ _ _ _ _ _ _ _
-    c.in_ok-place.ensures.put c.in_ok-place.ensures.place
+    c.in_ok-start.ensures.put c.in_ok-start.ensures.index
     (laid_plain (code_of c.args.code.now) c.args.rows.now.items c.args.op c.args.next c.requires.inside
     (plain_goes c.args.code.now c.args.op c.requires.plain))

@@ -1,4 +1,4 @@
-use Rattle.std.proofs.Common.{◌≡◌, ◌∙◌, ◌≤◌, ℕ, subst}
+use Rattle.std.proofs.Common.{◌∙◌, ◌≤◌, ℕ, subst}
 use Rattle.scj_tree.specs.Forest.{Forest}
 use Rattle.scj_model.specs.Code.{code_of}
 use Rattle.scj_model.specs.Choice.{by_priority}
